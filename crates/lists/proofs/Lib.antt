@@ -1,0 +1,5 @@
+pub mod Bools
+pub mod Tabs
+pub mod Firsts
+pub mod Anys
+pub mod Members

@@ -1,0 +1,1 @@
+// Lists, tests and searches: definitions in specs/, laws in proofs/. There is no code here.
