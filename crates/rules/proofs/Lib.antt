@@ -5,4 +5,6 @@ pub mod Decides
 pub mod Sound
 pub mod Canonical
 pub mod Added
+pub mod Models
+pub mod Verdicts
 pub mod Session
