@@ -7,4 +7,6 @@ pub mod Canonical
 pub mod Added
 pub mod Models
 pub mod Verdicts
+pub mod More
+pub mod Runs
 pub mod Session

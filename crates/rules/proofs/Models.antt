@@ -2,41 +2,46 @@
 -- keeps it, is denied exactly where none does, and is open exactly where one does and one does not. Assumes nothing.
 use Prim.Native.Nat.{ℕ, _<_}
 use mathlib.Core.Path.{_≡_, refl, sym, _∙_}
-use mathlib.Core.Logic.{_↔_}
-use mathlib.Core.Bool.{true, false, false≢true}
+use mathlib.Core.Logic.{_⊎_, inl, inr, _↔_}
+use mathlib.Core.Bool.{true, false, _||_, false≢true}
 use mathlib.Core.List.{List, _∷_, List·Memᴰ, List·Memᴰ·head, List·Memᴰ·tail}
-use Rattle.lists.proofs.Bools.{Known, is-true, is-false, known}
-use Rattle.lists.proofs.Anys.{any-find, any-hit}
-use Rattle.rules.specs.Fact.{Fact, PART, APART, MEETS, NOTPART, opposite, Within, AllWithin}
+use Rattle.lists.proofs.Bools.{or-either, left-or, right-or, Known, is-true, is-false, known}
+use Rattle.rules.specs.Fact.{Fact, PART, APART, MEETS, NOTPART, factOf, opposite, Within, AllWithin}
 use Rattle.rules.specs.Derives.{Derives, stored, Contradictory}
 use Rattle.rules.specs.Model.{Model, keeps, keepsAll}
-use Rattle.rules.specs.Follows.{entry, containment, derived, follows, clash}
-use Rattle.rules.proofs.Facts.{opposite-within, opposite-twice, added-within}
-use Rattle.rules.proofs.Paths.{Path, Meet, shape-derives}
-use Rattle.rules.proofs.Decides.{follows-iff}
+use Rattle.rules.specs.Follows.{storing, derived, follows, clash}
+use Rattle.rules.proofs.Facts.{storing-find, storing-hit, opposite-within, opposite-twice, added-within}
+use Rattle.rules.proofs.Paths.{shape-derives}
+use Rattle.rules.proofs.Decides.{follows-shape, follows-iff}
 use Rattle.rules.proofs.Sound.{sound, not-both, no-model}
 use Rattle.rules.proofs.Canonical.{Consistent, canonical, canonical-keeps}
 use Rattle.rules.proofs.Added.{deny}
 
 module _ (n : ℕ) (fs : List Fact) (i : AllWithin n fs) (p : 0 < n) where
-  clash-contradicts : clash n fs ≡ true → Contradictory n fs
-  unfolding clash follows
-  clash-contradicts e =
-      let s = any-find (λ f. derived (entry (containment n fs)) n fs (opposite f)) fs e in
-      let c = i (s .0) (s .1) in
-      (s .0, c, stored (s .1), follows-iff n fs i p (opposite (s .0)) (opposite-within n (s .0) c) .0 (s .2))
-
   -- contradiction shows at a stored fact: the law that later layers prove their code against
-  pub clashes : (f : Fact) → List·Memᴰ f fs → Derives n fs (opposite f) → clash n fs ≡ true
-  unfolding clash follows
-  clashes f m d =
-      any-hit (λ f. derived (entry (containment n fs)) n fs (opposite f)) m (follows-iff n fs i p (opposite f) (opposite-within n f (i f m)) .1 d)
+  pub clash-stored : clash n fs ≡ (storing fs 2 (λ x y. follows n fs (MEETS x y)) || storing fs 4 (λ x y. follows n fs (PART x y)))
+  unfolding clash follows derived
+  clash-stored = refl
+
+  opposed : (f : Fact) → List·Memᴰ f fs → follows n fs (opposite f) ≡ true → Contradictory n fs
+  opposed f m e = let c = i f m in (f, c, stored m, follows-iff n fs i p (opposite f) (opposite-within n f c) .0 e)
+
+  clash-contradicts : clash n fs ≡ true → Contradictory n fs
+  unfolding factOf
+  clash-contradicts e = pick (or-either _ _ (sym clash-stored ∙ e))
+    where
+      pick : (storing fs 2 (λ x y. follows n fs (MEETS x y)) ≡ true) ⊎ (storing fs 4 (λ x y. follows n fs (PART x y)) ≡ true) → Contradictory n fs
+      pick (inl q) = let s = storing-find fs 2 _ q in opposed (APART (s .0) (s .1)) (s .2) (s .3)
+      pick (inr q) = let s = storing-find fs 4 _ q in opposed (NOTPART (s .0) (s .1)) (s .2) (s .3)
 
   pub consistent : clash n fs ≡ false → Consistent n fs
   consistent e = record {
-    aparts = λ x y m w. false≢true (sym e ∙ clashes (APART x y) m (shape-derives i (MEETS x y) w));
-    notparts = λ x y m w. false≢true (sym e ∙ clashes (NOTPART x y) m (shape-derives i (PART x y) w));
+    aparts = λ x y m w. let t = follows-shape n fs i p (MEETS x y) (i _ m) .1 w in no (left-or _ (storing-hit fs 2 _ (APART x y) m refl t));
+    notparts = λ x y m w. let t = follows-shape n fs i p (PART x y) (i _ m) .1 w in no (right-or (storing fs 2 (λ x y. follows n fs (MEETS x y))) (storing-hit fs 4 _ (NOTPART x y) m refl t));
   }
+    where
+      no : (storing fs 2 (λ x y. follows n fs (MEETS x y)) || storing fs 4 (λ x y. follows n fs (PART x y))) ≡ true → ⊥
+      no t = false≢true (sym e ∙ clash-stored ∙ t)
 
   model : Consistent n fs → (M : Model n) × keepsAll M fs
   model c = (canonical n fs i p, canonical-keeps n fs i p c)

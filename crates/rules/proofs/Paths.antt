@@ -1,5 +1,6 @@
 -- Paths up through containers, and what each kind of derived fact comes to by paths and stored facts, with no rules left. Assumes nothing.
 use Prim.Native.Nat.{ℕ, _<_}
+use mathlib.Core.Logic.{_↔_}
 use mathlib.Core.List.{List, List·Memᴰ}
 use Rattle.rules.specs.Fact.{Fact, PART, APART, MEETS, NOTPART, AllWithin}
 use Rattle.rules.specs.Derives.{Derives, stored, apart-turn, meets-turn, rule-a, rule-b, rule-c, rule-f, rule-a′, rule-b′, rule-c′, rule-d′, rule-e′}
@@ -125,3 +126,7 @@ module _ {n : ℕ} {fs : List Fact} (i : AllWithin n fs) where
   derives-shape f p (rule-c′ d e) = meet-up (derives-shape _ p e) (derives-shape _ p d)
   derives-shape f p (rule-d′ d e) = out-parted (derives-shape _ p d) (derives-shape _ p e)
   derives-shape f p (rule-e′ l) = common _ (here l) (here l)
+
+-- the characterisation: a fact is derived exactly where it has its shape
+pub derives-iff : {n : ℕ} {fs : List Fact} → AllWithin n fs → 0 < n → (f : Fact) → Derives n fs f ↔ Shape n fs f
+derives-iff i p f = (derives-shape i f p, shape-derives i f)

@@ -6,7 +6,7 @@ use lib.Dec.{eqb}
 use lib.ListN.{getD}
 use Rattle.lists.specs.Tab.{tab}
 use Rattle.lists.specs.Any.{any, anyBelow}
-use Rattle.rules.specs.Fact.{Fact, PART, APART, MEETS, NOTPART, kind, left, right, opposite}
+use Rattle.rules.specs.Fact.{Fact, PART, APART, MEETS, NOTPART, kind, left, right}
 
 -- a stored fact of a kind has pieces x and y that pass a test; or has them in one order or the other
 unfoldable pub storing : List Fact → ℕ → (ℕ → ℕ → Bool) → Bool
@@ -63,9 +63,9 @@ module _ (part : ℕ → ℕ → Bool) (n : ℕ) (fs : List Fact) where
 unfoldable pub follows : ℕ → List Fact → Fact → Bool
 follows n fs f = derived (entry (containment n fs)) n fs f
 
--- contradiction: the opposite of a stored fact follows
+-- contradiction shows at a stored fact: an APART whose pieces meet, or a NOTPART whose first piece is part of its second
 unfoldable pub clash : ℕ → List Fact → Bool
 clash n fs = within (containment n fs)
   where
     within : List (List Bool) → Bool
-    within t = any (λ f. derived (entry t) n fs (opposite f)) fs
+    within t = storing fs 2 (meets (entry t) n fs) || storing fs 4 (entry t)
