@@ -1,0 +1,100 @@
+-- The bits of a word under `|`, `&` and `1 << k`. Assumes nothing.
+use mathlib.Core.Path.{_≡_, refl, sym, ap, ap₂, subst, _∙_}
+use mathlib.Core.Bool.{Bool, true, false, _||_, _&&_}
+use mathlib.Core.Logic.{_⊎_, inl, inr, ⊎-elim}
+use Prim.Native.Nat.{ℕ, zero, suc, _+_, _-_, _*_, _/_, _%_, _^_, _<_, _≤_}
+use native.Mathlib.Nat.{mod-lt, div-eq-of-lt, one-mul}
+use native.Mathlib.Numerals.{add-one, one-add}
+use native.Mathlib.Decide.{decLt}
+use native.Mathlib.Omega.{arith}
+use lib.Dec.{eqb, lit<}
+use lib.Pow.{pow-lt, pow-add, shl-shr, shr-shr, shl-exact, shr-lt, pow-pos}
+use lib.Bits.{bitAnd, bitOr, or-shr, or-mod, and-shr, and-mod, shifted-even, and-mask}
+use borrow.Author.Tests.{eq-eqb}
+use Rattle.relation.specs.Matrix.{bit}
+
+digit-lt : (x : ℕ) → x % 2 < 2
+digit-lt x = mod-lt x (lit< tt)
+
+or-digit : (x y : ℕ) → x < 2 → y < 2 → eqb (bitOr x y) 1 ≡ (eqb x 1 || eqb y 1)
+or-digit zero zero p q = refl
+or-digit zero (suc zero) p q = refl
+or-digit zero (suc (suc y)) p q = absurd (omega arith)
+or-digit (suc zero) zero p q = refl
+or-digit (suc zero) (suc zero) p q = refl
+or-digit (suc zero) (suc (suc y)) p q = absurd (omega arith)
+or-digit (suc (suc x)) y p q = absurd (omega arith)
+
+and-digit : (x y : ℕ) → x < 2 → y < 2 → eqb (bitAnd x y) 1 ≡ (eqb x 1 && eqb y 1)
+and-digit zero zero p q = refl
+and-digit zero (suc zero) p q = refl
+and-digit zero (suc (suc y)) p q = absurd (omega arith)
+and-digit (suc zero) zero p q = refl
+and-digit (suc zero) (suc zero) p q = refl
+and-digit (suc zero) (suc (suc y)) p q = absurd (omega arith)
+and-digit (suc (suc x)) y p q = absurd (omega arith)
+
+pub bit-or : (a b k : ℕ) → bit (bitOr a b) k ≡ (bit a k || bit b k)
+unfolding bit
+bit-or a b k =
+    ap (λ (x : ℕ). eqb x 1) (ap (λ (x : ℕ). x % 2) (or-shr a b k) ∙ or-mod (a / 2 ^ k) (b / 2 ^ k) 1)
+    ∙ or-digit (a / 2 ^ k % 2) (b / 2 ^ k % 2) (digit-lt _) (digit-lt _)
+
+pub bit-and : (a b k : ℕ) → bit (bitAnd a b) k ≡ (bit a k && bit b k)
+unfolding bit
+bit-and a b k =
+    ap (λ (x : ℕ). eqb x 1) (ap (λ (x : ℕ). x % 2) (and-shr a b k) ∙ and-mod (a / 2 ^ k) (b / 2 ^ k) 1)
+    ∙ and-digit (a / 2 ^ k % 2) (b / 2 ^ k % 2) (digit-lt _) (digit-lt _)
+
+-- ---- one bit
+pub bit-one-same : (k : ℕ) → bit (1 * 2 ^ k) k ≡ true
+unfolding bit
+bit-one-same k = ap (λ (x : ℕ). eqb (x % 2) 1) (shl-shr 1 k)
+
+one-above : (k j : ℕ) → k < j → bit (1 * 2 ^ k) j ≡ false
+unfolding bit
+one-above k j h = ap (λ (x : ℕ). eqb (x % 2) 1) (div-eq-of-lt (subst (λ (x : ℕ). x < 2 ^ j) (sym (one-mul (2 ^ k))) (pow-lt h)))
+
+one-below : (j d : ℕ) → bit (1 * 2 ^ (suc d + j)) j ≡ false
+unfolding bit
+one-below j d =
+    ap (λ (x : ℕ). eqb (x % 2) 1) (ap (λ (x : ℕ). x / 2 ^ j) (one-mul (2 ^ (suc d + j)) ∙ pow-add 2 (suc d) j) ∙ shl-shr (2 ^ suc d) j)
+    ∙ ap (λ (x : ℕ). eqb x 1) (ap (λ (x : ℕ). x % 2) (sym (one-mul (2 ^ suc d))) ∙ shifted-even 1 d)
+
+pub bit-one-other : (k j : ℕ) → (j ≡ k → ⊥) → bit (1 * 2 ^ k) j ≡ false
+bit-one-other k j n = go (decLt k j)
+  where
+    go : Dec (k < j) → bit (1 * 2 ^ k) j ≡ false
+    go (yes h) = one-above k j h
+    go (no h) =
+        let e : suc (k - (j + 1)) + j ≡ k = omega (arith, h, n) in
+        subst (λ (x : ℕ). bit (1 * 2 ^ x) j ≡ false) e (one-below j (k - (j + 1)))
+
+-- the machine's `1 << k` at 64 bits
+pub one-shl : (k : ℕ) → k < 64 → (1 * 2 ^ k) % 2 ^ 64 ≡ 1 * 2 ^ k
+one-shl k h = shl-exact 1 k 64 (lit< tt) (omega arith)
+
+-- the machine's `x & 1`, at the digit above k
+pub and-one : (x k : ℕ) → eqb (bitAnd (x / 2 ^ k) 1) 1 ≡ bit x k
+unfolding bit
+and-one x k = ap (λ (y : ℕ). eqb y 1) (and-mask (x / 2 ^ k) 1)
+
+-- ---- a word that is not 0 has a bit
+pub bit-zero : (k : ℕ) → bit 0 k ≡ false
+unfolding bit
+bit-zero k = ap (λ (x : ℕ). eqb (x % 2) 1) (div-eq-of-lt (pow-pos k))
+
+bit-half : (x k : ℕ) → bit x (suc k) ≡ bit (x / 2) k
+unfolding bit
+bit-half x k = ap (λ (y : ℕ). eqb (y % 2) 1) (ap (λ (n : ℕ). x / 2 ^ n) (sym (one-add k)) ∙ sym (shr-shr x 1 k))
+
+pub some-bit : (w x : ℕ) → x < 2 ^ w → (x ≡ 0 → ⊥) → (k : ℕ) × (k < w) × (bit x k ≡ true)
+unfolding bit
+some-bit zero x h n = absurd (n (omega arith))
+some-bit (suc w) x h n = go (decLt 0 (x % 2)) (some-bit w (x / 2) (shr-lt w 1 (subst (λ (e : ℕ). x < 2 ^ e) (sym (add-one w)) h)))
+  where
+    go : Dec (0 < x % 2) → ((x / 2 ≡ 0 → ⊥) → (k : ℕ) × (k < w) × (bit (x / 2) k ≡ true)) → (k : ℕ) × (k < suc w) × (bit x k ≡ true)
+    go (yes p) ih = (0, omega arith, eq-eqb (x / 2 ^ 0 % 2) 1 (omega arith))
+    go (no p) ih =
+        let r = ih (λ e. n (omega arith)) in
+        (suc (r .0), omega (arith, r .1), bit-half x (r .0) ∙ r .2)
