@@ -1,16 +1,16 @@
 -- The bits of a word under `|`, `&` and `1 << k`. Assumes nothing.
 use mathlib.Core.Path.{_≡_, refl, sym, ap, ap₂, subst, _∙_}
 use mathlib.Core.Bool.{Bool, true, false, _||_, _&&_}
-use mathlib.Core.Logic.{_⊎_, inl, inr, ⊎-elim}
 use Prim.Native.Nat.{ℕ, zero, suc, _+_, _-_, _*_, _/_, _%_, _^_, _<_, _≤_}
-use native.Mathlib.Nat.{mod-lt, div-eq-of-lt, one-mul}
+use native.Mathlib.Nat.{mod-lt, div-eq-of-lt, one-mul, lt-of-lt-of-le}
 use native.Mathlib.Numerals.{add-one, one-add}
 use native.Mathlib.Decide.{decLt}
 use native.Mathlib.Omega.{arith}
 use lib.Dec.{eqb, lit<}
-use lib.Pow.{pow-lt, pow-add, shl-shr, shr-shr, shl-exact, shr-lt, pow-pos}
+use lib.Count.{trailingZeros, under}
+use lib.Pow.{pow-lt, pow-add, pow-mono, shl-shr, shr-shr, shl-exact, shr-lt, pow-pos}
 use lib.Bits.{bitAnd, bitOr, or-shr, or-mod, and-shr, and-mod, shifted-even, and-mask}
-use borrow.Author.Tests.{eq-eqb}
+use borrow.Author.Tests.{eq-eqb, ne-eqb}
 use Rattle.relation.specs.Matrix.{bit}
 
 digit-lt : (x : ℕ) → x % 2 < 2
@@ -79,7 +79,7 @@ pub and-one : (x k : ℕ) → eqb (bitAnd (x / 2 ^ k) 1) 1 ≡ bit x k
 unfolding bit
 and-one x k = ap (λ (y : ℕ). eqb y 1) (and-mask (x / 2 ^ k) 1)
 
--- ---- a word that is not 0 has a bit
+-- ---- the lowest bit of a word that is not 0
 pub bit-zero : (k : ℕ) → bit 0 k ≡ false
 unfolding bit
 bit-zero k = ap (λ (x : ℕ). eqb (x % 2) 1) (div-eq-of-lt (pow-pos k))
@@ -88,13 +88,32 @@ bit-half : (x k : ℕ) → bit x (suc k) ≡ bit (x / 2) k
 unfolding bit
 bit-half x k = ap (λ (y : ℕ). eqb (y % 2) 1) (ap (λ (n : ℕ). x / 2 ^ n) (sym (one-add k)) ∙ sym (shr-shr x 1 k))
 
-pub some-bit : (w x : ℕ) → x < 2 ^ w → (x ≡ 0 → ⊥) → (k : ℕ) × (k < w) × (bit x k ≡ true)
-unfolding bit
-some-bit zero x h n = absurd (n (omega arith))
-some-bit (suc w) x h n = go (decLt 0 (x % 2)) (some-bit w (x / 2) (shr-lt w 1 (subst (λ (e : ℕ). x < 2 ^ e) (sym (add-one w)) h)))
+-- what holds of the count t of zeros below the lowest set bit of x, a word of w bits
+pub record Lowest (w x t : ℕ) : Type 0 where
+  pub inside : t < w
+  pub hit : bit x t ≡ true
+  pub before : (k : ℕ) → k < t → bit x k ≡ false
+
+pub lowest : (w x : ℕ) → x < 2 ^ w → (x ≡ 0 → ⊥) → Lowest w x (trailingZeros w x)
+unfolding trailingZeros bit
+lowest zero x h n = absurd (n (omega arith))
+lowest (suc w) x h n = go (x % 2) refl (lowest w (x / 2) (shr-lt w 1 (subst (λ (e : ℕ). x < 2 ^ e) (sym (add-one w)) h)))
   where
-    go : Dec (0 < x % 2) → ((x / 2 ≡ 0 → ⊥) → (k : ℕ) × (k < w) × (bit (x / 2) k ≡ true)) → (k : ℕ) × (k < suc w) × (bit x k ≡ true)
-    go (yes p) ih = (0, omega arith, eq-eqb (x / 2 ^ 0 % 2) 1 (omega arith))
-    go (no p) ih =
-        let r = ih (λ e. n (omega arith)) in
-        (suc (r .0), omega (arith, r .1), bit-half x (r .0) ∙ r .2)
+    go : (d : ℕ) → x % 2 ≡ d → ((x / 2 ≡ 0 → ⊥) → Lowest w (x / 2) (trailingZeros w (x / 2))) → Lowest (suc w) x (under d (trailingZeros w (x / 2)))
+    go (suc d) e ih = record { inside = omega arith; hit = eq-eqb (x / 2 ^ 0 % 2) 1 (omega arith); before = λ k l. absurd (omega arith) }
+    go zero e ih =
+        let r = ih (λ q. n (omega arith)) in
+        record { inside = omega (arith, r .inside); hit = bit-half x (trailingZeros w (x / 2)) ∙ r .hit; before = λ k l. down k l (r .before) }
+      where
+        down : (k : ℕ) → k < suc (trailingZeros w (x / 2)) → ((j : ℕ) → j < trailingZeros w (x / 2) → bit (x / 2) j ≡ false) → bit x k ≡ false
+        down zero l f = ne-eqb (x / 2 ^ 0 % 2) 1 (λ q. omega arith)
+        down (suc k) l f = bit-half x k ∙ f k (omega arith)
+
+-- ---- a shifted word, and what lies beyond a word
+pub bit-shifted : (x s k : ℕ) → bit (x / 2 ^ s) k ≡ bit x (s + k)
+unfolding bit
+bit-shifted x s k = ap (λ (y : ℕ). eqb (y % 2) 1) (shr-shr x s k)
+
+pub bit-beyond : (w x k : ℕ) → x < 2 ^ w → w ≤ k → bit x k ≡ false
+unfolding bit
+bit-beyond w x k h l = ap (λ (y : ℕ). eqb (y % 2) 1) (div-eq-of-lt (lt-of-lt-of-le h (pow-mono l)))

@@ -7,6 +7,7 @@ use native.Mathlib.Nat.{lt-of-le-of-lt}
 use native.Mathlib.Decide.{decLt, ℕ-discrete}
 use native.Mathlib.Omega.{arith}
 use lib.Bits.{bitAnd, bitOr, and-le-l}
+use lib.Count.{trailingZeros}
 use lib.ListN.{length, getD, set}
 use lib.Seq.{getD-set-same, getD-set-other}
 use borrow.Author.Count.{below-more}
@@ -14,7 +15,7 @@ use Rattle.lists.specs.Any.{anyBelow}
 use Rattle.lists.proofs.Bools.{and-both, both-and, not-true}
 use Rattle.lists.proofs.Anys.{below-find, below-hit}
 use Rattle.relation.specs.Matrix.{bit, bitOf, common, Inserted, United}
-use Rattle.relation.proofs.Laws.{bit-or, bit-and, bit-one-same, bit-one-other, some-bit, bit-zero}
+use Rattle.relation.proofs.Laws.{bit-or, bit-and, bit-one-same, bit-one-other, lowest, bit-zero}
 
 -- m′ is m with the first i words from b on of n put into those from a on
 pub record Joined (m m′ n : List ℕ) (a b i : ℕ) : Type 0 where
@@ -84,13 +85,13 @@ unfolding bitOf common
 common-here m n r s i hi fits ne =
     let x = getD m (r * 32 + i) 0 in
     let y = getD n (s * 32 + i) 0 in
-    let p = some-bit 64 (bitAnd x y) (lt-of-le-of-lt (and-le-l x y) fits) ne in
-    let k : ℕ = p .0 in
-    let hk : k < 64 = p .1 in
+    let p = lowest 64 (bitAnd x y) (lt-of-le-of-lt (and-le-l x y) fits) ne in
+    let k : ℕ = trailingZeros 64 (bitAnd x y) in
+    let hk : k < 64 = p .inside in
     let j : ℕ = i * 64 + k in
     let ej : j / 64 ≡ i = omega arith in
     let ek : j % 64 ≡ k = omega arith in
-    sym (below-hit (λ v. bitOf m r v && bitOf n s v) 2048 j (omega arith) (rw (ej, ek) (sym (bit-and x y k) ∙ p .2)))
+    sym (below-hit (λ v. bitOf m r v && bitOf n s v) 2048 j (omega arith) (rw (ej, ek) (sym (bit-and x y k) ∙ p .hit)))
 
 pub common-nowhere :
     (m n : List ℕ) (r s : ℕ) → ((k : ℕ) → k < 32 → bitAnd (getD m (r * 32 + k) 0) (getD n (s * 32 + k) 0) ≡ 0) → false ≡ common m r n s
