@@ -1,7 +1,7 @@
 -- A row of a product, gathered bit by bit, and the rows of a product one after the other. Assumes nothing.
 use mathlib.Core.Path.{_≡_, refl, sym, ap, _∙_}
 use mathlib.Core.List.{List}
-use mathlib.Core.Bool.{Bool, true, false, _||_, _&&_, or-false, or-assoc, or-comm}
+use mathlib.Core.Bool.{Bool, false, _||_, _&&_, or-false, or-assoc, or-comm}
 use Prim.Native.Nat.{ℕ, zero, suc, _+_, _-_, _<_, _≤_}
 use native.Mathlib.Nat.{add-suc, add-zero}
 use native.Mathlib.Numerals.{add-one}

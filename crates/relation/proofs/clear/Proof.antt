@@ -8,8 +8,6 @@ use lib.Seq.{drop-length}
 use borrow.Author.Fill.{fill-more}
 use Rattle.relation.proofs.clear.Statement.{statement}
 use Rattle.relation.proofs.clear.Tie as tie
-use Rattle.relation.proofs.clear.Reads as reads
-use Rattle.relation.proofs.clear.Lts as lts
 
 abbrev Inv-loop : tie.InvT-loop
 Inv-loop m₀ i₀ m i = (i ≤ length m₀) × (length m ≡ length m₀) × (m ≡ replicate i 0 ++ drop i m₀)

@@ -1,18 +1,13 @@
 use borrow.Author.Needs.{needs}
 use native.Mathlib.Omega.{arith}
-use mathlib.Core.Path.{_≡_, refl, sym, ap, _∙_}
-use Prim.Native.Nat.{ℕ, _≤_, _<_, _-_, _+_, _*_}
+use mathlib.Core.Path.{_≡_, refl}
+use Prim.Native.Nat.{_≤_, _-_}
 use lib.ListN.{length}
-use Rattle.lists.specs.First.{first}
 use Rattle.relation.specs.Matrix.{bitOf, Joins}
 use Rattle.relation.proofs.Seeks.{Sought, sought-next}
 use Rattle.relation.proofs.Products.{part, gather-none, gather-more, gather-done, gather-all}
 use Rattle.relation.proofs.gather.Statement.{statement}
 use Rattle.relation.proofs.gather.Tie as tie
-use Rattle.relation.proofs.gather.Reads as reads
-use Rattle.relation.proofs.gather.Lts as lts
-use Rattle.relation.proofs.next_bit.Reads as next-bit-reads
-use Rattle.relation.proofs.union_row.Reads as union-row-reads
 
 abbrev Inv-loop : tie.InvT-loop
 Inv-loop dst₀ a r b from₀ dst from = (from ≤ 2048) × (length dst ≡ length dst₀) × Joins dst₀ dst r (part a b r from)

@@ -6,8 +6,6 @@ use Rattle.relation.proofs.Laws.{one-shl}
 use Rattle.relation.proofs.Words.{inserted}
 use Rattle.relation.proofs.insert.Statement.{statement}
 use Rattle.relation.proofs.insert.Tie as tie
-use Rattle.relation.proofs.insert.Reads as reads
-use Rattle.relation.proofs.insert.Lts as lts
 
 mul-w : tie.Need-mul-w
 mul-w c = search needs

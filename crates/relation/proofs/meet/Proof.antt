@@ -1,15 +1,13 @@
 use borrow.Author.Needs.{needs}
 use native.Mathlib.Omega.{arith}
 use Prim.Native.Nat.{ℕ, _≤_, _<_, _-_, _+_, _*_}
-use mathlib.Core.Path.{_≡_, refl}
-use lib.ListN.{length, getD}
+use mathlib.Core.Path.{_≡_}
+use lib.ListN.{getD}
 use lib.Bits.{bitAnd}
 use borrow.Author.Count.{below-more, below-none}
 use Rattle.relation.proofs.Words.{common-here, common-nowhere}
 use Rattle.relation.proofs.meet.Statement.{statement}
 use Rattle.relation.proofs.meet.Tie as tie
-use Rattle.relation.proofs.meet.Reads as reads
-use Rattle.relation.proofs.meet.Lts as lts
 
 abbrev Inv-loop : tie.InvT-loop
 Inv-loop m r n s a b i₀ i = (i ≤ 32) × ((k : ℕ) → k < i → bitAnd (getD m (a + k) 0) (getD n (b + k) 0) ≡ 0)

@@ -9,9 +9,6 @@ use Rattle.relation.specs.Matrix.{bitOf}
 use Rattle.relation.proofs.Seeks.{rest-empty, rest-found}
 use Rattle.relation.proofs.next_bit.Statement.{statement}
 use Rattle.relation.proofs.next_bit.Tie as tie
-use Rattle.relation.proofs.next_bit.Reads as reads
-use Rattle.relation.proofs.next_bit.Lts as lts
-use Rattle.relation.proofs.next_word.Reads as next-word-reads
 
 returns : tie.Need-returns
 returns c = sym (ended (bitOf (c .before .before .args .m .now) (c .before .before .args .r)) (c .before .before .args .from) 2048 (omega arith))

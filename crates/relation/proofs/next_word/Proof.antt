@@ -1,7 +1,7 @@
 use borrow.Author.Needs.{needs}
 use native.Mathlib.Omega.{arith}
-use Prim.Native.Nat.{ℕ, _≤_, _<_, _-_, _*_, _+_}
-use mathlib.Core.Path.{_≡_, refl, sym, ap, _∙_}
+use Prim.Native.Nat.{ℕ, _≤_, _-_, _*_, _+_}
+use mathlib.Core.Path.{_≡_, refl, sym, _∙_}
 use lib.Count.{trailing-le}
 use lib.ListN.{getD}
 use Rattle.lists.specs.First.{first}
@@ -10,8 +10,6 @@ use Rattle.relation.specs.Matrix.{bitOf}
 use Rattle.relation.proofs.Seeks.{word-empty, word-found}
 use Rattle.relation.proofs.next_word.Statement.{statement}
 use Rattle.relation.proofs.next_word.Tie as tie
-use Rattle.relation.proofs.next_word.Reads as reads
-use Rattle.relation.proofs.next_word.Lts as lts
 
 abbrev Inv-loop : tie.InvT-loop
 Inv-loop m r w a i₀ i = (i ≤ 32) × (first (bitOf m r) (w * 64) (2048 - w * 64) ≡ first (bitOf m r) (i * 64) (2048 - i * 64))

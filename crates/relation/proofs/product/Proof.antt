@@ -1,15 +1,12 @@
 use borrow.Author.Needs.{needs}
 use native.Mathlib.Omega.{arith}
 use mathlib.Core.Path.{_≡_, refl}
-use Prim.Native.Nat.{ℕ, _≤_, _<_, _-_, _+_, _*_}
+use Prim.Native.Nat.{_≤_, _-_}
 use lib.ListN.{length}
 use Rattle.relation.specs.Matrix.{Multiplied}
 use Rattle.relation.proofs.Products.{product-none, product-more}
 use Rattle.relation.proofs.product.Statement.{statement}
 use Rattle.relation.proofs.product.Tie as tie
-use Rattle.relation.proofs.product.Reads as reads
-use Rattle.relation.proofs.product.Lts as lts
-use Rattle.relation.proofs.gather.Reads as gather-reads
 
 abbrev Inv-loop : tie.InvT-loop
 Inv-loop dst₀ a b n r₀ dst r = (r ≤ n) × (length dst ≡ length dst₀) × Multiplied dst₀ dst a b r

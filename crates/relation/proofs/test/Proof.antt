@@ -1,11 +1,8 @@
 use borrow.Author.Needs.{needs}
-use native.Mathlib.Omega.{arith}
 use Rattle.relation.specs.Matrix.{bitOf}
 use Rattle.relation.proofs.Laws.{and-one}
 use Rattle.relation.proofs.test.Statement.{statement}
 use Rattle.relation.proofs.test.Tie as tie
-use Rattle.relation.proofs.test.Reads as reads
-use Rattle.relation.proofs.test.Lts as lts
 
 mul-result : tie.Need-mul-result
 mul-result c = search needs

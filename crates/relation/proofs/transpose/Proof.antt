@@ -1,16 +1,12 @@
 use borrow.Author.Needs.{needs}
 use native.Mathlib.Omega.{arith}
 use mathlib.Core.Path.{_≡_, refl}
-use Prim.Native.Nat.{ℕ, _≤_, _<_, _-_, _+_, _*_}
+use Prim.Native.Nat.{_≤_, _-_}
 use lib.ListN.{length}
 use Rattle.relation.specs.Matrix.{Transposed}
 use Rattle.relation.proofs.Columns.{transpose-none, transpose-more}
 use Rattle.relation.proofs.transpose.Statement.{statement}
 use Rattle.relation.proofs.transpose.Tie as tie
-use Rattle.relation.proofs.transpose.Reads as reads
-use Rattle.relation.proofs.transpose.Lts as lts
-use Rattle.relation.proofs.clear.Reads as clear-reads
-use Rattle.relation.proofs.union_column.Reads as union-column-reads
 
 abbrev Inv-loop : tie.InvT-loop
 Inv-loop dst₀ src n r₀ dst r = (r ≤ n) × (length dst ≡ length dst₀) × Transposed src dst r

@@ -1,17 +1,13 @@
 use borrow.Author.Needs.{needs}
 use native.Mathlib.Omega.{arith}
 use mathlib.Core.Path.{_≡_, refl}
-use Prim.Native.Nat.{ℕ, _≤_, _<_, _-_, _+_, _*_}
+use Prim.Native.Nat.{_≤_, _-_}
 use lib.ListN.{length}
 use Rattle.relation.specs.Matrix.{bitOf, Columned}
 use Rattle.relation.proofs.Seeks.{Sought, sought-next}
 use Rattle.relation.proofs.Columns.{under, column-none, column-more, column-done, column-all}
 use Rattle.relation.proofs.union_column.Statement.{statement}
 use Rattle.relation.proofs.union_column.Tie as tie
-use Rattle.relation.proofs.union_column.Reads as reads
-use Rattle.relation.proofs.union_column.Lts as lts
-use Rattle.relation.proofs.insert.Reads as insert-reads
-use Rattle.relation.proofs.next_bit.Reads as next-bit-reads
 
 abbrev Inv-loop : tie.InvT-loop
 Inv-loop dst₀ c src r from₀ dst from = (from ≤ 2048) × (length dst ≡ length dst₀) × Columned dst₀ dst c (under (bitOf src r) from)

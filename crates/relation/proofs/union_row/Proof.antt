@@ -6,8 +6,6 @@ use lib.ListN.{length, length-set}
 use Rattle.relation.proofs.Words.{Joined, joined-none, joined-more, united}
 use Rattle.relation.proofs.union_row.Statement.{statement}
 use Rattle.relation.proofs.union_row.Tie as tie
-use Rattle.relation.proofs.union_row.Reads as reads
-use Rattle.relation.proofs.union_row.Lts as lts
 
 abbrev Inv-loop : tie.InvT-loop
 Inv-loop dst₀ d src s a b i₀ dst i = (i ≤ 32) × (length dst ≡ length dst₀) × Joined dst₀ dst src a b i

@@ -7,8 +7,6 @@ use lib.ListN.{length, length-set, getD}
 use Rattle.relation.proofs.Words.{Joined, joined-none, joined-more, united}
 use Rattle.relation.proofs.union_within.Statement.{statement}
 use Rattle.relation.proofs.union_within.Tie as tie
-use Rattle.relation.proofs.union_within.Reads as reads
-use Rattle.relation.proofs.union_within.Lts as lts
 
 abbrev Inv-loop : tie.InvT-loop
 Inv-loop m₀ d s a b i₀ m i = (i ≤ 32) × (length m ≡ length m₀) × Joined m₀ m m₀ a b i
