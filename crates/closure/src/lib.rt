@@ -1,0 +1,1 @@
+// Every answer from one closure.
