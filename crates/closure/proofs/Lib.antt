@@ -1,1 +1,5 @@
+pub mod StoredBits
+pub mod Runs
+pub mod Grows
+pub mod Storing
 pub mod Products

@@ -1,1 +1,4 @@
 pub mod Stored
+pub mod Closed
+pub mod Run
+pub mod Answers

@@ -1,19 +1,15 @@
--- Stored facts and derived containment as bits of row x and column y. Assumes nothing.
+-- The bits of the stored facts: row x, column y. Assumes nothing.
 use Prim.Native.Nat.{ℕ}
 use mathlib.Core.Bool.{Bool, true, _&&_, _||_}
 use mathlib.Core.List.{List}
 use lib.Dec.{eqb, ltb}
-use Rattle.rules.specs.Fact.{Fact, PART}
-use Rattle.rules.specs.Follows.{storing, follows}
+use Rattle.rules.specs.Fact.{Fact}
+use Rattle.rules.specs.Follows.{storing}
 
 -- a stored fact of kind k has the pieces x and y in this order (asked where `straight`), or in the other (where `swapped`)
 unfoldable pub storedBit : List Fact → ℕ → Bool → Bool → ℕ → ℕ → Bool
 storedBit fs k straight swapped x y = storing fs k (λ a b. (straight && (eqb a x && eqb b y)) || (swapped && (eqb a y && eqb b x)))
 
--- g, below n, is part of h, below n
-unfoldable pub partBit : ℕ → List Fact → ℕ → ℕ → Bool
-partBit n fs h g = (ltb g n && ltb h n) && follows n fs (PART g h)
-
--- x meets y by a stored fact, or is the same piece
+-- x and y are one piece below n, or a stored MEETS has them
 unfoldable pub meetBit : ℕ → List Fact → ℕ → ℕ → Bool
 meetBit n fs x y = (eqb x y && ltb x n) || storedBit fs 3 true true x y
