@@ -3,3 +3,5 @@ pub mod Runs
 pub mod Grows
 pub mod Storing
 pub mod Products
+pub mod Holding
+pub mod Answering

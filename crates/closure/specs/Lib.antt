@@ -1,4 +1,6 @@
 pub mod Stored
 pub mod Closed
-pub mod Run
+pub mod Bounded
+pub mod Opposed
+pub mod Tells
 pub mod Answers
