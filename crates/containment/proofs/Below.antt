@@ -6,10 +6,10 @@ use mathlib.Core.List.{List, [], _∷_, _++_, List·Memᴰ·head as here, List·
 use Prim.Native.Nat.{ℕ, zero, suc, _+_, _*_, _-_, _≤_, _<_}
 use native.Mathlib.Omega.{arith}
 use lib.Dec.{eqb}
-use Rattle.containment.specs.Breadth.{parts, parent}
+use Rattle.containment.specs.Breadth.{parent}
 use Rattle.containment.specs.Tree.{Visit, node, shadow, Forest, end, tree, hang, under, visits}
 use Rattle.containment.proofs.Numbers.{_∈_, which}
-use Rattle.containment.specs.Pairs.{Book, Within, self, step}
+use Rattle.containment.specs.Pairs.{parts, Book, Within, self, step}
 use Rattle.containment.proofs.Nodes.{hang-node, hang-shadow, parts-mem, mem-parts}
 
 -- the piece of a visit

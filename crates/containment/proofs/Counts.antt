@@ -10,20 +10,16 @@ use lib.Dec.{eqb}
 use Rattle.lists.specs.Tab.{tab}
 use lib.ListN.{length, length-append}
 use borrow.Author.Tests.{eqb-true, eqb-false, eq-eqb, ne-eqb}
-use Rattle.containment.specs.Numbers.{range, keep}
-use Rattle.containment.specs.Breadth.{parts, parent}
+use Rattle.containment.specs.Numbers.{sum, range, keep}
+use Rattle.containment.specs.Breadth.{parent}
 use Rattle.containment.specs.Tree.{Visit, node, shadow, Forest, end, tree, hang, under, whole, visits}
 use Rattle.containment.specs.Parts.{isNode, shadows}
 use Rattle.containment.proofs.Numbers.{_∈_, which, keep-mem, range-mem}
-use Rattle.containment.specs.Pairs.{Book}
+use Rattle.containment.specs.Pairs.{parts, pairs, Book}
 use Rattle.containment.proofs.Nodes.{hit, times, hang-node, hang-shadow, parts-mem, once}
 use Rattle.containment.proofs.Below.{piece, under-mem}
 
 -- ## Sums
-
-unfoldable pub sum : (ℕ → ℕ) → List ℕ → ℕ
-sum g [] = 0
-sum g (x ∷ xs) = g x + sum g xs
 
 -- g summed over the pieces of the nodes
 unfoldable pub total : (ℕ → ℕ) → List Visit → ℕ
@@ -37,23 +33,23 @@ total-append g [] ys = omega arith
 total-append g (node p ∷ xs) ys = omega (arith, total-append g xs ys)
 total-append g (shadow p ∷ xs) ys = total-append g xs ys
 
-sum-eq : (f g : ℕ → ℕ) (xs : List ℕ) → ((x : ℕ) → x ∈ xs → f x ≡ g x) → sum f xs ≡ sum g xs
+pub sum-eq : (f g : ℕ → ℕ) (xs : List ℕ) → ((x : ℕ) → x ∈ xs → f x ≡ g x) → sum f xs ≡ sum g xs
 unfolding sum
 sum-eq f g [] h = refl
 sum-eq f g (x ∷ xs) h = omega (arith, h x (here refl), sum-eq f g xs (λ y m. h y (there m)))
 
-sum-add : (f g : ℕ → ℕ) (xs : List ℕ) → sum (λ x. f x + g x) xs ≡ sum f xs + sum g xs
+pub sum-add : (f g : ℕ → ℕ) (xs : List ℕ) → sum (λ x. f x + g x) xs ≡ sum f xs + sum g xs
 unfolding sum
 sum-add f g [] = refl
 sum-add f g (x ∷ xs) = omega (arith, sum-add f g xs)
 
-sum-none : (f : ℕ → ℕ) (xs : List ℕ) → ((x : ℕ) → x ∈ xs → f x ≡ 0) → sum f xs ≡ 0
+pub sum-none : (f : ℕ → ℕ) (xs : List ℕ) → ((x : ℕ) → x ∈ xs → f x ≡ 0) → sum f xs ≡ 0
 unfolding sum
 sum-none f [] h = refl
 sum-none f (x ∷ xs) h = omega (arith, h x (here refl), sum-none f xs (λ y m. h y (there m)))
 
 -- the sum of what is g q at q alone
-sum-at : (g : ℕ → ℕ) (q k m : ℕ) → k ≤ q → q < k + m → sum (λ p. hit (eqb p q) * g p) (range k m) ≡ g q
+pub sum-at : (g : ℕ → ℕ) (q k m : ℕ) → k ≤ q → q < k + m → sum (λ p. hit (eqb p q) * g p) (range k m) ≡ g q
 unfolding sum range tab
 sum-at g q k zero a b = absurd (omega arith)
 sum-at g q k (suc m) a b = go (eq-or-lt-of-le a) (λ (h : k < q). sum-at g q (suc k) m h (omega arith))
@@ -98,12 +94,9 @@ node-or-shadow (shadow p ∷ vs) = omega (arith, node-or-shadow vs)
 -- ## The tree
 
 module _ (n : ℕ) (edge : ℕ → ℕ → Bool) where
-  -- how many parts c has, and how many edges there are
+  -- how many parts c has
   unfoldable pub degree : ℕ → ℕ
   degree c = length (parts n edge c)
-
-  unfoldable pub edges : ℕ
-  edges = sum degree (range 0 n)
 
   module _ (B : Book n edge) where
     -- below c: a visit for each part of c, and for each part of each node there
@@ -153,8 +146,8 @@ module _ (n : ℕ) (edge : ℕ → ℕ → Bool) where
         (λ x m. let b = range-mem 0 n m in rw (once n edge B x (omega arith)) (omega arith))
 
     -- THE COUNTS
-    pub visit-count : length (visits (whole n edge)) ≡ 1 + edges
-    unfolding edges
+    pub visit-count : length (visits (whole n edge)) ≡ 1 + pairs n edge
+    unfolding pairs degree
     visit-count = omega (arith, over-pieces degree, whole-size, whole-total, size-under n 0 (omega arith))
       where
         whole-size : length (visits (whole n edge)) ≡ 1 + length (visits (under n edge n 0))
@@ -163,5 +156,5 @@ module _ (n : ℕ) (edge : ℕ → ℕ → Bool) where
         whole-total : total degree (visits (whole n edge)) ≡ degree 0 + total degree (visits (under n edge n 0))
         whole-total = unfold whole visits total in omega (arith, total-append degree (visits (under n edge n 0)) [])
 
-    pub shadow-count : n + length (shadows (visits (whole n edge))) ≡ 1 + edges
+    pub shadow-count : n + length (shadows (visits (whole n edge))) ≡ 1 + pairs n edge
     shadow-count = omega (arith, visit-count, node-or-shadow (visits (whole n edge)), over-pieces (λ p. 1), sum-ones 0 n)

@@ -8,3 +8,6 @@ pub mod Session
 pub mod Ranges
 pub mod Places
 pub mod Contains
+pub mod Packing
+pub mod Bounds
+pub mod Lent

@@ -11,11 +11,11 @@ use Rattle.lists.specs.Tab.{tab}
 use lib.ListN.{length, length-append}
 use borrow.Author.Tests.{eqb-true, eqb-false, eq-eqb, ne-eqb}
 use Rattle.containment.specs.Numbers.{range, keep}
-use Rattle.containment.specs.Breadth.{parts, parent}
+use Rattle.containment.specs.Breadth.{parent}
 use Rattle.containment.specs.Tree.{Visit, node, shadow, Forest, end, tree, hang, under, whole, visits}
 use Rattle.containment.specs.Parts.{isNode}
 use Rattle.containment.proofs.Numbers.{_∈_, which, keep-yes, keep-no, keep-mem, mem-keep, range-mem, mem-range}
-use Rattle.containment.specs.Pairs.{Book}
+use Rattle.containment.specs.Pairs.{parts, Book}
 use Rattle.containment.proofs.Reached.{parent-edge}
 
 -- ## Counting

@@ -10,13 +10,13 @@ use Rattle.parentheses.specs.Forest.{enc}
 use Rattle.containment.specs.Parts.{shape}
 use lib.ListN.{length, getD, length-append}
 use borrow.Author.Tests.{eq-eqb}
-use Rattle.containment.specs.Breadth.{parts, parent}
+use Rattle.containment.specs.Breadth.{parent}
 use Rattle.containment.specs.Tree.{Visit, node, shadow, Forest, end, tree, hang, under, whole, visits}
 use Rattle.containment.specs.Parts.{parens, isNode, place}
 use Rattle.containment.proofs.Numbers.{_∈_, which}
 use Rattle.parentheses.specs.Bits.{rank}
 use Rattle.parentheses.proofs.Trees.{rank-cons}
-use Rattle.containment.specs.Pairs.{Book}
+use Rattle.containment.specs.Pairs.{parts, Book}
 use Rattle.containment.proofs.Reached.{parent-edge}
 use Rattle.containment.proofs.Nodes.{hit, times, times-append, hang-node, hang-shadow, parts-mem, mem-parts, once}
 use Rattle.containment.proofs.Ranges.{ones, ones-append, ones-parens, after-at}

@@ -9,9 +9,9 @@ use Rattle.lists.specs.Tab.{tab}
 use Rattle.parentheses.specs.Forest.{enc}
 use lib.ListN.{length}
 use Rattle.containment.specs.Numbers.{range, keep, find}
-use Rattle.containment.specs.Pairs.{joined}
+use Rattle.containment.specs.Pairs.{parts, joined}
 use Rattle.containment.specs.Tree.{Visit, Forest, node, shadow, hang, under, whole, visits}
-use Rattle.containment.specs.Breadth.{parts, breadth, order, parent}
+use Rattle.containment.specs.Breadth.{breadth, order, parent}
 use Rattle.containment.specs.Parts.{shape, parens, isNode, isShadow, place, marks, shadows, shadowList, placeList, value, packed, padded}
 
 listed : List (ℕ × ℕ) → ℕ → ℕ → Bool

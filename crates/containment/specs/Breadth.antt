@@ -5,10 +5,6 @@ use Prim.Native.Nat.{ℕ, zero, suc, _-_}
 use Rattle.containment.specs.Numbers.{range, keep, find}
 
 module _ (n : ℕ) (edge : ℕ → ℕ → Bool) where
-  -- the parts of c, in rising number
-  unfoldable pub parts : ℕ → List ℕ
-  parts c = keep (λ p. edge p c) (range 0 n)
-
   -- take c off the queue, and put those of its parts that no one has met yet at the queue's end; k bounds the steps
   unfoldable pub breadth : ℕ → List ℕ → List ℕ → List ℕ
   breadth zero queue unmet = []

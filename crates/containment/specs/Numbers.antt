@@ -1,7 +1,7 @@
--- Lists of numbers: a run of them, those that pass a test, and the first that does. Assumes nothing.
+-- Lists of numbers: a run of them, those that pass a test, the first that does, and a sum over them. Assumes nothing.
 use mathlib.Core.Bool.{Bool, true, false}
 use mathlib.Core.List.{List, [], _∷_}
-use Prim.Native.Nat.{ℕ}
+use Prim.Native.Nat.{ℕ, _+_}
 use Rattle.lists.specs.Tab.{tab}
 
 -- k, k + 1, .. : m numbers
@@ -17,3 +17,7 @@ keep f (x ∷ xs) = elim (f x) [ true ↦ x ∷ keep f xs | false ↦ keep f xs 
 unfoldable pub find : (ℕ → Bool) → List ℕ → ℕ
 find f [] = 0
 find f (x ∷ xs) = elim (f x) [ true ↦ x | false ↦ find f xs ]
+
+unfoldable pub sum : (ℕ → ℕ) → List ℕ → ℕ
+sum g [] = 0
+sum g (x ∷ xs) = g x + sum g xs

@@ -3,7 +3,8 @@ use mathlib.Core.Bool.{Bool, true, false}
 use mathlib.Core.List.{List, [], _∷_, _++_}
 use Prim.Native.Nat.{ℕ, zero, suc}
 use lib.Dec.{eqb}
-use Rattle.containment.specs.Breadth.{parts, parent}
+use Rattle.containment.specs.Pairs.{parts}
+use Rattle.containment.specs.Breadth.{parent}
 
 -- a visit: of the node of a piece, or of a shadow of it
 pub data Visit : Type 0 where
