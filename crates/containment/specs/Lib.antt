@@ -5,3 +5,5 @@ pub mod Tree
 pub mod Parts
 pub mod Index
 pub mod Inside
+pub mod Matrix
+pub mod Steps
