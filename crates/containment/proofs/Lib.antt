@@ -17,5 +17,6 @@ mod Queue
 mod Rounds
 mod Written
 mod Walking
-mod Resolve
+mod Resolution
 mod Joins
+mod Buildings
