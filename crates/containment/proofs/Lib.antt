@@ -1,0 +1,22 @@
+pub mod Numbers
+pub mod Reached
+pub mod Joined
+pub mod Nodes
+pub mod Below
+pub mod Sizes
+pub mod Session
+pub mod Ranges
+pub mod Places
+pub mod Contains
+pub mod Packing
+pub mod Bounds
+pub mod Lent
+pub mod Events
+mod Nexts
+mod Queue
+mod Rounds
+mod Written
+mod Walking
+mod Resolution
+mod Joins
+mod Buildings

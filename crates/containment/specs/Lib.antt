@@ -1,0 +1,9 @@
+pub mod Numbers
+pub mod Pairs
+pub mod Breadth
+pub mod Tree
+pub mod Parts
+pub mod Index
+pub mod Inside
+pub mod Matrix
+pub mod Steps
