@@ -5,3 +5,4 @@ pub mod Storing
 pub mod Products
 pub mod Holding
 pub mod Answering
+pub mod Pairing
