@@ -10,7 +10,11 @@ use native.Mathlib.Omega.{arith}
 use borrow.Author.Tests.{eq-eqb, ne-eqb}
 use lib.ListN.{getD, length}
 use Rattle.lists.specs.First.{first}
-use Rattle.parentheses.specs.Bits.{bits, num, rank, balanced, close, onesOf, excess8, lowTo, lowOf}
+use Rattle.parentheses.specs.Bits.{bits}
+use Rattle.parentheses.specs.Rank.{num, rank}
+use Rattle.parentheses.specs.Close.{balanced, close}
+use Rattle.parentheses.specs.Tables.{onesOf, excess8, lowTo, lowOf}
+use Rattle.parentheses.proofs.Packed.{bits-length}
 use Rattle.parentheses.proofs.Ranks.{byte, byte-ones, ones-le, rank-le, rank-suc, rank-byte}
 use Rattle.lists.proofs.Firsts.{passed-over, found, ended}
 
@@ -32,11 +36,14 @@ lowest-whole b = omega (arith, lowest-le b 7 (omega arith), byte-ones b)
 pub lowest-small : (b : ℕ) → lowOf b ≤ 9
 lowest-small b = omega (arith, lowest-le b 0 (omega arith), rank-le (byte b) 1)
 
--- ---- the search, of the parenthesis at o, before e
+-- ---- the search, of the parenthesis at o
 
-module _ (l : List ℕ) (o e : ℕ) where
+module _ (l : List ℕ) (o : ℕ) where
   abbrev bs : List Bool
   bs = bits l
+
+  abbrev e : ℕ
+  e = 8 * length l
 
   -- d more ones than zeros from o to before p
   abbrev pub Depth : ℕ → ℕ → Type 0
@@ -44,7 +51,7 @@ module _ (l : List ℕ) (o e : ℕ) where
 
   -- what is sought is what a search from p on finds
   abbrev pub Sought : ℕ → Type 0
-  Sought p = first (balanced bs o) p (e - p) ≡ close bs o e
+  Sought p = first (balanced bs o) p (e - p) ≡ close bs o
 
   unbalanced : (q d : ℕ) → Depth (suc q) d → 0 < d → balanced bs o q ≡ false
   unfolding balanced
@@ -59,10 +66,10 @@ module _ (l : List ℕ) (o e : ℕ) where
 
   pub begun : Sought (o + 1)
   unfolding close
-  begun = rw (add-one o)
+  begun = rw (add-one o, bits-length l)
 
   -- one bit
-  pub bit-found : (p : ℕ) → p < e → Depth (p + 1) 0 → Sought p → p ≡ close bs o e
+  pub bit-found : (p : ℕ) → p < e → Depth (p + 1) 0 → Sought p → p ≡ close bs o
   bit-found p g h s = sym (found (balanced bs o) p e g (balances p (rw add-one at h))) ∙ s
 
   pub bit-passed : (p d : ℕ) → p < e → Depth (p + 1) d → 0 < d → Sought p → Sought (p + 1)
@@ -70,7 +77,7 @@ module _ (l : List ℕ) (o e : ℕ) where
       sym (passed-over (balanced bs o) p 1 e (omega arith) (λ q a b. let i : q ≡ p = omega arith in rw i (unbalanced p d (rw add-one at h) k))) ∙ s
 
   -- one byte, from its start
-  module _ (p d : ℕ) (aligned : p % 8 ≡ 0) (within : p + 8 ≤ 8 * length l) (h : Depth p d) (stays : 8 < d + lowOf (getD l (p / 8) 0)) where
+  module _ (p d : ℕ) (aligned : p % 8 ≡ 0) (within : p < e) (h : Depth p d) (stays : 8 < d + lowOf (getD l (p / 8) 0)) where
     abbrev b : ℕ
     b = getD l (p / 8) 0
 
@@ -89,8 +96,8 @@ module _ (l : List ℕ) (o e : ℕ) where
         let low = lowest-le b j (omega arith) in
         unbalanced q (d + 2 * rank (byte b) (suc j) - suc j) (omega (arith, ap (rank bs) n, ranks (suc j) (omega arith))) (omega arith)
 
-    pub byte-passed : p + 8 ≤ e → Sought p → Sought (p + 8)
-    byte-passed g s = sym (passed-over (balanced bs o) p 8 e g each) ∙ s
+    pub byte-passed : Sought p → Sought (p + 8)
+    byte-passed s = sym (passed-over (balanced bs o) p 8 e (omega arith) each) ∙ s
 
-  pub none-left : (p : ℕ) → p ≡ e → Sought p → e ≡ close bs o e
+  pub none-left : (p : ℕ) → p ≡ e → Sought p → e ≡ close bs o
   none-left p g s = sym (ended (balanced bs o) p e g) ∙ s

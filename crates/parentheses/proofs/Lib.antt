@@ -1,9 +1,12 @@
 pub mod Masks
 pub mod Packed
+pub mod Unpacked
+pub mod Paddeds
 pub mod Ranks
+pub mod Founds
 pub mod Selects
 pub mod Closes
-pub mod Session
-pub mod Trees
-pub mod Unpacked
 pub mod Encloses
+pub mod Subtrees
+pub mod Trees
+pub mod Session

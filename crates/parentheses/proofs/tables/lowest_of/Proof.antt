@@ -1,11 +1,13 @@
--- `parentheses::lowest_of` meets its contract: the table's rule is one test over its 256 entries, which antt computes.
+-- `parentheses::tables::lowest_of` meets its contract: the table's rule is one test over its 256 entries, which antt computes.
 -- Assumes nothing.
 use borrow.Author.Needs.{needs}
-use Rattle.parentheses.specs.Bits.{lowOf, lowTo, excess8, rank, bits, bitOf, digit}
+use Rattle.parentheses.specs.Bits.{bits, bitOf, digit}
+use Rattle.parentheses.specs.Rank.{rank}
+use Rattle.parentheses.specs.Tables.{lowOf, lowTo, excess8}
 use Rattle.lists.specs.Tab.{tab}
 use Rattle.lists.proofs.Tabs.{tab-at}
-use Rattle.parentheses.proofs.lowest_of.Statement.{statement}
-use Rattle.parentheses.proofs.lowest_of.Tie as tie
+use Rattle.parentheses.proofs.tables.lowest_of.Statement.{statement}
+use Rattle.parentheses.proofs.tables.lowest_of.Tie as tie
 
 array-read-result : tie.Need-array-read-result
 array-read-result c = search needs

@@ -1,4 +1,4 @@
--- `parentheses::ones_of` meets its contract: the table's rule is one test over its 256 entries, which antt computes.
+-- `parentheses::tables::ones_of` meets its contract: the table's rule is one test over its 256 entries, which antt computes.
 -- Assumes nothing.
 use mathlib.Core.Path.{_≡_}
 use native.Mathlib.Nat.{le-trans, le-of-eq}
@@ -6,10 +6,12 @@ use lib.ListN.{getD}
 use Rattle.lists.specs.Tab.{tab}
 use Rattle.parentheses.proofs.Ranks.{ones-le}
 use borrow.Author.Needs.{needs}
-use Rattle.parentheses.specs.Bits.{onesOf, rank, bits, bitOf, digit}
+use Rattle.parentheses.specs.Bits.{bits, bitOf, digit}
+use Rattle.parentheses.specs.Rank.{rank}
+use Rattle.parentheses.specs.Tables.{onesOf}
 use Rattle.lists.proofs.Tabs.{tab-at}
-use Rattle.parentheses.proofs.ones_of.Statement.{statement}
-use Rattle.parentheses.proofs.ones_of.Tie as tie
+use Rattle.parentheses.proofs.tables.ones_of.Statement.{statement}
+use Rattle.parentheses.proofs.tables.ones_of.Tie as tie
 
 array-read-result : tie.Need-array-read-result
 array-read-result c = search needs
