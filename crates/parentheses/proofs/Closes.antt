@@ -5,7 +5,6 @@ use mathlib.Core.Bool.{Bool, true, false}
 use mathlib.Core.List.{List, [], _∷_}
 use Prim.Native.Nat.{ℕ, zero, suc, _+_, _-_, _*_, _/_, _%_, _≤_, _<_}
 use native.Mathlib.Numerals.{add-one}
-use native.Mathlib.Decide.{ℕ-discrete}
 use native.Mathlib.Omega.{arith}
 use borrow.Author.Tests.{eq-eqb, ne-eqb}
 use lib.ListN.{getD, length}
@@ -13,28 +12,11 @@ use Rattle.lists.specs.First.{first}
 use Rattle.parentheses.specs.Bits.{bits}
 use Rattle.parentheses.specs.Rank.{num, rank}
 use Rattle.parentheses.specs.Close.{balanced, close}
-use Rattle.parentheses.specs.Tables.{onesOf, excess8, lowTo, lowOf}
+use Rattle.parentheses.specs.Tables.{onesOf}
+use Rattle.parentheses.proofs.Margins.{margin, margin-le, margin-whole}
 use Rattle.parentheses.proofs.Packed.{bits-length}
-use Rattle.parentheses.proofs.Ranks.{byte, byte-ones, ones-le, rank-le, rank-suc, rank-byte}
+use Rattle.parentheses.proofs.Ranks.{byte, byte-ones, ones-le, rank-suc, rank-byte}
 use Rattle.lists.proofs.Firsts.{passed-over, found, ended}
-
--- ---- the lowest excess of a byte is at most that after each of its bits
-
-low-le : (bs : List Bool) (n j : ℕ) → j ≤ n → lowTo bs n ≤ excess8 bs (suc j)
-unfolding lowTo
-low-le bs zero zero h = omega arith
-low-le bs zero (suc j) h = absurd (omega arith)
-low-le bs (suc n) j h = elim (ℕ-discrete j (suc n)) [ yes e ↦ rw e (omega arith) | no m ↦ omega (arith, low-le bs n j (omega arith)) ]
-
-pub lowest-le : (b j : ℕ) → j < 8 → lowOf b + suc j ≤ 2 * rank (byte b) (suc j) + 8
-unfolding lowOf excess8
-lowest-le b j h = omega (arith, low-le (byte b) 7 j (omega arith))
-
-pub lowest-whole : (b : ℕ) → lowOf b ≤ 2 * onesOf b
-lowest-whole b = omega (arith, lowest-le b 7 (omega arith), byte-ones b)
-
-pub lowest-small : (b : ℕ) → lowOf b ≤ 9
-lowest-small b = omega (arith, lowest-le b 0 (omega arith), rank-le (byte b) 1)
 
 -- ---- the search, of the parenthesis at o
 
@@ -77,7 +59,7 @@ module _ (l : List ℕ) (o : ℕ) where
       sym (passed-over (balanced bs o) p 1 e (omega arith) (λ q a b. let i : q ≡ p = omega arith in rw i (unbalanced p d (rw add-one at h) k))) ∙ s
 
   -- one byte, from its start
-  module _ (p d : ℕ) (aligned : p % 8 ≡ 0) (within : p < e) (h : Depth p d) (stays : 8 < d + lowOf (getD l (p / 8) 0)) where
+  module _ (p d : ℕ) (aligned : p % 8 ≡ 0) (within : p < e) (h : Depth p d) (stays : 8 < d + margin (getD l (p / 8) 0)) where
     abbrev b : ℕ
     b = getD l (p / 8) 0
 
@@ -87,13 +69,13 @@ module _ (l : List ℕ) (o : ℕ) where
         ap (λ (x : ℕ). rank bs (x + j)) i ∙ rank-byte l (p / 8) j (omega arith) g ∙ ap (λ (x : ℕ). rank bs x + rank (byte b) j) (sym i)
 
     pub byte-depth : Depth (p + 8) (d + onesOf b - (8 - onesOf b))
-    byte-depth = omega (arith, ranks 8 (omega arith), byte-ones b, ones-le b, lowest-whole b)
+    byte-depth = omega (arith, ranks 8 (omega arith), byte-ones b, ones-le b, margin-whole b)
 
     each : (q : ℕ) → p ≤ q → q < p + 8 → balanced bs o q ≡ false
     each q g k =
         let j = q - p in
         let n : suc q ≡ p + suc j = omega arith in
-        let low = lowest-le b j (omega arith) in
+        let low = margin-le b j (omega arith) in
         unbalanced q (d + 2 * rank (byte b) (suc j) - suc j) (omega (arith, ap (rank bs) n, ranks (suc j) (omega arith))) (omega arith)
 
     pub byte-passed : Sought p → Sought (p + 8)

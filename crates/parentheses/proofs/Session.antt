@@ -4,19 +4,20 @@ use mathlib.Core.Path.{_≡_, refl}
 use mathlib.Core.Bool.{Bool, true, false}
 use mathlib.Core.List.{List, [], _∷_}
 use Prim.Native.Nat.{ℕ, _+_}
+use lib.IntN.{pos, negsuc}
 use Rattle.lists.specs.Tab.{tab}
 use Rattle.lists.specs.First.{first}
 use Rattle.parentheses.specs.Bits.{digit, bitOf, bits}
 use Rattle.parentheses.specs.Rank.{rank, select}
-use Rattle.parentheses.specs.Close.{balanced, close}
+use Rattle.parentheses.specs.Close.{excess, balanced, close}
 use Rattle.parentheses.specs.Subtree.{after}
 use Rattle.parentheses.specs.Enclose.{last, opens, enclosing}
 use Rattle.parentheses.specs.declared.Found.the-variants.{At, Nothing}
-use Rattle.parentheses.specs.Tables.{onesOf, excess8, lowTo, lowOf}
+use Rattle.parentheses.specs.Tables.{onesOf, lower, lowest, lowestOf}
 
--- ones and eight more than the lowest excess of 55 and 6: 5 and 1, 2 and -4
-tables : (onesOf 55 ≡ 5) × (lowOf 55 ≡ 9) × (onesOf 6 ≡ 2) × (lowOf 6 ≡ 4)
-unfolding digit bitOf bits rank onesOf excess8 lowTo lowOf tab
+-- ones and the lowest excess of 55 and 6: 5 and 1, 2 and -4
+tables : (onesOf 55 ≡ 5) × (lowestOf 55 ≡ pos 1) × (onesOf 6 ≡ 2) × (lowestOf 6 ≡ negsuc 3)
+unfolding digit bitOf bits rank onesOf excess lower lowest lowestOf tab
 tables = (refl, refl, refl, refl)
 
 abbrev session : List Bool
