@@ -5,6 +5,7 @@ pub mod Paddeds
 pub mod Ranks
 pub mod Founds
 pub mod Selects
+pub mod Excesses
 pub mod Margins
 pub mod Closes
 pub mod Encloses
