@@ -1,0 +1,168 @@
+// Square matrices of bits, 2,048 rows of 32 words, each function with its contract over `bitOf`.
+ghost use mathlib.Core.Path.{_≡_};
+ghost use Prim.Native.Nat.{ℕ, _+_, _-_, _*_, _<_, _≤_};
+ghost use lib.ListN.{length, replicate};
+ghost use Rattle.lists.specs.First.{first};
+ghost use Rattle.relation.specs.Matrix.{bitOf, common, Inserted, United, Gathered, Columned, Multiplied, Transposed};
+
+// Whether bit i of row r is set.
+pub fn test(m: &[u64], r: usize, i: usize) -> bool
+    requires { ⌜ (length (now m) ≡ 65536) × (r < 2048) × (i < 2048) ⌝ }
+    ensures { λ b. ⌜ b ≡ bitOf (now (m .entry)) r i ⌝ }
+{
+    (m[r * 32 + i / 64] >> (i % 64)) & 1 == 1
+}
+
+// Sets bit i of row r.
+pub fn insert(m: &mut [u64], r: usize, i: usize)
+    requires { ⌜ (length (now m) ≡ 65536) × (r < 2048) × (i < 2048) ⌝ }
+    ensures { λ _. ⌜ Inserted (now (m .entry)) (now (m .exit)) r i ⌝ }
+{
+    let w = r * 32 + i / 64;
+    m[w] = m[w] | (1 << (i % 64));
+}
+
+// Puts row s of src into row d of dst.
+pub fn union_row(dst: &mut [u64], d: usize, src: &[u64], s: usize)
+    requires { ⌜ (length (now dst) ≡ 65536) × (length (now src) ≡ 65536) × (d < 2048) × (s < 2048) ⌝ }
+    ensures { λ _. ⌜ United (now (dst .entry)) (now (dst .exit)) d (now (src .entry)) s ⌝ }
+{
+    let a = d * 32;
+    let b = s * 32;
+    let mut i: usize = 0;
+    while i < 32 {
+        dst[a + i] = dst[a + i] | src[b + i];
+        i += 1;
+    }
+}
+
+// Puts row s of m into row d of m.
+pub fn union_within(m: &mut [u64], d: usize, s: usize)
+    requires { ⌜ (length (now m) ≡ 65536) × (d < 2048) × (s < 2048) ⌝ }
+    ensures { λ _. ⌜ United (now (m .entry)) (now (m .exit)) d (now (m .entry)) s ⌝ }
+{
+    let a = d * 32;
+    let b = s * 32;
+    let mut i: usize = 0;
+    while i < 32 {
+        m[a + i] = m[a + i] | m[b + i];
+        i += 1;
+    }
+}
+
+// Whether row r of m and row s of n have a bit in common.
+pub fn meet(m: &[u64], r: usize, n: &[u64], s: usize) -> bool
+    requires { ⌜ (length (now m) ≡ 65536) × (length (now n) ≡ 65536) × (r < 2048) × (s < 2048) ⌝ }
+    ensures { λ t. ⌜ t ≡ common (now (m .entry)) r (now (n .entry)) s ⌝ }
+{
+    let a = r * 32;
+    let b = s * 32;
+    let mut i: usize = 0;
+    while i < 32 {
+        if m[a + i] & n[b + i] != 0 {
+            return true;
+        }
+        i += 1;
+    }
+    false
+}
+
+// Clears every bit.
+pub fn clear(m: &mut [u64])
+    ensures { λ _. ⌜ now (m .exit) ≡ replicate (length (now (m .entry))) 0 ⌝ }
+{
+    let mut i: usize = 0;
+    while i < m.len() {
+        m[i] = 0;
+        i += 1;
+    }
+}
+
+// The first set bit of row r from word w on; 2,048 where there is none.
+fn next_word(m: &[u64], r: usize, w: usize) -> usize
+    requires { ⌜ (length (now m) ≡ 65536) × (r < 2048) × (w ≤ 32) ⌝ }
+    ensures { λ p. ⌜ p ≡ first (bitOf (now (m .entry)) r) (w * 64) (2048 - w * 64) ⌝ }
+{
+    let a = r * 32;
+    let mut i = w;
+    while i < 32 {
+        let x = m[a + i];
+        if x != 0 {
+            return i * 64 + u64::trailing_zeros(x) as usize;
+        }
+        i += 1;
+    }
+    2048
+}
+
+// The first set bit of row r from column `from` on; 2,048 where there is none. Words that are 0 are passed over whole.
+pub fn next_bit(m: &[u64], r: usize, from: usize) -> usize
+    requires { ⌜ (length (now m) ≡ 65536) × (r < 2048) × (from ≤ 2048) ⌝ }
+    ensures { λ p. ⌜ p ≡ first (bitOf (now (m .entry)) r) from (2048 - from) ⌝ }
+{
+    if 2048 <= from {
+        return 2048;
+    }
+    let x = m[r * 32 + from / 64] >> (from % 64);
+    if x != 0 {
+        return from + u64::trailing_zeros(x) as usize;
+    }
+    next_word(m, r, from / 64 + 1)
+}
+
+// Row r of the product of a and b is put into row r of dst.
+pub fn gather(dst: &mut [u64], a: &[u64], r: usize, b: &[u64])
+    requires { ⌜ (length (now dst) ≡ 65536) × (length (now a) ≡ 65536) × (length (now b) ≡ 65536) × (r < 2048) ⌝ }
+    ensures { λ _. ⌜ Gathered (now (dst .entry)) (now (dst .exit)) (now (a .entry)) r (now (b .entry)) ⌝ }
+{
+    let mut from: usize = 0;
+    while from < 2048 {
+        let x = next_bit(a, r, from);
+        if 2048 <= x {
+            return;
+        }
+        union_row(dst, r, b, x);
+        from = x + 1;
+    }
+}
+
+// The rows below n of the product of a and b are put into dst.
+pub fn product(dst: &mut [u64], a: &[u64], b: &[u64], n: usize)
+    requires { ⌜ (length (now dst) ≡ 65536) × (length (now a) ≡ 65536) × (length (now b) ≡ 65536) × (n ≤ 2048) ⌝ }
+    ensures { λ _. ⌜ Multiplied (now (dst .entry)) (now (dst .exit)) (now (a .entry)) (now (b .entry)) n ⌝ }
+{
+    let mut r: usize = 0;
+    while r < n {
+        gather(dst, a, r, b);
+        r += 1;
+    }
+}
+
+// Row r of src is put into column c of dst.
+pub fn union_column(dst: &mut [u64], c: usize, src: &[u64], r: usize)
+    requires { ⌜ (length (now dst) ≡ 65536) × (length (now src) ≡ 65536) × (c < 2048) × (r < 2048) ⌝ }
+    ensures { λ _. ⌜ Columned (now (dst .entry)) (now (dst .exit)) c (bitOf (now (src .entry)) r) ⌝ }
+{
+    let mut from: usize = 0;
+    while from < 2048 {
+        let x = next_bit(src, r, from);
+        if 2048 <= x {
+            return;
+        }
+        insert(dst, x, c);
+        from = x + 1;
+    }
+}
+
+// The rows below n of src become the columns of dst, whose other bits are cleared.
+pub fn transpose(dst: &mut [u64], src: &[u64], n: usize)
+    requires { ⌜ (length (now dst) ≡ 65536) × (length (now src) ≡ 65536) × (n ≤ 2048) ⌝ }
+    ensures { λ _. ⌜ Transposed (now (src .entry)) (now (dst .exit)) n ⌝ }
+{
+    clear(dst);
+    let mut r: usize = 0;
+    while r < n {
+        union_column(dst, r, src, r);
+        r += 1;
+    }
+}
