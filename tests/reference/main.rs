@@ -348,14 +348,18 @@ fn small_plan(random: &mut Random) -> Plan {
     Plan { shape: random.pick(&SHAPES), pieces, records: random.range(1, 40), facts: random.below(2 * pieces + 1), fill: false }
 }
 
-fn small_sound(random: &mut Random) -> Case {
-    let plan = small_plan(random);
-    let book = sound(random, plan);
-    // the largest number named may be below the plan's, and then some claims are beyond the book
+/// The book with all claims about every two of its pieces.
+fn small_case(random: &mut Random, book: &[Bytes]) -> Case {
     let largest = book.iter().map(|r| if r[0] == TRAY { r[2] } else { r[2].max(r[4]) }).max().unwrap();
     let mut claims = all_claims(usize::from(largest) + 1);
     random.shuffle(&mut claims);
-    case(random, &book, &claims)
+    case(random, book, &claims)
+}
+
+fn small_sound(random: &mut Random) -> Case {
+    let plan = small_plan(random);
+    let book = sound(random, plan);
+    small_case(random, &book)
 }
 
 fn small_contradictory(random: &mut Random) -> Case {
@@ -363,8 +367,18 @@ fn small_contradictory(random: &mut Random) -> Case {
     let mut book = sound(random, plan);
     let facts = random.range(1, 5);
     contradict(random, &mut book, plan.pieces, facts);
-    let claims = claims(random, 1, 5);
-    case(random, &book, &claims)
+    small_case(random, &book)
+}
+
+/// Bytes out of nowhere, most of them low.
+fn junk(random: &mut Random) -> Case {
+    let mut bytes = |end: usize| -> Vec<u8> {
+        let length = 6 * random.below(end) + if random.one_in(6) { random.below(6) } else { 0 };
+        (0..length).map(|_| if random.one_in(30) { random.next() as u8 } else { random.pick(&[0, 0, 0, 1, 2, 3, 4]) }).collect()
+    };
+    let (book, claims) = (bytes(6), bytes(4));
+    let lengths = enough(random, claims.len() / 6);
+    Case { book, claims, lengths }
 }
 
 fn damaged(random: &mut Random, number: usize) -> Case {
@@ -397,9 +411,12 @@ fn middle(random: &mut Random, shape: Shape, number: usize) -> Case {
     let plan = middle_plan(random, shape);
     let mut book = sound(random, plan);
     if number % 4 == 3 {
-        contradict(random, &mut book, plan.pieces, 1 + number % 3);
+        contradict(random, &mut book, plan.pieces, 1 + number % 20);
     }
-    // 2 to 3 in a hundred books do not name the last pieces: then row 13 refuses
+    // where the last pieces are not named, row 13 refuses claims about them
+    if !random.one_in(10) && book.len() < 8192 {
+        book.push(record(TRAY, plan.pieces - 1, 65535));
+    }
     let asked = [claims(random, plan.pieces, 500), near_claims(random, plan.pieces, 500)].concat();
     case(random, &book, &asked)
 }
@@ -445,6 +462,7 @@ fn run() -> bool {
     tally.group("small, facts thrown in", 2000, |random, _| small_contradictory(random));
     tally.group("damaged", 3000, damaged);
     tally.group("short buffers", 1000, short_buffers);
+    tally.group("junk", 1000, |random, _| junk(random));
     for shape in SHAPES {
         tally.group(&format!("100 to 300 pieces, {shape:?}"), 40, |random, number| middle(random, shape, number));
     }

@@ -164,12 +164,33 @@ impl Table {
         new != 0
     }
 
-    /// Makes the table its own mirror image, by joining the two.
-    fn mirror(&mut self) {
+    /// Puts k into row g wherever h is in row g of `first` and k in row h of `second`; whether that was new.
+    fn spread(&mut self, first: &Table, second: &Table) -> bool {
+        let mut new = false;
+        for g in 0..self.rows() {
+            for h in first.members(g) {
+                new |= self.join(g, second.row(h));
+            }
+        }
+        new
+    }
+
+    /// The mirror image.
+    fn turned(&self) -> Table {
+        let mut other = Table::new(self.rows());
         for g in 0..self.rows() {
             for k in self.members(g) {
-                self.set(k, g);
+                other.set(k, g);
             }
+        }
+        other
+    }
+
+    /// Joins the mirror image.
+    fn mirror(&mut self) {
+        let turned = self.turned();
+        for (mine, theirs) in self.bits.iter_mut().zip(&turned.bits) {
+            *mine |= theirs;
         }
     }
 
@@ -208,56 +229,26 @@ impl Rows {
         all
     }
 
+    /// Applies every rule to all rows; whether a fact was new.
     fn round(&mut self) -> bool {
+        let Rows { part, apart, meets, notpart } = self;
+        let n = part.rows();
         let mut new = false;
-        let n = self.part.rows();
-        // (a) g PART h, h PART k: g PART k. Upward from 0, so that most rows are whole at once where containers have lower numbers.
+        // (a) g PART h, h PART k: g PART k. From 0 up: where containers have lower numbers, their rows are whole by then.
         for g in 0..n {
-            for h in self.part.members(g) {
-                let row = self.part.row(h).to_vec();
-                new |= self.part.join(g, &row);
+            for h in part.members(g) {
+                let row = part.row(h).to_vec();
+                new |= part.join(g, &row);
             }
         }
-        // (b) g PART h, h APART k: g APART k
-        for g in 0..n {
-            for h in self.part.members(g) {
-                let row = self.apart.row(h).to_vec();
-                new |= self.apart.join(g, &row);
-            }
-        }
-        self.apart.mirror();
-        // (c') h PART k, g MEETS h: g MEETS k
-        for g in 0..n {
-            for h in self.meets.members(g) {
-                new |= self.meets.join(g, self.part.row(h));
-            }
-        }
-        self.meets.mirror();
-        // (d') g MEETS h, k APART h: g NOTPART k
-        for g in 0..n {
-            for h in self.meets.members(g) {
-                new |= self.notpart.join(g, self.apart.row(h));
-            }
-        }
-        // (a') g PART h, g NOTPART k: h NOTPART k
-        for g in (0..n).rev() {
-            let row = self.notpart.row(g).to_vec();
-            for h in self.part.members(g) {
-                new |= self.notpart.join(h, &row);
-            }
-        }
-        // (b') g NOTPART k, h PART k: g NOTPART h
-        let mut parts = Table::new(n);
-        for h in 0..n {
-            for k in self.part.members(h) {
-                parts.set(k, h);
-            }
-        }
-        for g in 0..n {
-            for k in self.notpart.members(g) {
-                new |= self.notpart.join(g, parts.row(k));
-            }
-        }
+        let parts = part.turned();
+        new |= apart.spread(part, &apart.clone()); // (b) g PART h, h APART k: g APART k
+        apart.mirror();
+        new |= meets.spread(&meets.clone(), part); // (c') g MEETS h, h PART k: g MEETS k
+        meets.mirror();
+        new |= notpart.spread(meets, apart); // (d') g MEETS h, h APART k: g NOTPART k
+        new |= notpart.spread(&parts, &notpart.clone()); // (a') g PART h, g NOTPART k: h NOTPART k
+        new |= notpart.spread(&notpart.clone(), &parts); // (b') g NOTPART k, h PART k: g NOTPART h
         new
     }
 }
