@@ -428,57 +428,39 @@ fn largest(random: &mut Random, shape: Shape, facts: usize) -> Case {
     case(random, &book, &asked)
 }
 
-/// The same with a contradiction: two pieces that share a part are APART, in the record of the given number.
+/// The same with a contradiction: the record of the given number says that a part and its container are APART.
 fn largest_contradictory(random: &mut Random, shape: Shape, place: usize) -> Case {
     let mut case = largest(random, shape, 3000);
     let part = case.book.chunks(6).find(|r| r[0] == PART && (r[4] > 0 || r[5] > 0)).expect("a part of another piece than 0").to_vec();
-    let mut apart = part.clone();
-    apart[0] = APART;
-    case.book[place * 6..][..6].copy_from_slice(&apart);
-    // the record that the APART took the place of may have been the part itself
-    case.book[(place + 8000) % 8192 * 6..][..6].copy_from_slice(&part);
-    case.book = distinct(&case.book);
+    case.book[place * 6] = APART;
+    case.book[place * 6 + 1..][..5].copy_from_slice(&part[1..]);
     case
 }
 
-fn distinct(book: &[u8]) -> Vec<u8> {
-    let mut seen = std::collections::HashSet::new();
-    let mut spare = (0..).map(|tray| record(TRAY, 2047, tray));
-    let mut all = vec![];
-    for bytes in book.chunks(6) {
-        let mut next: Bytes = bytes.try_into().unwrap();
-        while !seen.insert(next) {
-            next = spare.next().unwrap();
-        }
-        all.extend(next);
-    }
-    all
-}
-
-fn run() -> bool {
+/// Compares them all, `times` as many random books where that is more than once.
+fn run(times: usize) -> bool {
     let mut tally = Tally { random: Random(1), passed: 0, failed: 0 };
     examples(&mut tally);
-    tally.group("small, from a laying", 2000, |random, _| small_sound(random));
-    tally.group("small, facts thrown in", 2000, |random, _| small_contradictory(random));
-    tally.group("damaged", 3000, damaged);
-    tally.group("short buffers", 1000, short_buffers);
-    tally.group("junk", 1000, |random, _| junk(random));
+    tally.group("small, from a laying", 3000 * times, |random, _| small_sound(random));
+    tally.group("small, facts thrown in", 3000 * times, |random, _| small_contradictory(random));
+    tally.group("damaged", 4000 * times, damaged);
+    tally.group("short buffers", 1000 * times, short_buffers);
+    tally.group("junk", 1000 * times, |random, _| junk(random));
     for shape in SHAPES {
-        tally.group(&format!("100 to 300 pieces, {shape:?}"), 40, |random, number| middle(random, shape, number));
+        tally.group(&format!("100 to 300 pieces, {shape:?}"), 40 * times, |random, number| middle(random, shape, number));
     }
     tally.group("most nodes", 1, |random, _| {
         let asked = claims(random, 2048, 4096);
         case(random, &widest(), &asked)
     });
     for shape in SHAPES {
-        tally.group(&format!("2,048 pieces, 8,192 records, 4,096 claims, {shape:?}"), 2, |random, number| {
-            largest(random, shape, 1000 + 3000 * number)
+        tally.group(&format!("2,048 pieces, 8,192 records, 4,096 claims, {shape:?}"), 2 * times, |random, number| {
+            largest(random, shape, 1000 + 3000 * (number % 2))
         });
     }
     for shape in SHAPES {
-        tally.group(&format!("2,048 pieces, 8,192 records, contradictory, {shape:?}"), 3, |random, number| {
-            let place = [8191, 4000, 100][number];
-            largest_contradictory(random, shape, place)
+        tally.group(&format!("2,048 pieces, 8,192 records, contradictory, {shape:?}"), 3 * times, |random, number| {
+            largest_contradictory(random, shape, [8191, 4000, 100][number % 3])
         });
     }
     println!("{} passed, {} failed", tally.passed, tally.failed);
@@ -486,5 +468,6 @@ fn run() -> bool {
 }
 
 fn main() {
-    std::process::exit(if run() { 0 } else { 1 });
+    let times = std::env::args().nth(1).map_or(1, |times| times.parse().expect("a number of times"));
+    std::process::exit(if run(times) { 0 } else { 1 });
 }

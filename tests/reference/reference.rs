@@ -294,7 +294,6 @@ fn judge_whole(book: &[u8], claims: Option<&[u8]>, lengths: Lengths, doubt: &mut
 /// What the call that answers claims, or without claims the one that writes the index alone, must return and do.
 pub fn judge(book: &[u8], claims: Option<&[u8]>, lengths: Lengths) -> Expected {
     let mut doubt = None;
-    let (outcome, change) =
-        judge_whole(book, claims, lengths, &mut doubt).unwrap_or_else(|refusal| refused(refusal, Change::Nothing));
+    let (outcome, change) = judge_whole(book, claims, lengths, &mut doubt).unwrap_or_else(|refusal| refused(refusal, Change::Nothing));
     Expected { outcome, change, doubt }
 }
