@@ -1,0 +1,14 @@
+pub mod Masks
+pub mod Packed
+pub mod Unpacked
+pub mod Paddeds
+pub mod Ranks
+pub mod Founds
+pub mod Selects
+pub mod Excesses
+pub mod Margins
+pub mod Closes
+pub mod Encloses
+pub mod Subtrees
+pub mod Trees
+pub mod Session
