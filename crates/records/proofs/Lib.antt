@@ -1,6 +1,9 @@
 pub mod Rows
-pub mod Claims
+pub mod Runs
+pub mod Accepted
+pub mod Examples
 mod Records
-pub mod Scans
-pub mod Keys
-pub mod Books
+mod Scans
+mod Keys
+mod Books
+mod Claims
