@@ -1,0 +1,2 @@
+// What C and Rust programs link: thin wrappers, a module for each crate.
+pub mod relation_c;
