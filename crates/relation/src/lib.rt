@@ -22,7 +22,7 @@ pub fn insert(m: &mut [u64], r: usize, i: usize)
     m[w] = m[w] | (1 << (i % 64));
 }
 
-// Puts row s of src into row d of dst.
+// Puts row s of src into row d of dst. Two words a turn, both read before either is written: such a pair is one vector.
 pub fn union_row(dst: &mut [u64], d: usize, src: &[u64], s: usize)
     requires { ⌜ (length (now dst) ≡ 65536) × (length (now src) ≡ 65536) × (d < 2048) × (s < 2048) ⌝ }
     ensures { λ _. ⌜ United (now (dst .entry)) (now (dst .exit)) d (now (src .entry)) s ⌝ }
@@ -31,8 +31,12 @@ pub fn union_row(dst: &mut [u64], d: usize, src: &[u64], s: usize)
     let b = s * 32;
     let mut i: usize = 0;
     while i < 32 {
-        dst[a + i] = dst[a + i] | src[b + i];
-        i += 1;
+        let j = i + 1;
+        let x = dst[a + i] | src[b + i];
+        let y = dst[a + j] | src[b + j];
+        dst[a + i] = x;
+        dst[a + j] = y;
+        i += 2;
     }
 }
 
