@@ -20,3 +20,4 @@ mod Walking
 mod Resolution
 mod Joins
 mod Buildings
+pub mod Derived

@@ -10,8 +10,8 @@ use lib.Seq.{getD-set-same, getD-set-other}
 use Rattle.lists.proofs.Tabs.{tab-at, tab-length}
 use Rattle.containment.specs.Pairs.{Book}
 use Rattle.containment.specs.Tree.{Visit, node, shadow, whole, visits}
-use Rattle.containment.specs.Parts.{place, shadows, shadowList, placeList}
-use Rattle.containment.specs.Index.{visitsOf, Indexed}
+use Rattle.containment.specs.Parts.{place, marks, isShadow, shadows, shadowList, placeList}
+use Rattle.containment.specs.Index.{parenthesesOf, visitsOf, Room, Indexed}
 use Rattle.containment.specs.Steps.{Walked, Resolvable, Resolved}
 use Rattle.containment.proofs.Numbers.{_∈_}
 use Rattle.containment.proofs.Below.{piece}
@@ -64,28 +64,28 @@ module _ (n : ℕ) (edge : ℕ → ℕ → Bool) (B : Book n edge) (ps mks sh pl
     known = λ j l. let c = D .shadowed-are in rw (D .pieces-are j (omega arith)) (omega (arith, piece-small j (omega arith)));
   }
 
-  pub index-is : (sh′ : List ℕ) → length (shadows (visitsOf n edge)) ≤ length sh → Resolved sh pl m sh′
-      → ((i : ℕ) → getD ps i 0 < 256) → ((i : ℕ) → getD mks i 0 < 256) → Indexed n edge ps mks sh′ pl k m
-  unfolding U
-  index-is sh′ a Q small₁ small₂ = record {
-    parens-are = by-bits ps _ small₁ (λ i l. D .parens-are i);
-    marks-are = by-bits mks _ small₂ (λ i l. D .marks-are i);
-    shadows-are = unfold shadowList in by-places sh′ (map (place U) (shadows U)) (λ j l. shadow-case j (omega (arith, Q .same)) (decLt j m));
-    places-are = by-places pl (placeList n U) (λ q l. place-case q (decLt q n));
-    nodes-are = D .nodes-are;
-    shadowed-are = D .shadowed-are;
-  }
-    where
-      place-case : (q : ℕ) → Dec (q < n) → getD pl q 0 ≡ getD (placeList n U) q 0
-      place-case q (yes l) = D .places-are q l ∙ (unfold placeList in sym (tab-at (place U) n q 0 l))
-      place-case q (no x) = D .spare q (omega arith) ∙ (unfold placeList in sym (List·getD-eq-default (placeList n U) 0 {n = q} (omega (arith, tab-length (place U) 0 n))))
+  module _ (R : Room n edge (length ps) (length mks) (length sh) (length pl)) where
+    pub index-is : (sh′ : List ℕ) → Resolved sh pl m sh′ → ((i : ℕ) → getD ps i 0 < 256) → ((i : ℕ) → getD mks i 0 < 256) → Indexed n edge ps mks sh′ pl k m
+    unfolding U
+    index-is sh′ Q small₁ small₂ = record {
+      parens-are = by-bits ps (parenthesesOf n edge) (R .parens) small₁ (D .parens-are);
+      marks-are = by-bits mks (marks U) (unfold marks in rw (length-map U isShadow) (R .marks)) small₂ (D .marks-are);
+      shadows-are = unfold shadowList in by-places 0 sh′ (map (place U) (shadows U)) (rw (length-map (shadows U) (place U), Q .same) (R .shadows)) (λ j l. shadow-case j (omega (arith, Q .same)) (decLt j m));
+      places-are = by-places 0 pl (placeList n U) (unfold placeList in rw (tab-length (place U) 0 n) (R .places)) (λ q l. place-case q (decLt q n));
+      nodes-are = D .nodes-are;
+      shadowed-are = D .shadowed-are;
+    }
+      where
+        place-case : (q : ℕ) → Dec (q < n) → getD pl q 0 ≡ getD (placeList n U) q 0
+        place-case q (yes l) = D .places-are q l ∙ (unfold placeList in sym (tab-at (place U) n q 0 l))
+        place-case q (no x) = D .spare q (omega arith) ∙ (unfold placeList in sym (List·getD-eq-default (placeList n U) 0 {n = q} (omega (arith, tab-length (place U) 0 n))))
 
-      shadow-case : (j : ℕ) → j < length sh → Dec (j < m) → getD sh′ j 0 ≡ getD (map (place U) (shadows U)) j 0
-      shadow-case j b (yes l) =
-          let c = D .shadowed-are in
-          Q .changed j l ∙ ap (λ (q : ℕ). getD pl q 0) (D .pieces-are j b) ∙ D .places-are (getD (shadows U) j 0) (piece-small j (omega arith))
-          ∙ sym (getD-map-in (place U) (shadows U) j (omega arith))
-      shadow-case j b (no x) =
-          let c = D .shadowed-are in
-          Q .kept j (omega arith) ∙ D .pieces-are j b ∙ List·getD-eq-default (shadows U) 0 {n = j} (omega arith)
-          ∙ sym (List·getD-eq-default (map (place U) (shadows U)) 0 {n = j} (omega (arith, length-map (shadows U) (place U))))
+        shadow-case : (j : ℕ) → j < length sh → Dec (j < m) → getD sh′ j 0 ≡ getD (map (place U) (shadows U)) j 0
+        shadow-case j b (yes l) =
+            let c = D .shadowed-are in
+            Q .changed j l ∙ ap (λ (q : ℕ). getD pl q 0) (D .pieces-are j b) ∙ D .places-are (getD (shadows U) j 0) (piece-small j (omega arith))
+            ∙ sym (getD-map-in (place U) (shadows U) j (omega arith))
+        shadow-case j b (no x) =
+            let c = D .shadowed-are in
+            Q .kept j (omega arith) ∙ D .pieces-are j b ∙ List·getD-eq-default (shadows U) 0 {n = j} (omega arith)
+            ∙ sym (List·getD-eq-default (map (place U) (shadows U)) 0 {n = j} (omega (arith, length-map (shadows U) (place U))))

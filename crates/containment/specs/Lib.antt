@@ -7,3 +7,4 @@ pub mod Index
 pub mod Inside
 pub mod Matrix
 pub mod Steps
+pub mod Stored

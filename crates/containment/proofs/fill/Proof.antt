@@ -61,7 +61,8 @@ returns : tie.Need-returns
 returns c =
     let s = c .before .before .before .before .before .before .before .before .before .before .before .before .before .before .before .before .before .before .before .before .before .before .before .before .before .before .before .before .before .before .before .before .before .before .before .before .before .before .before .before in
     let w = c .before .before .before .before .before .before .before .before .before .before .before .before .before .walk in
-    index-is _ _ (s .pre .book) _ _ _ _ _ _ (w .ensures) _ (omega (arith, s .pre .room .shadows, c .before .before .before .before .before .before .before .before .before .before .before .before .before .before .before .before .before .before .before .before .before .before .before .before .clear3 .kept .0, w .kept .1 .1 .1 .1 .1 .0)) (c .before .before .resolve .ensures)
+    let R = resized (s .pre) (w .kept .1 .1 .1 .0 ∙ c .before .before .before .before .before .before .before .before .before .before .before .before .before .before .before .before .before .before .before .before .before .before .before .before .before .before .before .before .before .before .before .before .clear .kept .0) (w .kept .1 .1 .1 .1 .0 ∙ c .before .before .before .before .before .before .before .before .before .before .before .before .before .before .before .before .before .before .before .before .before .before .before .before .before .before .before .before .clear2 .kept .0) (w .kept .1 .1 .1 .1 .1 .0 ∙ c .before .before .before .before .before .before .before .before .before .before .before .before .before .before .before .before .before .before .before .before .before .before .before .before .clear3 .kept .0) (w .kept .1 .1 .1 .1 .1 .1 .0 ∙ c .before .before .before .before .before .before .before .before .before .before .before .before .before .before .before .before .before .before .before .before .clear4 .kept .0) in
+    index-is _ _ (s .pre .book) _ _ _ _ _ _ (w .ensures) (R .room) _ (c .before .before .resolve .ensures)
     (λ i. omega (arith, c .before .before .before .before .before .before .before .before .before .before .before .slice-known9 .given i)) (λ i. omega (arith, c .before .before .before .before .before .before .before .before .before .slice-known10 .given i))
 
 pub fill-spec : {M : Type 1} → statement M
