@@ -1,0 +1,12 @@
+pub mod Facts
+pub mod Paths
+pub mod Reach
+pub mod Decides
+pub mod Sound
+pub mod Canonical
+pub mod Added
+pub mod Models
+pub mod Verdicts
+pub mod More
+pub mod Runs
+pub mod Session
