@@ -11,3 +11,5 @@ pub mod Contains
 pub mod Packing
 pub mod Bounds
 pub mod Lent
+pub mod Siblings
+pub mod Rows

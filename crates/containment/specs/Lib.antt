@@ -5,3 +5,4 @@ pub mod Tree
 pub mod Parts
 pub mod Index
 pub mod Inside
+pub mod Filling

@@ -1,1 +1,3 @@
 // The index of a book.
+pub mod contents;
+pub mod ids;
