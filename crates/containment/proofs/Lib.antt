@@ -3,7 +3,7 @@ pub mod Reached
 pub mod Joined
 pub mod Nodes
 pub mod Below
-pub mod Counts
+pub mod Sizes
 pub mod Session
 pub mod Ranges
 pub mod Places
@@ -13,3 +13,11 @@ pub mod Bounds
 pub mod Lent
 pub mod Siblings
 pub mod Rows
+pub mod Events
+mod Nexts
+mod Queue
+mod Rounds
+mod Written
+mod Walking
+mod Resolve
+mod Joins

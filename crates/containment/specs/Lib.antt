@@ -6,3 +6,5 @@ pub mod Parts
 pub mod Index
 pub mod Inside
 pub mod Filling
+pub mod Matrix
+pub mod Steps

@@ -3,8 +3,17 @@ ghost use mathlib.Core.Path.{_≡_};
 ghost use Prim.Native.Nat.{ℕ, _+_, _*_, _^_, _<_, _≤_};
 ghost use lib.ListN.{length, getD};
 ghost use Rattle.containment.specs.Filling.{Setting, Fillable, From, Filled};
-use crate::ids::DatasetId;
-use crate::ids::TreeId;
+use crate::DatasetId;
+use crate::TreeId;
+
+// The piece at a place, by the place list turned round.
+fn piece_at(pieces: &[u16], q: TreeId) -> DatasetId
+    requires { ⌜ q .0 < length (now pieces) ⌝ }
+    ensures { λ r. ⌜ r .0 ≡ getD (now (pieces .entry)) (q .0) 0 ⌝ }
+{
+    let k = q.0;
+    DatasetId(crate::wide(pieces[k]))
+}
 
 // Fills the row of h, unless it is filled: h itself, and the row of each part that hangs from its node. A part that hangs there
 // as a shadow is the piece that the shadow stands for, so containment calls itself through shadow targets. Parts have higher
@@ -18,13 +27,13 @@ fn fill(parens: &[u8], places: &[u16], pieces: &[u16], rows: &mut [u64], h: Data
         return;
     }
     relation::insert(rows, x, x);
-    let place = crate::ids::place_of(places, h);
+    let place = crate::place_of(places, h);
     let at = place.0;
     let end = 8 * parens.len();
     let mut q = at + 1;
     let mut p = parentheses::select(parens, at) + 1;
     while parentheses::get(parens, p) {
-        let t = crate::ids::piece_at(pieces, TreeId(q));
+        let t = piece_at(pieces, TreeId(q));
         fill(parens, places, pieces, rows, t);
         let y = t.0;
         relation::union_within(rows, x, y);

@@ -13,8 +13,8 @@ use borrow.Fn.PlainCycle.{Measures, is, falls, and}
 use Rattle.containment.proofs.contents.fill.Reads as fill
 use Rattle.containment.proofs.contents.fill.Kinds as fill-kinds
 use Rattle.containment.proofs.contents.+fill.Lts-fill as fill-lts
-use Rattle.containment.proofs.ids.piece_at.Reads as piece-at-reads
-use Rattle.containment.proofs.ids.place_of.Reads as place-of-reads
+use Rattle.containment.proofs.contents.piece_at.Reads as piece-at-reads
+use Rattle.containment.proofs.place_of.Reads as place-of-reads
 use Rattle.parentheses.proofs.find_close.Reads as find-close-reads
 use Rattle.parentheses.proofs.get.Reads as get-reads
 use Rattle.parentheses.proofs.select.Reads as select-reads
