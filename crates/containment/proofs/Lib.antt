@@ -21,3 +21,5 @@ mod Written
 mod Walking
 mod Resolve
 mod Joins
+pub mod Pieces
+pub mod Table

@@ -1,23 +1,25 @@
 -- The row of a piece while it is being filled: what the walk along the parts that hang from its node has joined. Assumes nothing.
 use mathlib.Core.Path.{_≡_, refl, sym, ap, subst, _∙_}
 use mathlib.Core.Logic.{_⊎_, inl, inr}
-use mathlib.Core.Bool.{Bool, true, false, _||_, true≢false, false≢true}
-use mathlib.Core.List.{List, [], _∷_, _++_, List·Memᴰ·head as here, List·Memᴰ·tail as there, List·Memᴰ·cases-cons, List·Memᴰ·not-nil}
+use mathlib.Core.Bool.{Bool, true, false, true≢false, false≢true}
+use mathlib.Core.List.{List, [], _∷_, List·Memᴰ·head as here, List·Memᴰ·tail as there, List·Memᴰ·cases-cons, List·Memᴰ·not-nil}
 use Prim.Native.Nat.{ℕ, zero, suc, _+_, _*_, _-_, _/_, _≤_, _<_}
 use native.Mathlib.Decide.{ℕ-discrete, decLt, decLe}
 use native.Mathlib.Omega.{arith}
+use borrow.Author.Count.{below-more}
 use lib.Dec.{eqb}
-use lib.ListN.{length, getD}
-use Rattle.lists.proofs.Bools.{or-either, left-or, right-or, Known, is-true, is-false, known}
+use lib.ListN.{length, getD, replicate}
+use Rattle.lists.proofs.Bools.{or-either, left-or, right-or, known}
 use Rattle.parentheses.specs.Bits.{bits, select, close}
 use Rattle.parentheses.proofs.Packed.{bits-length}
+use Rattle.relation.proofs.Columns.{cleared}
 use Rattle.relation.specs.Matrix.{bitOf, Inserted, United}
-use Rattle.containment.specs.Pairs.{parts, Book, Within, self, step}
+use Rattle.containment.specs.Pairs.{parts, Within, self, step}
 use Rattle.containment.specs.Breadth.{parent}
-use Rattle.containment.specs.Tree.{Visit, node, shadow, Forest, end, tree, hang, under, whole, visits}
+use Rattle.containment.specs.Tree.{Visit, node, shadow, Forest, tree, hang, under, whole, visits}
 use Rattle.containment.specs.Parts as on
 use Rattle.containment.specs.Parts.{place}
-use Rattle.containment.specs.Filling.{visited, Setting, Row, From, Filled}
+use Rattle.containment.specs.Filling.{visited, Setting, Row, From, Filled, FilledTo}
 use Rattle.containment.proofs.Numbers.{_∈_, which}
 use Rattle.containment.proofs.Nodes.{hang-node, hang-shadow, parts-mem, mem-parts}
 use Rattle.containment.proofs.Below.{within-trans}
@@ -229,3 +231,17 @@ module _ {parens places pieces : List ℕ} (s : Setting parens places pieces) wh
                 from = λ r a d. row e r a d (decLt h r);
                 kept = λ r j a d. w .kept r j a d ∙ I .other r j d (λ z v. omega arith);
               }
+
+  -- ---- row after row
+  pub filled-none : (rows : List ℕ) → From s rows 0 → FilledTo s rows 0
+  filled-none rows F = record { own = λ h l. absurd (omega arith); from = F }
+
+  pub filled-more : (rows rows′ : List ℕ) (h : ℕ) → h < s .n → FilledTo s rows h → Filled s rows rows′ h → FilledTo s rows′ (h + 1)
+  filled-more rows rows′ h l T F =
+      record {
+        own = below-more (λ k. bitOf rows′ k k ≡ true) h (λ k a. F .kept k k a (omega (arith, s .few)) ∙ T .own k a) (F .own);
+        from = λ r a b. elim (decLe h r) [ yes y ↦ F .from r y b | no y ↦ row-same b (λ j d. F .kept r j (omega arith) d) (T .from r a b) ];
+      }
+
+  pub cleared-rows : (rows : List ℕ) (k : ℕ) → rows ≡ replicate k 0 → From s rows 0
+  cleared-rows rows k e h a b = rw e (record { filled = λ t. absurd (true≢false (sym t ∙ cleared k h h)); empty = λ t g d. cleared k h g })

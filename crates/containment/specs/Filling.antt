@@ -46,7 +46,17 @@ module _ {parens places pieces : List ℕ} (s : Setting parens places pieces) wh
     pub from : From rows′ h
     pub kept : (r j : ℕ) → r < h → j < 2048 → bitOf rows′ r j ≡ bitOf rows r j
 
+  -- all rows below k are filled
+  pub record FilledTo (rows : List ℕ) (k : ℕ) : Type 0 where
+    pub own : (h : ℕ) → h < k → bitOf rows h h ≡ true
+    pub from : From rows 0
+
 pub record Fillable (parens places pieces rows : List ℕ) (h : ℕ) : Type 0 where
   pub setting : Setting parens places pieces
   pub below : h < setting .n
   pub from : From setting rows h
+
+pub record Ready (n : ℕ) (parens places pieces rows : List ℕ) : Type 0 where
+  pub setting : Setting parens places pieces
+  pub count : n ≡ setting .n
+  pub from : From setting rows 0

@@ -8,3 +8,4 @@ pub mod Inside
 pub mod Filling
 pub mod Matrix
 pub mod Steps
+pub mod Contents

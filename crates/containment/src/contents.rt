@@ -2,7 +2,9 @@
 ghost use mathlib.Core.Path.{_≡_};
 ghost use Prim.Native.Nat.{ℕ, _+_, _*_, _^_, _<_, _≤_};
 ghost use lib.ListN.{length, getD};
-ghost use Rattle.containment.specs.Filling.{Setting, Fillable, From, Filled};
+ghost use Rattle.containment.specs.Filling.{Setting, Fillable, From, Filled, FilledTo, Ready};
+ghost use Rattle.containment.specs.Contents.{Stored, Contents, leads, Apart, StandsFor};
+ghost use Rattle.parentheses.specs.Bits.{bits};
 use crate::DatasetId;
 use crate::TreeId;
 
@@ -41,4 +43,70 @@ fn fill(parens: &[u8], places: &[u16], pieces: &[u16], rows: &mut [u64], h: Data
         q += (c + 1 - p) / 2;
         p = c + 1;
     }
+}
+
+// Of the place of each piece below n, the piece: the place list turned round.
+fn number_nodes(n: usize, places: &[u16], pieces: &mut [u16])
+    requires { ⌜ (n ≤ 2048) × Apart n (now places) (length (now pieces)) ⌝ }
+    ensures { λ _. ⌜ ((g : ℕ) → g < n → getD (now (pieces .exit)) (getD (now (places .entry)) g 0) 0 ≡ g) ⌝ }
+{
+    let mut g: usize = 0;
+    while g < n {
+        let place = crate::place_of(places, DatasetId(g));
+        let q = place.0;
+        pieces[q] = g as u16;
+        g += 1;
+    }
+}
+
+// Of the place of each shadow, the piece at the place for which it stands.
+fn number_shadows(nodes: usize, marks: &[u8], shadows: &[u16], pieces: &mut [u16])
+    requires { ⌜ (nodes ≤ length (now pieces)) × (nodes ≤ 8 * length (now marks)) × StandsFor nodes (bits (now marks)) (now shadows) ⌝ }
+    ensures { λ _. ⌜ ((s : ℕ) → s < nodes → getD (now (pieces .exit)) s 0 ≡ getD (now (pieces .entry)) (leads (bits (now (marks .entry))) (now (shadows .entry)) s) 0) ⌝ }
+{
+    let mut j: usize = 0;
+    let mut q: usize = 0;
+    while q < nodes {
+        if !parentheses::get(marks, q) {
+            q += 1;
+            continue;
+        }
+        let t = crate::wide(shadows[j]);
+        pieces[q] = pieces[t];
+        j += 1;
+        q += 1;
+    }
+}
+
+// Fills the row of each piece below n.
+fn fill_all(n: usize, parens: &[u8], places: &[u16], pieces: &[u16], rows: &mut [u64])
+    requires { ⌜ (8 * length (now parens) < 2 ^ 64) × (length (now rows) ≡ 65536) × Ready n (now parens) (now places) (now pieces) (now rows) ⌝ }
+    ensures { λ _. ⌜ ((s : Setting (now (parens .entry)) (now (places .entry)) (now (pieces .entry))) → n ≡ s .n → From s (now (rows .entry)) 0 → FilledTo s (now (rows .exit)) n) ⌝ }
+{
+    let mut h: usize = 0;
+    while h < n {
+        fill(parens, places, pieces, rows, DatasetId(h));
+        h += 1;
+    }
+}
+
+// Fills the row of each piece below n with the pieces inside it, and clears every other bit. Each row is filled once, so many
+// paths to one piece cost no more than one.
+pub fn contents(
+    n: usize,
+    nodes: usize,
+    parens: &[u8],
+    marks: &[u8],
+    shadows: &[u16],
+    places: &[u16],
+    rows: &mut [u64],
+)
+    requires { ⌜ (n ≤ 2048) × (nodes ≤ 18432) × (8 * length (now parens) < 2 ^ 64) × (length (now rows) ≡ 65536) × Stored n nodes (now parens) (now marks) (now shadows) (now places) ⌝ }
+    ensures { λ _. ⌜ Contents n (now (parens .entry)) (now (marks .entry)) (now (shadows .entry)) (now (places .entry)) (now (rows .exit)) ⌝ }
+{
+    let mut pieces = [0u16; 18432];
+    number_nodes(n, places, &mut pieces);
+    number_shadows(nodes, marks, shadows, &mut pieces);
+    relation::clear(rows);
+    fill_all(n, parens, places, &pieces, rows);
 }
