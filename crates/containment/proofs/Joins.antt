@@ -13,7 +13,7 @@ use borrow.Author.Tests.{lt-ltb, le-ltb, eq-eqb, ne-eqb, ltb-true, ltb-false}
 use Rattle.lists.specs.Any.{anyBelow}
 use Rattle.lists.specs.First.{first}
 use Rattle.lists.proofs.Bools.{Known, is-true, is-false, known, right-or}
-use Rattle.parentheses.specs.Bits.{num}
+use Rattle.parentheses.specs.Rank.{num}
 use Rattle.relation.specs.Matrix.{bitOf, Inserted}
 use Rattle.relation.proofs.Seeks.{Sought, sought-next}
 use Rattle.containment.specs.Pairs.{joined, Book}

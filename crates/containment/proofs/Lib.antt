@@ -19,7 +19,9 @@ mod Queue
 mod Rounds
 mod Written
 mod Walking
-mod Resolve
+mod Resolution
 mod Joins
 pub mod Pieces
+mod Buildings
+pub mod Ends
 pub mod Table

@@ -2,16 +2,15 @@
 use mathlib.Core.Path.{_≡_, refl, sym, ap, subst, _∙_}
 use mathlib.Core.Logic.{_⊎_, inl, inr}
 use mathlib.Core.Bool.{Bool, true, false, true≢false, false≢true}
-use mathlib.Core.List.{List, [], _∷_, List·Memᴰ·head as here, List·Memᴰ·tail as there, List·Memᴰ·cases-cons, List·Memᴰ·not-nil}
-use Prim.Native.Nat.{ℕ, zero, suc, _+_, _*_, _-_, _/_, _≤_, _<_}
+use mathlib.Core.List.{List, [], _∷_, _++_, List·Memᴰ·head as here, List·Memᴰ·tail as there, List·Memᴰ·cases-cons, List·Memᴰ·not-nil}
+use Prim.Native.Nat.{ℕ, zero, suc, _+_, _-_, _≤_, _<_}
 use native.Mathlib.Decide.{ℕ-discrete, decLt, decLe}
 use native.Mathlib.Omega.{arith}
 use borrow.Author.Count.{below-more}
 use lib.Dec.{eqb}
-use lib.ListN.{length, getD, replicate}
+use lib.ListN.{length, getD, replicate, length-append}
 use Rattle.lists.proofs.Bools.{or-either, left-or, right-or, known}
-use Rattle.parentheses.specs.Bits.{bits, select, close}
-use Rattle.parentheses.proofs.Packed.{bits-length}
+use Rattle.parentheses.specs.Subtree.{after}
 use Rattle.relation.proofs.Columns.{cleared}
 use Rattle.relation.specs.Matrix.{bitOf, Inserted, United}
 use Rattle.containment.specs.Pairs.{parts, Within, self, step}
@@ -23,8 +22,9 @@ use Rattle.containment.specs.Filling.{visited, Setting, Row, From, Fille
 use Rattle.containment.proofs.Numbers.{_∈_, which}
 use Rattle.containment.proofs.Nodes.{hang-node, hang-shadow, parts-mem, mem-parts}
 use Rattle.containment.proofs.Below.{within-trans}
-use Rattle.containment.proofs.Places.{Stand, stand}
-use Rattle.containment.proofs.Siblings.{Stands, in-bits, closed, opened, visit-at, in-visits, up-to-visits, closes, next, hangs}
+use Rattle.containment.proofs.Places.{Stand, stand, stand-after}
+use Rattle.containment.proofs.Contains.{place-small}
+use Rattle.containment.proofs.Siblings.{Stands, visit-at, in-visits, ends-at, next, hangs}
 
 -- ---- paths
 
@@ -37,9 +37,12 @@ within-top {edge} {g} {h} (step {c = c} e w) = go (within-top w)
     go (inl q) = inr (g, rw q at e, self)
     go (inr (x, f, v)) = inr (x, f, step e v)
 
-module _ {parens places pieces : List ℕ} (s : Setting parens places pieces) where
+module _ {places ends pieces : List ℕ} (s : Setting places ends pieces) where
   abbrev W : List Visit
   W = visits (whole (s .n) (s .edge))
+
+  abbrev P : List Bool
+  P = on.parens (whole (s .n) (s .edge)) ++ s .zeros
 
   -- a row with the same bits
   pub row-same : {rows rows′ : List ℕ} {r : ℕ} → r < 2048 → ((j : ℕ) → j < 2048 → bitOf rows′ r j ≡ bitOf rows r j) → Row s rows r → Row s rows′ r
@@ -68,11 +71,12 @@ module _ {parens places pieces : List ℕ} (s : Setting parens places pieces) wh
         one g b t (yes e) = e
         one g b t (no e) = absurd (true≢false (sym t ∙ I .other h g b (λ d f. e f) ∙ F h (omega arith) (omega (arith, s .few)) .empty z g b))
 
-    -- the trees that the walk has still to pass, and what it has joined
-    pub record Walking (rows₀ rows : List ℕ) (p q : ℕ) : Type 0 where
+    -- the trees from place q on, up to `last`, that the walk has still to pass, and what it has joined
+    pub record Walking (rows₀ rows : List ℕ) (last q : ℕ) : Type 0 where
       pub deep : ℕ
       pub todo : List ℕ
-      pub ahead : Stands (bits parens) W p q (hang (s .n) (s .edge) (under (s .n) (s .edge) deep) h todo)
+      pub ahead : Stands P W q (hang (s .n) (s .edge) (under (s .n) (s .edge) deep) h todo)
+      pub upto : last ≡ q + length (visits (hang (s .n) (s .edge) (under (s .n) (s .edge) deep) h todo))
       pub hung : (x : ℕ) → x ∈ todo → s .edge x h ≡ true
       pub joined : (x : ℕ) → s .edge x h ≡ true → (x ∈ todo) ⊎ ((g : ℕ) → g < 2048 → Within (s .edge) g x → bitOf rows h g ≡ true)
       pub own : bitOf rows h h ≡ true
@@ -80,16 +84,34 @@ module _ {parens places pieces : List ℕ} (s : Setting parens places pieces) wh
       pub from : From s rows (suc h)
       pub kept : (r j : ℕ) → r < h → j < 2048 → bitOf rows r j ≡ bitOf rows₀ r j
 
-    pub begin : (rows : List ℕ) (o : ℕ) → o ≡ getD places h 0 → Started rows → Walking rows rows (select (bits parens) o + 1) (o + 1)
-    begin rows o e S = go (stand (s .n) (s .edge) (s .book) h l) _ refl
+    -- the place of h
+    pub place-small-at : (o : ℕ) → o ≡ getD places h 0 → o < length ends
+    place-small-at o e = omega (arith, e, s .places-are h l, place-small (s .n) (s .edge) (s .book) h l, s .ends-room)
+
+    pub begin : (rows : List ℕ) (o last : ℕ) → o ≡ getD places h 0 → last ≡ getD ends o 0 → Started rows → Walking rows rows last (o + 1)
+    begin rows o last e f S = go (stand (s .n) (s .edge) (s .book) h l) _ refl
       where
-        go : (T : Stand (s .n) (s .edge) h) (d : ℕ) → T .deep ≡ d → Walking rows rows (select (bits parens) o + 1) (o + 1)
+        at : o ≡ place W h
+        at = e ∙ s .places-are h l
+
+        go : (T : Stand (s .n) (s .edge) h) (d : ℕ) → T .deep ≡ d → Walking rows rows last (o + 1)
         go T zero d = absurd (omega (arith, T .enough))
         go T (suc k) d =
             record {
               deep = k;
               todo = parts (s .n) (s .edge) h;
-              ahead = rw (s .parens-are, e ∙ s .places-are h l) (unfold under in rw d at (hangs (s .n) (s .edge) (s .book) h l T (s .zeros)));
+              ahead = rw at (unfold under in rw d at (hangs (s .n) (s .edge) (s .book) h l T (s .zeros)));
+              upto =
+                  let size = ap (λ (x : ℕ). length (visits (under (s .n) (s .edge) x h))) d in
+                  omega (
+                    arith,
+                    f,
+                    ap (λ (x : ℕ). getD ends x 0) at,
+                    s .ends-are (place W h) (place-small (s .n) (s .edge) (s .book) h l),
+                    stand-after (s .n) (s .edge) (s .book) h l T (s .zeros),
+                    at,
+                    under-is k size,
+                  );
               hung = λ x m. parts-mem (s .n) (s .edge) (s .book) h m;
               joined = λ x t. inl (mem-parts (s .n) (s .edge) (s .book) x h t);
               own = S .own;
@@ -97,61 +119,72 @@ module _ {parens places pieces : List ℕ} (s : Setting parens places pieces) wh
               from = S .from;
               kept = λ r j a b. refl;
             }
+          where
+            under-is : (k : ℕ) → length (visits (under (s .n) (s .edge) (T .deep) h)) ≡ length (visits (under (s .n) (s .edge) (suc k) h))
+                → length (visits (under (s .n) (s .edge) (T .deep) h)) ≡ length (visits (hang (s .n) (s .edge) (under (s .n) (s .edge) k) h (parts (s .n) (s .edge) h)))
+            under-is k e = unfold under in e
 
-    -- the tree at bit p and place q is that of the part x of h
-    pub record Part (p q x : ℕ) (xs : List ℕ) (deep : ℕ) : Type 0 where
-      pub opens : getD (bits parens) p false ≡ true
+    none-left : (deep q last : ℕ) → q < last → last ≡ q + length (visits (hang (s .n) (s .edge) (under (s .n) (s .edge) deep) h [])) → ⊥
+    unfolding hang visits
+    none-left deep q last b u = omega arith
+
+    count-on : (deep q : ℕ) (ts : List ℕ) (x : ℕ) (xs : List ℕ) → ts ≡ x ∷ xs
+        → q + length (visits (hang (s .n) (s .edge) (under (s .n) (s .edge) deep) h ts)) ≡ q + length (visits (hang (s .n) (s .edge) (under (s .n) (s .edge) deep) h (x ∷ xs)))
+    count-on deep q ts x xs e = rw e
+
+    -- the tree at place q is that of the part x of h
+    pub record Part (q x : ℕ) (xs : List ℕ) (deep : ℕ) : Type 0 where
       pub piece : getD pieces q 0 ≡ x
-      pub place-in : q < length pieces
-      pub shut : ℕ
-      pub shut-is : close (bits parens) p (8 * length parens) ≡ shut
-      pub forth : p < shut
-      pub shut-in : shut + 1 < 8 * length parens
-      pub rest : Stands (bits parens) W (shut + 1) (q + (shut + 1 - p) / 2) (hang (s .n) (s .edge) (under (s .n) (s .edge) deep) h xs)
+      pub in-pieces : q < length pieces
+      pub in-ends : q < length ends
+      pub beyond : ℕ
+      pub end-is : getD ends q 0 ≡ beyond
+      pub forth : q < beyond
+      pub rest : Stands P W beyond (hang (s .n) (s .edge) (under (s .n) (s .edge) deep) h xs)
+      pub count :
+          q + length (visits (hang (s .n) (s .edge) (under (s .n) (s .edge) deep) h (x ∷ xs)))
+          ≡ beyond + length (visits (hang (s .n) (s .edge) (under (s .n) (s .edge) deep) h xs))
 
-    part : (deep p q x : ℕ) (xs : List ℕ) → Stands (bits parens) W p q (hang (s .n) (s .edge) (under (s .n) (s .edge) deep) h (x ∷ xs)) → Part p q x xs deep
-    part deep p q x xs T = pick (which (eqb (parent (s .n) (s .edge) x) h))
+    part : (deep q x : ℕ) (xs : List ℕ) → Stands P W q (hang (s .n) (s .edge) (under (s .n) (s .edge) deep) h (x ∷ xs)) → Part q x xs deep
+    part deep q x xs T = pick (which (eqb (parent (s .n) (s .edge) x) h))
       where
-        of-tree : (v : Visit) (f : Forest) → visited v ≡ x → Stands (bits parens) W p q (tree v f (hang (s .n) (s .edge) (under (s .n) (s .edge) deep) h xs)) → Part p q x xs deep
-        of-tree v f e T =
-            let go = next T (p + 1 + length (on.parens f)) refl in
+        rest : Forest
+        rest = hang (s .n) (s .edge) (under (s .n) (s .edge) deep) h xs
+
+        of-tree : (v : Visit) (f : Forest) → visited v ≡ x → hang (s .n) (s .edge) (under (s .n) (s .edge) deep) h (x ∷ xs) ≡ tree v f rest → Stands P W q (tree v f rest) → Part q x xs deep
+        of-tree v f e is T =
             record {
-              opens = opened T;
               piece = s .pieces-are q (in-visits T) ∙ ap visited (visit-at T) ∙ e;
-              place-in = omega (arith, in-visits T, s .wide);
-              shut = p + 1 + length (on.parens f);
-              shut-is = closes T (8 * length parens) (omega (arith, bits-length parens));
+              in-pieces = omega (arith, in-visits T, s .pieces-room);
+              in-ends = omega (arith, in-visits T, s .ends-room);
+              beyond = q + suc (length (visits f));
+              end-is = s .ends-are q (in-visits T) ∙ ends-at T;
               forth = omega arith;
-              shut-in = omega (arith, in-bits go, bits-length parens);
-              rest = go;
+              rest = next T;
+              count = rw is (unfold visits in omega (arith, length-append (visits f) (visits rest)));
             }
 
-        pick : (eqb (parent (s .n) (s .edge) x) h ≡ true) ⊎ (eqb (parent (s .n) (s .edge) x) h ≡ false) → Part p q x xs deep
-        pick (inl e) = of-tree (node x) _ (unfold visited in refl) (rw (hang-node (s .n) (s .edge) (under (s .n) (s .edge) deep) h x xs e) at T)
-        pick (inr e) = of-tree (shadow x) _ (unfold visited in refl) (rw (hang-shadow (s .n) (s .edge) (under (s .n) (s .edge) deep) h x xs e) at T)
+        pick : (eqb (parent (s .n) (s .edge) x) h ≡ true) ⊎ (eqb (parent (s .n) (s .edge) x) h ≡ false) → Part q x xs deep
+        pick (inl e) = let is = hang-node (s .n) (s .edge) (under (s .n) (s .edge) deep) h x xs e in of-tree (node x) _ (unfold visited in refl) is (rw is at T)
+        pick (inr e) = let is = hang-shadow (s .n) (s .edge) (under (s .n) (s .edge) deep) h x xs e in of-tree (shadow x) _ (unfold visited in refl) is (rw is at T)
 
-    module _ {rows₀ rows : List ℕ} {p q : ℕ} (w : Walking rows₀ rows p q) where
-      -- a parenthesis opens: one more part
-      pub uncover : getD (bits parens) p false ≡ true → (x : ℕ) × (xs : List ℕ) × (w .todo ≡ x ∷ xs) × Part p q x xs (w .deep)
-      uncover b = go (w .todo) refl (w .ahead)
+    module _ {rows₀ rows : List ℕ} {last q : ℕ} (w : Walking rows₀ rows last q) where
+      -- before the end there is one more part
+      pub uncover : q < last → (x : ℕ) × (xs : List ℕ) × (w .todo ≡ x ∷ xs) × Part q x xs (w .deep)
+      uncover b = go (w .todo) refl (w .ahead) (w .upto)
         where
-          go : (ts : List ℕ) → w .todo ≡ ts → Stands (bits parens) W p q (hang (s .n) (s .edge) (under (s .n) (s .edge) (w .deep)) h ts)
-              → (x : ℕ) × (xs : List ℕ) × (w .todo ≡ x ∷ xs) × Part p q x xs (w .deep)
-          go [] e T = absurd (true≢false (sym b ∙ (unfold hang in closed T)))
-          go (x ∷ xs) e T = (x, xs, e, part (w .deep) p q x xs T)
+          go : (ts : List ℕ) → w .todo ≡ ts → Stands P W q (hang (s .n) (s .edge) (under (s .n) (s .edge) (w .deep)) h ts)
+              → last ≡ q + length (visits (hang (s .n) (s .edge) (under (s .n) (s .edge) (w .deep)) h ts))
+              → (x : ℕ) × (xs : List ℕ) × (w .todo ≡ x ∷ xs) × Part q x xs (w .deep)
+          go [] e T u = absurd (none-left (w .deep) q last b u)
+          go (x ∷ xs) e T u = (x, xs, e, part (w .deep) q x xs T)
 
       -- what is known of it
-      pub child : (b : getD (bits parens) p false ≡ true) → s .edge (uncover b .0) h ≡ true
+      pub child : (b : q < last) → s .edge (uncover b .0) h ≡ true
       child b = w .hung (uncover b .0) (subst (λ (ts : List ℕ). uncover b .0 ∈ ts) (sym (uncover b .2)) (here refl))
 
-      pub walk-bit : p < 8 * length parens
-      walk-bit = omega (arith, in-bits (w .ahead), bits-length parens)
-
-      pub walk-place : q ≤ length pieces
-      walk-place = omega (arith, up-to-visits (w .ahead), s .wide)
-
       -- the piece that the table has there
-      module _ {t : ℕ} (b : getD (bits parens) p false ≡ true) (is : t ≡ getD pieces q 0) where
+      module _ {t : ℕ} (b : q < last) (is : t ≡ getD pieces q 0) where
         tx : t ≡ uncover b .0
         tx = is ∙ uncover b .3 .piece
 
@@ -168,7 +201,7 @@ module _ {parens places pieces : List ℕ} (s : Setting parens places pieces) wh
         from-it r a d = w .from r (omega (arith, above)) d
 
       -- its row is filled, and joined
-      module _ {rows₁ rows₂ : List ℕ} {t : ℕ} (b : getD (bits parens) p false ≡ true) (is : t ≡ getD pieces q 0) (F : Filled s rows rows₁ t) (U : United rows₁ rows₂ h rows₁ t) where
+      module _ {rows₁ rows₂ : List ℕ} {t : ℕ} (b : q < last) (is : t ≡ getD pieces q 0) (F : Filled s rows rows₁ t) (U : United rows₁ rows₂ h rows₁ t) where
         whole-row : (g : ℕ) → g < 2048 → (bitOf rows₁ t g ≡ true → Within (s .edge) g t) × (Within (s .edge) g t → bitOf rows₁ t g ≡ true)
         whole-row g d = F .from t (omega arith) (omega (arith, small b is, s .few)) .filled (F .own) .1 g d
 
@@ -176,12 +209,13 @@ module _ {parens places pieces : List ℕ} (s : Setting parens places pieces) wh
         old r a d (yes y) = F .from r y d
         old r a d (no y) = row-same d (λ j e. F .kept r j (omega arith) e) (w .from r a d)
 
-        pub more : (c : ℕ) → c ≡ close (bits parens) p (8 * length parens) → Walking rows₀ rows₂ (c + 1) (q + (c + 1 - p) / 2)
+        pub more : (c : ℕ) → c ≡ getD ends q 0 → Walking rows₀ rows₂ last c
         more c ec =
             record {
               deep = w .deep;
               todo = uncover b .1;
-              ahead = rw (ec ∙ uncover b .3 .shut-is) (uncover b .3 .rest);
+              ahead = rw (ec ∙ uncover b .3 .end-is) (uncover b .3 .rest);
+              upto = w .upto ∙ count-on (w .deep) q (w .todo) (uncover b .0) (uncover b .1) (uncover b .2) ∙ uncover b .3 .count ∙ ap (λ (k : ℕ). k + length (visits (hang (s .n) (s .edge) (under (s .n) (s .edge) (w .deep)) h (uncover b .1)))) (sym (ec ∙ uncover b .3 .end-is));
               hung = λ x m. w .hung x (subst (λ (ts : List ℕ). x ∈ ts) (sym (uncover b .2)) (there m));
               joined = λ x e. pick x (w .joined x e);
               own = U .row h (omega (arith, l, s .few)) ∙ left-or _ (F .kept h h (above b is) (omega (arith, l, s .few)) ∙ w .own);
@@ -205,9 +239,9 @@ module _ {parens places pieces : List ℕ} (s : Setting parens places pieces) wh
             sort g d (inl i) = w .sound g d (sym (F .kept h g (above b is) d) ∙ i)
             sort g d (inr i) = within-trans (whole-row g d .0 i) (step (edge b is) self)
 
-      -- no parenthesis opens: the row is whole
-      pub done : (old : List ℕ) → getD (bits parens) p false ≡ false → Inserted old rows₀ h h → Filled s old rows h
-      done old b I = go (w .todo) refl (w .ahead)
+      -- at the end the row is whole
+      pub done : (old : List ℕ) → last ≤ q → Inserted old rows₀ h h → Filled s old rows h
+      done old b I = go (w .todo) refl (w .ahead) (w .upto)
         where
           reach : w .todo ≡ [] → (g : ℕ) → g < 2048 → (g ≡ h) ⊎ ((x : ℕ) × (s .edge x h ≡ true) × Within (s .edge) g x) → bitOf rows h g ≡ true
           reach e g d (inl z) = rw z (w .own)
@@ -223,9 +257,10 @@ module _ {parens places pieces : List ℕ} (s : Setting parens places pieces) wh
               let z : r ≡ h = omega arith in
               rw z (record { filled = λ t. (l, λ g k. (w .sound g k, λ v. reach e g k (within-top v))); empty = λ t. absurd (false≢true (sym t ∙ w .own)) })
 
-          go : (ts : List ℕ) → w .todo ≡ ts → Stands (bits parens) W p q (hang (s .n) (s .edge) (under (s .n) (s .edge) (w .deep)) h ts) → Filled s old rows h
-          go (x ∷ xs) e T = absurd (false≢true (sym b ∙ part (w .deep) p q x xs T .opens))
-          go [] e T =
+          go : (ts : List ℕ) → w .todo ≡ ts → Stands P W q (hang (s .n) (s .edge) (under (s .n) (s .edge) (w .deep)) h ts)
+              → last ≡ q + length (visits (hang (s .n) (s .edge) (under (s .n) (s .edge) (w .deep)) h ts)) → Filled s old rows h
+          go (x ∷ xs) e T u = let p = part (w .deep) q x xs T in absurd (omega (arith, p .count, p .forth))
+          go [] e T u =
               record {
                 own = w .own;
                 from = λ r a d. row e r a d (decLt h r);

@@ -8,22 +8,26 @@ use native.Mathlib.Omega.{arith}
 use lib.ListN.{length, getD, replicate, length-map, List·getD-map, List·getD-append}
 use Rattle.lists.proofs.Bools.{Known, is-true, is-false, known, not-true}
 use Rattle.lists.proofs.Members.{at-member}
-use Rattle.parentheses.specs.Bits.{bits, rank}
+use Rattle.parentheses.specs.Bits.{bits}
+use Rattle.parentheses.specs.Padded.{padded}
+use Rattle.parentheses.specs.Rank.{rank}
+use Rattle.parentheses.specs.Subtree.{after}
 use Rattle.parentheses.proofs.Ranks.{rank-zero}
-use Rattle.parentheses.proofs.Trees.{rank-cons}
+use Rattle.parentheses.proofs.Trees.{rank-cons, rank-front, Dyck, dyck-enc}
 use Rattle.relation.specs.Matrix.{bitOf}
 use Rattle.containment.specs.Pairs.{Within, self, step}
 use Rattle.containment.specs.Tree.{Visit, node, shadow, under, whole, visits}
 use Rattle.containment.specs.Parts as on
-use Rattle.containment.specs.Parts.{place, isShadow, shadowList}
-use Rattle.containment.specs.Index.{visitsOf}
-use Rattle.containment.specs.Contents.{Stored, Contents, leads, Apart, StandsFor}
+use Rattle.containment.specs.Parts.{shape, place, isShadow, shadowList}
+use Rattle.containment.specs.Index.{parenthesesOf, visitsOf}
+use Rattle.containment.specs.Contents.{Stored, Contents, leads, Apart, StandsFor, Balanced}
 use Rattle.containment.specs.Filling.{visited, Setting, FilledTo}
 use Rattle.containment.proofs.Numbers.{_∈_}
 use Rattle.containment.proofs.Nodes.{once}
 use Rattle.containment.proofs.Below.{piece, under-mem}
 use Rattle.containment.proofs.Contains.{node-at, place-small, place-only, shadow-at}
-use Rattle.containment.proofs.Lent.{parens-bits, marks-bits, shadows-is, placed, contains-lent}
+use Rattle.containment.proofs.Lent.{parens-bits, marks-bits, placed, contains-lent}
+use Rattle.containment.proofs.Ranges.{parens-length, ones-parens}
 use Rattle.containment.proofs.Pieces.{leads-node, leads-shadow}
 
 -- a shadow has its number in the list of shadows
@@ -45,8 +49,8 @@ kind (node k) = of-node k refl
 kind (shadow k) = of-shadow k refl
 
 -- the table of pieces is right, and rows that are filled by it are those of the index
-pub record Table (n : ℕ) (parens marks shadows places pieces : List ℕ) : Type 0 where
-  pub setting : Setting parens places pieces
+pub record Table (n : ℕ) (parens marks shadows places ends pieces : List ℕ) : Type 0 where
+  pub setting : Setting places ends pieces
   pub count : n ≡ setting .n
   pub hold : (rows : List ℕ) → FilledTo setting rows n → Contents n parens marks shadows places rows
 
@@ -63,10 +67,37 @@ module _ (n nodes : ℕ) (parens marks shadows places : List ℕ) (S : Stored n 
 
   -- the laws of `Lent` for these parts
   marks-are : bits marks ≡ on.marks W ++ replicate (8 * length marks - length (on.marks W)) false
+  unfolding padded
   marks-are = marks-bits n (S .edge) (S .book) parens marks shadows places nodes (S .shadowed) (S .room) (S .index)
 
   pub place-is : (g : ℕ) → g < n → getD places g 0 ≡ place W g
   place-is = placed n (S .edge) (S .book) parens marks shadows places nodes (S .shadowed) (S .room) (S .index)
+
+  parens-are : bits parens ≡ on.parens (whole n (S .edge)) ++ replicate (8 * length parens - length (on.parens (whole n (S .edge)))) false
+  unfolding padded
+  parens-are = parens-bits n (S .edge) (S .book) parens marks shadows places nodes (S .shadowed) (S .room) (S .index)
+
+  -- the parentheses are in balance
+  long : length (on.parens (whole n (S .edge))) ≡ 2 * nodes
+  long = omega (arith, parens-length (whole n (S .edge)), many)
+
+  pub parens-room : 2 * nodes ≤ 8 * length parens
+  unfolding parenthesesOf
+  parens-room = omega (arith, S .room .parens, long)
+
+  front : (j : ℕ) → j ≤ 2 * nodes → rank (bits parens) j ≡ rank (on.parens (whole n (S .edge))) j
+  front j l = ap (λ (b : List Bool). rank b j) parens-are ∙ rank-front (on.parens (whole n (S .edge))) _ j (omega (arith, long))
+
+  word : Dyck (on.parens (whole n (S .edge)))
+  unfolding on.parens
+  word = dyck-enc (shape (whole n (S .edge)))
+
+  pub in-balance : Balanced nodes (bits parens)
+  in-balance =
+      record {
+        up = λ j l. omega (arith, front j l, word .up j (omega (arith, long)));
+        even = front (2 * nodes) (omega arith) ∙ ap (rank (on.parens (whole n (S .edge)))) (sym long) ∙ ones-parens (whole n (S .edge)) ∙ sym many;
+      }
 
   -- what is visited is a piece
   visit-small : (s : ℕ) → s < length W → piece (at s) < n
@@ -96,8 +127,9 @@ module _ (n nodes : ℕ) (parens marks shadows places : List ℕ) (S : Stored n 
 
   -- the place for which a shadow stands
   target-at : (s k : ℕ) → at s ≡ shadow k → getD shadows (rank (bits marks) s) 0 ≡ place W k
+  unfolding padded visitsOf
   target-at s k e =
-      ap (λ (l : List ℕ). getD l (rank (bits marks) s) 0) (shadows-is n (S .edge) (S .book) parens marks shadows places nodes (S .shadowed) (S .room) (S .index))
+      ap (λ (l : List ℕ). getD l (rank (bits marks) s) 0) (S .index .shadows-are)
       ∙ ap (λ (b : List Bool). getD (shadowList W ++ replicate (length shadows - length (shadowList W)) 0) (rank b s) 0) marks-are
       ∙ (unfold shadowList in shadow-at (place W) W (replicate (8 * length marks - length (on.marks W)) false) (replicate (length shadows - length (shadowList W)) 0) s k e)
 
@@ -145,7 +177,8 @@ module _ (n nodes : ℕ) (parens marks shadows places : List ℕ) (S : Stored n 
 
   -- what the walk reads
   module _
-      (few : n ≤ 2048) (pieces₁ pieces₂ : List ℕ) (room : nodes ≤ length pieces₂) (turned : (g : ℕ) → g < n → getD pieces₁ (getD places g 0) 0 ≡ g)
+      (few : n ≤ 2048) (ends pieces₁ pieces₂ : List ℕ) (ends-room : nodes ≤ length ends) (room : nodes ≤ length pieces₂)
+      (ended : (q : ℕ) → q < nodes → getD ends q 0 ≡ after (bits parens) q) (turned : (g : ℕ) → g < n → getD pieces₁ (getD places g 0) 0 ≡ g)
       (led : (s : ℕ) → s < nodes → getD pieces₂ s 0 ≡ getD pieces₁ (leads (bits marks) shadows s) 0) where
     right : (s : ℕ) → s < length W → Kind (at s) → getD pieces₂ s 0 ≡ visited (at s)
     unfolding piece visited
@@ -158,7 +191,7 @@ module _ (n nodes : ℕ) (parens marks shadows places : List ℕ) (S : Stored n 
         led s (omega (arith, many)) ∙ ap (λ (v : ℕ). getD pieces₁ v 0) (leads-shadow (bits marks) shadows s (mark-shadow s k l e)
         ∙ target-at s k e ∙ sym (place-is k small)) ∙ turned k small ∙ sym (ap visited e)
 
-    setting : Setting parens places pieces₂
+    setting : Setting places ends pieces₂
     setting =
         record {
           n = n;
@@ -166,11 +199,12 @@ module _ (n nodes : ℕ) (parens marks shadows places : List ℕ) (S : Stored n 
           book = S .book;
           few = few;
           zeros = replicate (8 * length parens - length (on.parens (whole n (S .edge)))) false;
-          parens-are = parens-bits n (S .edge) (S .book) parens marks shadows places nodes (S .shadowed) (S .room) (S .index);
           room = S .room .places;
           places-are = place-is;
-          wide = omega (arith, many);
-          pieces-are = λ s l. right s l (kind (at s));
+          ends-room = omega (arith, many);
+          ends-are = λ q l. ended q (omega (arith, many)) ∙ ap (λ (b : List Bool). after b q) parens-are;
+          pieces-room = omega (arith, many);
+          pieces-are = λ q l. right q l (kind (at q));
         }
 
     -- the rows say what the index says
@@ -194,6 +228,6 @@ module _ (n nodes : ℕ) (parens marks shadows places : List ℕ) (S : Stored n 
         bare h g b d a (is-true t) = let l = F .from h (omega arith) b .filled t .0 in absurd (omega arith)
         bare h g b d a (is-false t) = F .from h (omega arith) b .empty t g d
 
-    pub table : Table n parens marks shadows places pieces₂
+    pub table : Table n parens marks shadows places ends pieces₂
     unfolding setting
     table = record { setting = setting; count = refl; hold = rows-hold }

@@ -5,8 +5,8 @@ use mathlib.Core.List.{List, [], _∷_, _++_}
 use Prim.Native.Nat.{ℕ, zero, suc, _+_, _*_, _≤_, _<_}
 use native.Mathlib.Omega.{arith}
 use native.Mathlib.Numerals.{add-one}
-use native.Mathlib.Decide.{ℕ-discrete}
-use lib.ListN.{length, getD, set, length-set}
+use native.Mathlib.Decide.{ℕ-discrete, decLt}
+use lib.ListN.{length, getD, set, replicate, length-set, length-replicate, getD-replicate, List·getD-eq-default}
 use lib.Seq.{getD-set-other}
 use Rattle.containment.specs.Pairs.{Book}
 use Rattle.containment.specs.Breadth.{parent}
@@ -17,6 +17,7 @@ use Rattle.containment.specs.Matrix.{pairOf}
 use Rattle.containment.specs.Steps.{Walkable, Walked, Zero}
 use Rattle.containment.proofs.Reached.{parent-edge}
 use Rattle.containment.proofs.Nodes.{times, once}
+use Rattle.containment.proofs.Sizes.{node-or-shadow}
 use Rattle.containment.proofs.Ranges.{parens-length}
 use Rattle.containment.proofs.Contains.{node-at, place-small}
 use Rattle.containment.proofs.Nexts.{Next}
@@ -66,9 +67,23 @@ given W = record {
   few = W .few;
 }
 
-module _ (n : ℕ) (edge : ℕ → ℕ → Bool) (par : List ℕ) (lb lm ls lp : ℕ) (R : Given n edge par lb lm ls lp) where
+-- the same, of other lists of the same lengths
+pub resized : {n : ℕ} {m par : List ℕ} {lb lm ls lp lb′ lm′ ls′ lp′ : ℕ} → Walkable n m par lb lm ls lp → lb′ ≡ lb → lm′ ≡ lm → ls′ ≡ ls → lp′ ≡ lp
+    → Walkable n m par lb′ lm′ ls′ lp′
+resized W a b d e = rw (a, b, d, e) W
+
+-- cleared
+pub cleared : {xs : List ℕ} (n : ℕ) → xs ≡ replicate n 0 → Zero xs
+cleared n e = record {
+  zeros = λ i. elim (decLt i n) [
+    | yes l ↦ rw e (getD-replicate n i 0 0 l)
+    | no l ↦ rw e (List·getD-eq-default (replicate n 0) 0 {n = i} (omega (arith, length-replicate {A = ℕ} n 0)))
+  ];
+}
+
+module _ {n : ℕ} {edge : ℕ → ℕ → Bool} {par : List ℕ} {lb lm ls lp : ℕ} (R : Given n edge par lb lm ls lp) where
   -- entering piece 0
-  module _ (ps mks sh pl : List ℕ) (a : length ps ≡ lb) (b : length mks ≡ lm) (d : length sh ≡ ls) (e : length pl ≡ lp)
+  module _ {ps mks sh pl : List ℕ} (a : length ps ≡ lb) (b : length mks ≡ lm) (d : length sh ≡ ls) (e : length pl ≡ lp)
       (z₁ : Zero ps) (z₂ : Zero mks) (z₃ : Zero sh) (z₄ : Zero pl) where
     begun : Written (P n edge) (U n edge) ps mks sh pl 0 0 0 (enter (node 0) ∷ rest n edge 0 1)
     begun = rw (start n edge (R .book)) at (written-start (P n edge) (U n edge) ps mks sh pl (events (whole n edge)) (parens-events (whole n edge)) (visits-events (whole n edge))
@@ -77,9 +92,9 @@ module _ (n : ℕ) (edge : ℕ → ℕ → Bool) (par : List ℕ) (lb lm ls lp :
     pub start-room : (0 < 8 * length ps) × (0 < length pl)
     start-room = (bit-room (P n edge) (U n edge) ps mks sh pl 0 0 0 (rest n edge 0 1) (node 0) begun .1, omega (arith, R .placeRoom, R .book .some))
 
-    pub walk-start : (ps′ : List ℕ) → Put ps ps′ 0 → Walking n edge lb lm ls lp ps′ mks sh (set pl 0 0) 0 1 1 1 0
-    walk-start ps′ w =
-        record {
+    pub walk-start : {ps′ pl′ : List ℕ} → Put ps ps′ 0 → pl′ ≡ set pl 0 0 → Walking n edge lb lm ls lp ps′ mks sh pl′ 0 1 1 1 0
+    walk-start {ps′} {pl′} w f = rw f
+        (record {
           inner = R .book .some;
           upto = R .book .some;
           lenParens = w .same ∙ a;
@@ -88,9 +103,9 @@ module _ (n : ℕ) (edge : ℕ → ℕ → Bool) (par : List ℕ) (lb lm ls lp :
           lenPlaces = length-set pl 0 0 ∙ e;
           spare = λ q h. getD-set-other pl 0 q 0 0 (λ x. omega (arith, R .book .some)) ∙ z₄ .zeros q;
           state = written-node (P n edge) (U n edge) ps mks sh pl 0 0 0 (rest n edge 0 1) 0 ps′ begun w (once n edge (R .book) 0 (R .book .some)) (start-room .1);
-        }
+        })
 
-  module _ (ps mks sh pl : List ℕ) (c from at k m : ℕ) (G : Walking n edge lb lm ls lp ps mks sh pl c from at k m) (p : ℕ) (N : Next n edge c from p) where
+  module _ {ps mks sh pl : List ℕ} {c from at k m : ℕ} (G : Walking n edge lb lm ls lp ps mks sh pl c from at k m) {p : ℕ} (N : Next n edge c from p) where
     its-parent : p < n → getD par p 0 ≡ parent n edge p
     its-parent l = R .parents p (omega (arith, R .book .lower p c (N .hit l))) l
 
@@ -118,8 +133,8 @@ module _ (n : ℕ) (edge : ℕ → ℕ → Bool) (par : List ℕ) (lb lm ls lp :
     pub place-room : p < n → p < length pl
     place-room l = omega (arith, G .lenPlaces, R .placeRoom)
 
-    pub walk-node : p < n → getD par p 0 ≡ c → (ps′ : List ℕ) → Put ps ps′ at → Walking n edge lb lm ls lp ps′ mks sh (set pl p k) p (p + 1) (at + 1) (k + 1) m
-    walk-node l x ps′ w =
+    pub walk-node : p < n → getD par p 0 ≡ c → {ps′ : List ℕ} → Put ps ps′ at → Walking n edge lb lm ls lp ps′ mks sh (set pl p k) p (p + 1) (at + 1) (k + 1) m
+    walk-node l x {ps′} w =
         record {
           inner = l;
           upto = omega arith;
@@ -135,17 +150,17 @@ module _ (n : ℕ) (edge : ℕ → ℕ → Bool) (par : List ℕ) (lb lm ls lp :
       now-shadow : Written (P n edge) (U n edge) ps mks sh pl at k m (enter (shadow p) ∷ leave ∷ rest n edge c (p + 1))
       now-shadow = rw (shadow-next l x) at (G .state)
 
-      pub mark-room : (k < 8 * length mks) × (m < length sh)
+      pub mark-room : (k < 8 * length mks) × (m < length sh) × (m < 65536)
       mark-room =
           let r = shadow-room (P n edge) (U n edge) ps mks sh pl at k m (leave ∷ rest n edge c (p + 1)) p now-shadow in
-          (r .0, omega (arith, r .1, G .lenShadows, R .shadowRoom))
+          (r .0, omega (arith, r .1, G .lenShadows, R .shadowRoom), omega (arith, r .1, node-or-shadow (U n edge), R .few))
 
       pub shadow-less : left n edge c (p + 1) < left n edge c from
       unfolding left
       shadow-less = omega (arith, ap length (shadow-next l x))
 
-      pub walk-shadow : (ps′ mks′ : List ℕ) → Put ps ps′ at → Put mks mks′ k → Walking n edge lb lm ls lp ps′ mks′ (set sh m p) pl c (p + 1) (at + 2) (k + 1) (m + 1)
-      walk-shadow ps′ mks′ w w′ =
+      pub walk-shadow : {ps′ mks′ : List ℕ} → Put ps ps′ at → Put mks mks′ k → Walking n edge lb lm ls lp ps′ mks′ (set sh m p) pl c (p + 1) (at + 2) (k + 1) (m + 1)
+      walk-shadow {ps′} {mks′} w w′ =
           let s = written-shadow (P n edge) (U n edge) ps mks sh pl at k m (leave ∷ rest n edge c (p + 1)) p now-shadow ps′ mks′ w w′ in
           let v = written-leave (P n edge) (U n edge) ps′ mks′ (set sh m p) pl (at + 1) (k + 1) (m + 1) (rest n edge c (p + 1)) s in
           let two : at + 1 + 1 ≡ at + 2 = omega arith in

@@ -6,7 +6,7 @@ use mathlib.Core.Bool.{Bool, true, false}
 use mathlib.Core.List.{List, _++_}
 use Prim.Native.Nat.{ℕ, _≤_, _<_}
 use lib.ListN.{length, getD}
-use Rattle.parentheses.specs.Bits.{bits}
+use Rattle.parentheses.specs.Subtree.{after}
 use Rattle.relation.specs.Matrix.{bitOf}
 use Rattle.containment.specs.Pairs.{Book, Within}
 use Rattle.containment.specs.Tree.{Visit, node, shadow, whole, visits}
@@ -18,20 +18,21 @@ unfoldable pub visited : Visit → ℕ
 visited (node p) = p
 visited (shadow p) = p
 
--- what is read: the parentheses and the place list of some pairs' index, and of each place the piece there
-pub record Setting (parens places pieces : List ℕ) : Type 0 where
+-- what is read of the index of some pairs: the place list, and of each place the first one past its subtree and the piece there
+pub record Setting (places ends pieces : List ℕ) : Type 0 where
   pub n : ℕ
   pub edge : ℕ → ℕ → Bool
   pub book : Book n edge
   pub few : n ≤ 2048
   pub zeros : List Bool
-  pub parens-are : bits parens ≡ on.parens (whole n edge) ++ zeros
   pub room : n ≤ length places
   pub places-are : (g : ℕ) → g < n → getD places g 0 ≡ place (visits (whole n edge)) g
-  pub wide : length (visits (whole n edge)) ≤ length pieces
-  pub pieces-are : (s : ℕ) → s < length (visits (whole n edge)) → getD pieces s 0 ≡ visited (getD (visits (whole n edge)) s (node 0))
+  pub ends-room : length (visits (whole n edge)) ≤ length ends
+  pub ends-are : (q : ℕ) → q < length (visits (whole n edge)) → getD ends q 0 ≡ after (on.parens (whole n edge) ++ zeros) q
+  pub pieces-room : length (visits (whole n edge)) ≤ length pieces
+  pub pieces-are : (q : ℕ) → q < length (visits (whole n edge)) → getD pieces q 0 ≡ visited (getD (visits (whole n edge)) q (node 0))
 
-module _ {parens places pieces : List ℕ} (s : Setting parens places pieces) where
+module _ {places ends pieces : List ℕ} (s : Setting places ends pieces) where
   pub record Row (rows : List ℕ) (h : ℕ) : Type 0 where
     pub filled : bitOf rows h h ≡ true → (h < s .n) × ((g : ℕ) → g < 2048 → (bitOf rows h g ≡ true) ↔ Within (s .edge) g h)
     pub empty : bitOf rows h h ≡ false → (g : ℕ) → g < 2048 → bitOf rows h g ≡ false
@@ -51,12 +52,12 @@ module _ {parens places pieces : List ℕ} (s : Setting parens places pieces) wh
     pub own : (h : ℕ) → h < k → bitOf rows h h ≡ true
     pub from : From rows 0
 
-pub record Fillable (parens places pieces rows : List ℕ) (h : ℕ) : Type 0 where
-  pub setting : Setting parens places pieces
+pub record Fillable (places ends pieces rows : List ℕ) (h : ℕ) : Type 0 where
+  pub setting : Setting places ends pieces
   pub below : h < setting .n
   pub from : From setting rows h
 
-pub record Ready (n : ℕ) (parens places pieces rows : List ℕ) : Type 0 where
-  pub setting : Setting parens places pieces
+pub record Ready (n : ℕ) (places ends pieces rows : List ℕ) : Type 0 where
+  pub setting : Setting places ends pieces
   pub count : n ≡ setting .n
   pub from : From setting rows 0

@@ -7,7 +7,8 @@ use Prim.Native.Nat.{ℕ, _+_, _*_, _-_, _<_, _≤_}
 use lib.Dec.{eqb}
 use lib.ListN.{length, getD, take}
 use Rattle.lists.specs.Any.{anyBelow}
-use Rattle.parentheses.specs.Bits.{bits, num}
+use Rattle.parentheses.specs.Bits.{bits}
+use Rattle.parentheses.specs.Rank.{num}
 use Rattle.relation.specs.Matrix.{bitOf}
 use Rattle.containment.specs.Numbers.{range, keep}
 use Rattle.containment.specs.Pairs.{Book}

@@ -1,9 +1,10 @@
 // What each piece contains, read off the index: bit g of row h of a matrix for "g lies within h".
 ghost use mathlib.Core.Path.{_≡_};
-ghost use Prim.Native.Nat.{ℕ, _+_, _*_, _^_, _<_, _≤_};
+ghost use Prim.Native.Nat.{ℕ, _*_, _<_, _≤_};
 ghost use lib.ListN.{length, getD};
 ghost use Rattle.containment.specs.Filling.{Setting, Fillable, From, Filled, FilledTo, Ready};
-ghost use Rattle.containment.specs.Contents.{Stored, Contents, leads, Apart, StandsFor};
+ghost use Rattle.containment.specs.Contents.{Stored, Contents, leads, Apart, StandsFor, Balanced};
+ghost use Rattle.parentheses.specs.Subtree.{after};
 ghost use Rattle.parentheses.specs.Bits.{bits};
 use crate::DatasetId;
 use crate::TreeId;
@@ -20,9 +21,9 @@ fn piece_at(pieces: &[u16], q: TreeId) -> DatasetId
 // Fills the row of h, unless it is filled: h itself, and the row of each part that hangs from its node. A part that hangs there
 // as a shadow is the piece that the shadow stands for, so containment calls itself through shadow targets. Parts have higher
 // numbers, and a row that is filled is filled for good.
-fn fill(parens: &[u8], places: &[u16], pieces: &[u16], rows: &mut [u64], h: DatasetId)
-    requires { ⌜ (8 * length (now parens) < 2 ^ 64) × (length (now rows) ≡ 65536) × Fillable (now parens) (now places) (now pieces) (now rows) (h .0) ⌝ }
-    ensures { λ _. ⌜ ((s : Setting (now (parens .entry)) (now (places .entry)) (now (pieces .entry))) → From s (now (rows .entry)) (h .0) → h .0 < s .n → Filled s (now (rows .entry)) (now (rows .exit)) (h .0)) ⌝ }
+fn fill(places: &[u16], ends: &[u16], pieces: &[u16], rows: &mut [u64], h: DatasetId)
+    requires { ⌜ (length (now rows) ≡ 65536) × Fillable (now places) (now ends) (now pieces) (now rows) (h .0) ⌝ }
+    ensures { λ _. ⌜ ((s : Setting (now (places .entry)) (now (ends .entry)) (now (pieces .entry))) → From s (now (rows .entry)) (h .0) → h .0 < s .n → Filled s (now (rows .entry)) (now (rows .exit)) (h .0)) ⌝ }
 {
     let x = h.0;
     if relation::test(rows, x, x) {
@@ -31,17 +32,14 @@ fn fill(parens: &[u8], places: &[u16], pieces: &[u16], rows: &mut [u64], h: Data
     relation::insert(rows, x, x);
     let place = crate::place_of(places, h);
     let at = place.0;
-    let end = 8 * parens.len();
+    let end = crate::wide(ends[at]);
     let mut q = at + 1;
-    let mut p = parentheses::select(parens, at) + 1;
-    while parentheses::get(parens, p) {
+    while q < end {
         let t = piece_at(pieces, TreeId(q));
-        fill(parens, places, pieces, rows, t);
+        fill(places, ends, pieces, rows, t);
         let y = t.0;
         relation::union_within(rows, x, y);
-        let c = parentheses::find_close(parens, p, end);
-        q += (c + 1 - p) / 2;
-        p = c + 1;
+        q = crate::wide(ends[q]);
     }
 }
 
@@ -78,14 +76,38 @@ fn number_shadows(nodes: usize, marks: &[u8], shadows: &[u16], pieces: &mut [u16
     }
 }
 
+// Of each place, the first one past its subtree: at each closing parenthesis, of the node that was opened last.
+fn subtree_ends(nodes: usize, parens: &[u8], opened: &mut [u16], ends: &mut [u16])
+    requires { ⌜ (nodes ≤ length (now opened)) × (nodes ≤ length (now ends)) × (nodes < 65536) × (2 * nodes ≤ 8 * length (now parens)) × Balanced nodes (bits (now parens)) ⌝ }
+    ensures { λ _. ⌜ ((q : ℕ) → q < nodes → getD (now (ends .exit)) q 0 ≡ after (bits (now (parens .entry))) q) ⌝ }
+{
+    let end = 2 * nodes;
+    let mut depth: usize = 0;
+    let mut q: usize = 0;
+    let mut p: usize = 0;
+    while p < end {
+        if parentheses::get(parens, p) {
+            opened[depth] = crate::narrow(q);
+            depth += 1;
+            q += 1;
+            p += 1;
+            continue;
+        }
+        depth -= 1;
+        let last = crate::wide(opened[depth]);
+        ends[last] = crate::narrow(q);
+        p += 1;
+    }
+}
+
 // Fills the row of each piece below n.
-fn fill_all(n: usize, parens: &[u8], places: &[u16], pieces: &[u16], rows: &mut [u64])
-    requires { ⌜ (8 * length (now parens) < 2 ^ 64) × (length (now rows) ≡ 65536) × Ready n (now parens) (now places) (now pieces) (now rows) ⌝ }
-    ensures { λ _. ⌜ ((s : Setting (now (parens .entry)) (now (places .entry)) (now (pieces .entry))) → n ≡ s .n → From s (now (rows .entry)) 0 → FilledTo s (now (rows .exit)) n) ⌝ }
+fn fill_all(n: usize, places: &[u16], ends: &[u16], pieces: &[u16], rows: &mut [u64])
+    requires { ⌜ (length (now rows) ≡ 65536) × Ready n (now places) (now ends) (now pieces) (now rows) ⌝ }
+    ensures { λ _. ⌜ ((s : Setting (now (places .entry)) (now (ends .entry)) (now (pieces .entry))) → n ≡ s .n → From s (now (rows .entry)) 0 → FilledTo s (now (rows .exit)) n) ⌝ }
 {
     let mut h: usize = 0;
     while h < n {
-        fill(parens, places, pieces, rows, DatasetId(h));
+        fill(places, ends, pieces, rows, DatasetId(h));
         h += 1;
     }
 }
@@ -101,12 +123,15 @@ pub fn contents(
     places: &[u16],
     rows: &mut [u64],
 )
-    requires { ⌜ (n ≤ 2048) × (nodes ≤ 18432) × (8 * length (now parens) < 2 ^ 64) × (length (now rows) ≡ 65536) × Stored n nodes (now parens) (now marks) (now shadows) (now places) ⌝ }
+    requires { ⌜ (n ≤ 2048) × (nodes ≤ 18432) × (length (now rows) ≡ 65536) × Stored n nodes (now parens) (now marks) (now shadows) (now places) ⌝ }
     ensures { λ _. ⌜ Contents n (now (parens .entry)) (now (marks .entry)) (now (shadows .entry)) (now (places .entry)) (now (rows .exit)) ⌝ }
 {
+    let mut opened = [0u16; 18432];
+    let mut ends = [0u16; 18432];
     let mut pieces = [0u16; 18432];
+    subtree_ends(nodes, parens, &mut opened, &mut ends);
     number_nodes(n, places, &mut pieces);
     number_shadows(nodes, marks, shadows, &mut pieces);
     relation::clear(rows);
-    fill_all(n, parens, places, &pieces, rows);
+    fill_all(n, places, &ends, &pieces, rows);
 }

@@ -155,3 +155,123 @@ fn find_parents(n: usize, edges: &[u64], parent: &mut [u16], order: &mut [u16])
         head += 1;
     }
 }
+
+// The four parts, into parts that are zero, depth first: the walk stands at the node of c, whose parts below `from` are done. The shadow
+// list has the number of each shadow's piece yet, as the piece's node may come later.
+fn walk(
+    n: usize,
+    edges: &[u64],
+    parent: &[u16],
+    parens: &mut [u8],
+    marks: &mut [u8],
+    shadows: &mut [u16],
+    places: &mut [u16],
+) -> Counts
+    requires { ⌜ Walkable n (now edges) (now parent) (length (now parens)) (length (now marks)) (length (now shadows)) (length (now places)) × Zero (now parens) × Zero (now marks) × Zero (now shadows) × Zero (now places) ⌝ }
+    ensures { λ r. ⌜ Walked n (pairOf n (now (edges .entry))) (now (parens .exit)) (now (marks .exit)) (now (shadows .exit)) (now (places .exit)) (r .nodes) (r .shadows) ⌝ }
+{
+    parentheses::put(parens, 0);
+    set_place(places, DatasetId(0), TreeId(0));
+    let mut c: usize = 0;
+    let mut from: usize = 1;
+    let mut at: usize = 1;
+    let mut k: usize = 1;
+    let mut m: usize = 0;
+    loop {
+        let p = relation::next_bit(edges, c, from);
+        if p < n {
+            parentheses::put(parens, at);
+            if wide(parent[p]) == c {
+                set_place(places, DatasetId(p), TreeId(k));
+                at += 1;
+                k += 1;
+                c = p;
+                from = p + 1;
+            } else {
+                parentheses::put(marks, k);
+                shadows[m] = narrow(p);
+                at += 2;
+                k += 1;
+                m += 1;
+                from = p + 1;
+            }
+        } else {
+            if c == 0 {
+                return Counts {
+                    nodes: k,
+                    shadows: m,
+                };
+            }
+            at += 1;
+            from = c + 1;
+            c = wide(parent[c]);
+        }
+    }
+}
+
+// Each shadow's piece gives way to its place.
+fn resolve(shadows: &mut [u16], places: &[u16], m: usize)
+    requires { ⌜ Resolvable (now shadows) (now places) m ⌝ }
+    ensures { λ _. ⌜ Resolved (now (shadows .entry)) (now (places .entry)) m (now (shadows .exit)) ⌝ }
+{
+    let mut j: usize = 0;
+    while j < m {
+        let t = place_of(places, DatasetId(wide(shadows[j])));
+        let k = t.0;
+        shadows[j] = narrow(k);
+        j += 1;
+    }
+}
+
+// Puts the joins into row 0.
+fn complete(n: usize, edges: &mut [u64])
+    requires { ⌜ (n ≤ 2048) × (0 < n) × (length (now edges) ≡ 65536) ⌝ }
+    ensures { λ _. ⌜ Completed n (now (edges .entry)) (now (edges .exit)) ⌝ }
+{
+    let mut held = [0u16; 2048];
+    mark_held(n, edges, &mut held);
+    join(n, edges, &held);
+}
+
+// The four parts of the book in a matrix that has the joins, with its parents.
+fn fill(
+    n: usize,
+    edges: &[u64],
+    parent: &[u16],
+    parens: &mut [u8],
+    marks: &mut [u8],
+    shadows: &mut [u16],
+    places: &mut [u16],
+) -> Counts
+    requires { ⌜ Walkable n (now edges) (now parent) (length (now parens)) (length (now marks)) (length (now shadows)) (length (now places)) ⌝ }
+    ensures { λ r. ⌜ Indexed n (pairOf n (now (edges .entry))) (now (parens .exit)) (now (marks .exit)) (now (shadows .exit)) (now (places .exit)) (r .nodes) (r .shadows) ⌝ }
+{
+    parentheses::clear(parens);
+    parentheses::clear(marks);
+    clear(shadows);
+    clear(places);
+    let counts = walk(n, edges, parent, parens, marks, shadows, places);
+    let m = counts.shadows;
+    resolve(shadows, places, m);
+    counts
+}
+
+// Writes the index of the book whose pairs are in `edges` into the four lent parts, and the joins into `edges`.
+pub fn build(
+    n: usize,
+    edges: &mut [u64],
+    parens: &mut [u8],
+    marks: &mut [u8],
+    shadows: &mut [u16],
+    places: &mut [u16],
+) -> Counts
+    requires { ⌜ Buildable n (now edges) (length (now parens)) (length (now marks)) (length (now shadows)) (length (now places)) ⌝ }
+    ensures index { λ r. ⌜ Indexed n (joined n (pairOf n (now (edges .entry)))) (now (parens .exit)) (now (marks .exit)) (now (shadows .exit)) (now (places .exit)) (r .nodes) (r .shadows) ⌝ }
+    ensures joins { λ _. ⌜ Completed n (now (edges .entry)) (now (edges .exit)) ⌝ }
+{
+    let mut parent = [0u16; 2048];
+    let mut order = [0u16; 2048];
+    complete(n, edges);
+    find_parents(n, edges, &mut parent, &mut order);
+    fill(n, edges, &parent, parens, marks, shadows, places)
+}

@@ -9,10 +9,10 @@ use Rattle.containment.proofs.contents.fill_all.Statement.{statement}
 use Rattle.containment.proofs.contents.fill_all.Tie as tie
 
 abbrev Inv-loop : tie.InvT-loop
-Inv-loop n parens places pieces rows₀ h₀ rows h = (h ≤ n) × (length rows ≡ length rows₀) × ((s : Setting parens places pieces) → n ≡ s .n → From s rows₀ 0 → FilledTo s rows h)
+Inv-loop n places ends pieces rows₀ h₀ rows h = (h ≤ n) × (length rows ≡ length rows₀) × ((s : Setting places ends pieces) → n ≡ s .n → From s rows₀ 0 → FilledTo s rows h)
 
 abbrev μ-loop : tie.MeasureT-loop
-μ-loop n parens places pieces rows₀ h₀ rows h = n - h
+μ-loop n places ends pieces rows₀ h₀ rows h = n - h
 
 loop-holds : tie.Need-loop-holds Inv-loop μ-loop
 loop-holds c = (search needs, refl, λ s e F. filled-none s _ F)
@@ -21,9 +21,9 @@ fill-requires : tie.Need-fill-requires Inv-loop μ-loop
 fill-requires c κs =
     let L = c .before .before .loop in
     let A = c .before .before .before .before .before .before .before in
-    let s = A .pre .2 .setting in
-    let T = L .inv .2 s (A .pre .2 .count) (A .pre .2 .from) in
-    (A .pre .0, omega arith, record { setting = s; below = omega (arith, A .pre .2 .count); from = λ r a d. T .from r (omega arith) d })
+    let s = A .pre .1 .setting in
+    let T = L .inv .2 s (A .pre .1 .count) (A .pre .1 .from) in
+    (omega arith, record { setting = s; below = omega (arith, A .pre .1 .count); from = λ r a d. T .from r (omega arith) d })
 
 add-h : tie.Need-add-h Inv-loop μ-loop
 add-h c = search needs
