@@ -41,6 +41,23 @@ diagonal-more k x y = pick (ℕ-discrete x y) (ℕ-discrete k x) (decLt x k)
     pick (yes e) (no e′) (yes h) = simp (eq-eqb x y e, ne-eqb k x e′, lt-ltb x k h, lt-ltb x (k + 1) (omega arith))
     pick (yes e) (no e′) (no h) = simp (eq-eqb x y e, ne-eqb k x e′, le-ltb x k (omega arith), le-ltb x (k + 1) (omega arith))
 
+-- piece 0's parts by one more
+pub crown-none : (x y : ℕ) → (eqb x 0 && (ltb 0 y && ltb y 1)) ≡ false
+crown-none x y = ap (λ (t : Bool). eqb x 0 && t) (pick (decLt 0 y)) ∙ and-false (eqb x 0)
+  where
+    pick : Dec (0 < y) → (ltb 0 y && ltb y 1) ≡ false
+    pick (yes h) = ap (λ (t : Bool). ltb 0 y && t) (le-ltb y 1 (omega arith)) ∙ and-false (ltb 0 y)
+    pick (no h) = ap (λ (t : Bool). t && ltb y 1) (le-ltb 0 y (omega arith))
+
+pub crown-more : (k x y : ℕ) → 1 ≤ k → ((eqb x 0 && (ltb 0 y && ltb y k)) || (eqb 0 x && eqb k y)) ≡ (eqb x 0 && (ltb 0 y && ltb y (k + 1)))
+crown-more k x y l = pick (ℕ-discrete x 0) (ℕ-discrete k y) (decLt y k)
+  where
+    pick : Dec (x ≡ 0) → Dec (k ≡ y) → Dec (y < k) → ((eqb x 0 && (ltb 0 y && ltb y k)) || (eqb 0 x && eqb k y)) ≡ (eqb x 0 && (ltb 0 y && ltb y (k + 1)))
+    pick (no e) d d′ = simp (ne-eqb x 0 e, ne-eqb 0 x (λ q. e (sym q)))
+    pick (yes e) (yes f) d′ = simp (eq-eqb x 0 e, eq-eqb 0 x (sym e), eq-eqb k y f, lt-ltb 0 y (omega arith), lt-ltb y (k + 1) (omega arith), or-true)
+    pick (yes e) (no f) (yes h) = simp (eq-eqb x 0 e, eq-eqb 0 x (sym e), ne-eqb k y f, lt-ltb y k h, lt-ltb y (k + 1) (omega arith), or-false)
+    pick (yes e) (no f) (no h) = simp (eq-eqb x 0 e, eq-eqb 0 x (sym e), ne-eqb k y f, le-ltb y k (omega arith), le-ltb y (k + 1) (omega arith), or-false)
+
 -- bits that are asked only where a test holds
 pub grown-off : (m : List ℕ) (f : ℕ → ℕ → Bool) (on : Bool) → on ≡ false → Grown m m (λ x y. on && f x y)
 grown-off m f on e = grown-none m (λ x y. on && f x y) (λ x y. ap (λ (t : Bool). t && f x y) e)

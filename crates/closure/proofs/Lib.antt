@@ -5,4 +5,6 @@ pub mod Storing
 pub mod Products
 pub mod Holding
 pub mod Answering
-pub mod Pairing
+pub mod Parts
+pub mod Steps
+pub mod Halving

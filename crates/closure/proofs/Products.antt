@@ -41,7 +41,7 @@ both-hit a b r s j l h k = below-hit (λ j. a r j && b s j) 2048 j l (both-and h
 
 -- ---- the products
 
-path-above : {n : ℕ} {fs : List Fact} {g k : ℕ} → AllWithin n fs → Path n fs g k → k < n
+pub path-above : {n : ℕ} {fs : List Fact} {g k : ℕ} → AllWithin n fs → Path n fs g k → k < n
 path-above i (here l) = l
 path-above i (top l w) = path-above i w
 path-above i (up m w) = path-above i w
@@ -61,25 +61,25 @@ meet-toward (meet x y e a b) = (y, met x e a, b)
 
 module _ (n : ℕ) (fs : List Fact) (i : AllWithin n fs) (pos : 0 < n) (fits : n ≤ 2048) where
   -- a bit of D is a path
-  d-path : {h g : ℕ} → partBit n fs h g ≡ true → Path n fs g h
+  pub d-path : {h g : ℕ} → partBit n fs h g ≡ true → Path n fs g h
   unfolding partBit
   d-path {h} {g} e =
       let t = and-both _ _ e in
       let b = and-both _ _ (t .0) in
       follows-shape n fs i pos (PART g h) (ltb-true g n (b .0), ltb-true h n (b .1)) .0 (t .1)
 
-  path-d : {h g : ℕ} → Path n fs g h → partBit n fs h g ≡ true
+  pub path-d : {h g : ℕ} → Path n fs g h → partBit n fs h g ≡ true
   unfolding partBit
   path-d {h} {g} w =
       let lg = path-below i w in
       let lh = path-above i w in
       both-and (both-and (lt-ltb g n lg) (lt-ltb h n lh)) (follows-shape n fs i pos (PART g h) (lg, lh) .1 w)
 
-  u-path : {g h : ℕ} → wholeBit n fs g h ≡ true → Path n fs g h
+  pub u-path : {g h : ℕ} → wholeBit n fs g h ≡ true → Path n fs g h
   unfolding wholeBit
   u-path e = d-path e
 
-  path-u : {g h : ℕ} → Path n fs g h → wholeBit n fs g h ≡ true
+  pub path-u : {g h : ℕ} → Path n fs g h → wholeBit n fs g h ≡ true
   unfolding wholeBit
   path-u w = path-d w
 

@@ -7,38 +7,22 @@ use mathlib.Core.List.{List, List·Memᴰ}
 use borrow.Author.Tests.{eqb-true}
 use lib.Dec.{eqb}
 use Rattle.lists.proofs.Bools.{and-both, both-and, or-either, left-or, right-or, eqb-self}
-use Rattle.rules.specs.Fact.{Fact, PART, APART, MEETS, NOTPART, kind, left, right, factOf}
+use Rattle.rules.specs.Fact.{Fact, kind, left, right, factOf}
 use Rattle.rules.proofs.Facts.{storing-find, storing-hit}
 use Rattle.rules.proofs.Paths.{Either, as-is, swapped}
+use Rattle.records.specs.declared.Record.{Record}
+use Rattle.records.proofs.Accepted.{says-left, says-right}
 use Rattle.closure.specs.Stored.{storedBit}
 
 pub turn : {fs : List Fact} {R : ℕ → ℕ → Fact} {x y : ℕ} → Either fs R x y → Either fs R y x
 turn (as-is m) = swapped m
 turn (swapped m) = as-is m
 
--- the pieces of the fact of a kind
-pub left-of : (k x y : ℕ) → left (factOf k x y) ≡ x
-unfolding factOf
-left-of k x y = pick (eqb k 1) (eqb k 2) (eqb k 3)
-  where
-    pick : (a b c : Bool) → left (elim a [ true ↦ PART x y | false ↦ elim b [ true ↦ APART x y | false ↦ elim c [ true ↦ MEETS x y | false ↦ NOTPART x y ] ] ]) ≡ x
-    pick true b c = refl
-    pick false true c = refl
-    pick false false true = refl
-    pick false false false = refl
-
-pub right-of : (k x y : ℕ) → right (factOf k x y) ≡ y
-unfolding factOf
-right-of k x y = pick (eqb k 1) (eqb k 2) (eqb k 3)
-  where
-    pick : (a b c : Bool) → right (elim a [ true ↦ PART x y | false ↦ elim b [ true ↦ APART x y | false ↦ elim c [ true ↦ MEETS x y | false ↦ NOTPART x y ] ] ]) ≡ y
-    pick true b c = refl
-    pick false true c = refl
-    pick false false true = refl
-    pick false false false = refl
-
+-- a fact has its own pieces
 same : (k x y : ℕ) → (eqb (left (factOf k x y)) x && eqb (right (factOf k x y)) y) ≡ true
-same k x y = rw (left-of k x y, right-of k x y) (both-and (eqb-self x) (eqb-self y))
+same k x y =
+    let r : Record = record { kind = k; tag = 0; a = x; b = y } in
+    rw (says-left r, says-right r) (both-and (eqb-self x) (eqb-self y))
 
 module _ (fs : List Fact) where
   -- in one order
@@ -54,6 +38,14 @@ module _ (fs : List Fact) where
   unfolding storedBit
   straight-hit k x y swaps q m =
       storing-hit fs k _ (factOf k x y) m q (left-or _ (same k x y))
+
+  -- in the other
+  pub swapped-find : (k : ℕ) (x y : ℕ) → storedBit fs k false true x y ≡ true → List·Memᴰ (factOf k y x) fs
+  unfolding storedBit
+  swapped-find k x y e =
+      let s = storing-find fs k _ e in
+      let h = and-both (eqb (s .0) y) (eqb (s .1) x) (s .3) in
+      rw (eqb-true (s .0) y (h .0), eqb-true (s .1) x (h .1)) at (s .2)
 
   -- in either order
   pub either-find : (k : ℕ) (x y : ℕ) → storedBit fs k true true x y ≡ true → Either fs (factOf k) x y

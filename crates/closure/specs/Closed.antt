@@ -42,10 +42,6 @@ pub record Holds (m : List ℕ) (f : ℕ → ℕ → Bool) : Type 0 where
 pub record Grown (m m′ : List ℕ) (f : ℕ → ℕ → Bool) : Type 0 where
   pub bits : (r i : ℕ) → r < 2048 → i < 2048 → bitOf m′ r i ≡ (bitOf m r i || f r i)
 
--- a matrix with no bit from row n on
-pub record EmptyFrom (m : List ℕ) (n : ℕ) : Type 0 where
-  pub empty : (r i : ℕ) → n ≤ r → r < 2048 → i < 2048 → bitOf m r i ≡ false
-
 -- the five matrices from which every claim is answered
 pub record Closed (n : ℕ) (fs : List Fact) (d u p t q : List ℕ) : Type 0 where
   pub parts : Holds d (partBit n fs)

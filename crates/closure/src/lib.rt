@@ -1,15 +1,21 @@
 // Every answer from one closure: containment and the stored facts as bit matrices, their products, and what those say of claims.
 ghost use mathlib.Core.Path.{_≡_};
 ghost use mathlib.Core.Bool.{true, false, _&&_, _||_};
-ghost use Prim.Native.Nat.{ℕ, _+_, _*_, _<_, _≤_};
+ghost use Prim.Native.Nat.{ℕ, _+_, _*_, _/_, _<_, _≤_};
 ghost use lib.Dec.{eqb, ltb};
 ghost use lib.ListN.{length};
-ghost use Rattle.relation.specs.Matrix.{bitOf, through};
+ghost use Rattle.relation.specs.Matrix.{bitOf};
 ghost use Rattle.rules.specs.Fact.{AllWithin};
-ghost use Rattle.records.specs.Facts.{facts};
-ghost use Rattle.closure.specs.Stored.{storedBit, meetBit};
-ghost use Rattle.closure.specs.Closed.{Grown, EmptyFrom, Holds, partBit, wholeBit, towardBit, awayBit, outBit, Closed};
+ghost use Rattle.rules.specs.Follows.{clash};
+ghost use Rattle.rules.specs.Entries.{shortestClash};
+ghost use Rattle.records.specs.Facts.{entries, facts};
+ghost use Rattle.containment.specs.Pairs.{joined};
+ghost use Rattle.containment.specs.Index.{Indexed};
+ghost use Rattle.closure.specs.Stored.{storedBit, meetBit, edgeBit};
+ghost use Rattle.closure.specs.Closed.{Grown, Holds, partBit, wholeBit, towardBit, awayBit, outBit, Closed};
 ghost use Rattle.closure.specs.Bounded.{Bounded};
+ghost use Rattle.containment.specs.Stored.{partIn};
+ghost use Rattle.closure.specs.Ordered.{Ordered, Roomy};
 ghost use Rattle.closure.specs.Opposed.{opposed};
 ghost use Rattle.closure.specs.Tells.{Derived, Answered, Clashing};
 ghost use Rattle.closure.specs.Answers.{answerByte};
@@ -72,61 +78,75 @@ pub fn diagonal(n: usize, m: &mut [u64])
     }
 }
 
-// The product of a and b, where a has no bit from row n on.
-fn multiply(dst: &mut [u64], a: &[u64], b: &[u64], n: usize)
-    requires { ⌜ (length (now dst) ≡ 65536) × (length (now a) ≡ 65536) × (length (now b) ≡ 65536) × (n ≤ 2048) × EmptyFrom (now a) n ⌝ }
-    ensures { λ _. ⌜ Holds (now (dst .exit)) (through (now (a .entry)) (now (b .entry))) ⌝ }
+// Every piece but 0 as a part of piece 0.
+fn crown(n: usize, e: &mut [u64])
+    requires { ⌜ (length (now e) ≡ 65536) × (n ≤ 2048) × (0 < n) ⌝ }
+    ensures { λ _. ⌜ Grown (now (e .entry)) (now (e .exit)) (λ x y. eqb x 0 && (ltb 0 y && ltb y n)) ⌝ }
 {
-    relation::clear(dst);
-    relation::product(dst, a, b, n);
+    let mut p: usize = 1;
+    while p < n {
+        relation::insert(e, 0, p);
+        p += 1;
+    }
 }
 
-// T from D, in which row h has the pieces that are part of h. x is scratch.
-pub fn meeting(run: &[u8], n: usize, d: &[u64], x: &mut [u64], t: &mut [u64])
-    requires { ⌜ Bounded n (facts (now run)) × Holds (now d) (partBit n (facts (now run))) × (length (now x) ≡ 65536) × (length (now t) ≡ 65536) ⌝ }
+// The steps of containment, along which rows are joined: the same as a product with D or U, at the cost of a row for each step.
+pub fn edges(run: &[u8], n: usize, e: &mut [u64])
+    requires { ⌜ Bounded n (facts (now run)) × (length (now e) ≡ 65536) ⌝ }
+    ensures { λ _. ⌜ Holds (now (e .exit)) (edgeBit n (facts (now (run .entry)))) ⌝ }
+{
+    store(run, 1, false, true, e);
+    crown(n, e);
+}
+
+// M: the stored MEETS, and each piece with itself.
+fn meets(run: &[u8], n: usize, m: &mut [u64])
+    requires { ⌜ Bounded n (facts (now run)) × (length (now m) ≡ 65536) ⌝ }
+    ensures { λ _. ⌜ Holds (now (m .exit)) (meetBit n (facts (now (run .entry)))) ⌝ }
+{
+    store(run, 3, true, true, m);
+    diagonal(n, m);
+}
+
+// T = D·M.
+pub fn meeting(run: &[u8], n: usize, e: &[u64], t: &mut [u64])
+    requires { ⌜ Bounded n (facts (now run)) × Ordered (facts (now run)) × Holds (now e) (edgeBit n (facts (now run))) × (length (now t) ≡ 65536) ⌝ }
     ensures { λ _. ⌜ Holds (now (t .exit)) (towardBit n (facts (now (run .entry)))) ⌝ }
 {
-    store(run, 3, true, true, x);
-    diagonal(n, x);
-    multiply(t, d, x, n);
+    meets(run, n, t);
+    relation::join_along(e, n, t);
 }
 
-// U and P from D. x is scratch.
-fn parting(run: &[u8], n: usize, d: &[u64], u: &mut [u64], x: &mut [u64], p: &mut [u64])
-    requires { ⌜ Bounded n (facts (now run)) × Holds (now d) (partBit n (facts (now run))) × (length (now u) ≡ 65536) × (length (now x) ≡ 65536) × (length (now p) ≡ 65536) ⌝ }
-    ensures { λ _. ⌜ Holds (now (u .exit)) (wholeBit n (facts (now (run .entry)))) × Holds (now (p .exit)) (awayBit n (facts (now (run .entry)))) ⌝ }
+// P = U·A.
+fn parting(run: &[u8], n: usize, e: &[u64], p: &mut [u64])
+    requires { ⌜ Bounded n (facts (now run)) × Ordered (facts (now run)) × Holds (now e) (edgeBit n (facts (now run))) × (length (now p) ≡ 65536) ⌝ }
+    ensures { λ _. ⌜ Holds (now (p .exit)) (awayBit n (facts (now (run .entry)))) ⌝ }
 {
-    relation::transpose(u, d, n);
-    store(run, 2, true, true, x);
-    multiply(p, u, x, n);
+    store(run, 2, true, true, p);
+    relation::join_against(e, n, p);
 }
 
-// Q from D, T and P. x is scratch.
-fn outing(run: &[u8], n: usize, d: &[u64], t: &[u64], p: &[u64], x: &mut [u64], q: &mut [u64])
-    requires { ⌜ Bounded n (facts (now run)) × Holds (now d) (partBit n (facts (now run))) × Holds (now t) (towardBit n (facts (now run))) × Holds (now p) (awayBit n (facts (now run))) × (length (now x) ≡ 65536) × (length (now q) ≡ 65536) ⌝ }
+// Q = D·N ∪ T·P, as D·(N ∪ M·P): M has few bits. m is scratch.
+fn outing(run: &[u8], n: usize, e: &[u64], p: &[u64], m: &mut [u64], q: &mut [u64])
+    requires { ⌜ Bounded n (facts (now run)) × Ordered (facts (now run)) × Holds (now e) (edgeBit n (facts (now run))) × Holds (now p) (awayBit n (facts (now run))) × (length (now m) ≡ 65536) × (length (now q) ≡ 65536) ⌝ }
     ensures { λ _. ⌜ Holds (now (q .exit)) (outBit n (facts (now (run .entry)))) ⌝ }
 {
-    store(run, 4, true, false, x);
-    multiply(q, d, x, n);
-    relation::product(q, t, p, n);
+    meets(run, n, m);
+    store(run, 4, true, false, q);
+    relation::product(q, m, p, n);
+    relation::join_along(e, n, q);
 }
 
-// U, P and Q from D and T. x is scratch.
-pub fn complete(
-    run: &[u8],
-    n: usize,
-    d: &[u64],
-    t: &[u64],
-    u: &mut [u64],
-    x: &mut [u64],
-    p: &mut [u64],
-    q: &mut [u64],
-)
-    requires { ⌜ Bounded n (facts (now run)) × Holds (now d) (partBit n (facts (now run))) × Holds (now t) (towardBit n (facts (now run))) × (length (now u) ≡ 65536) × (length (now x) ≡ 65536) × (length (now p) ≡ 65536) × (length (now q) ≡ 65536) ⌝ }
-    ensures { λ _. ⌜ Closed n (facts (now (run .entry))) (now (d .entry)) (now (u .exit)) (now (p .exit)) (now (t .entry)) (now (q .exit)) ⌝ }
+// U, P and Q.
+pub fn complete(run: &[u8], n: usize, e: &[u64], u: &mut [u64], p: &mut [u64], q: &mut [u64])
+    requires { ⌜ Bounded n (facts (now run)) × Ordered (facts (now run)) × Holds (now e) (edgeBit n (facts (now run))) × (length (now u) ≡ 65536) × (length (now p) ≡ 65536) × (length (now q) ≡ 65536) ⌝ }
+    ensures { λ _. ⌜ Holds (now (u .exit)) (wholeBit n (facts (now (run .entry)))) × Holds (now (p .exit)) (awayBit n (facts (now (run .entry)))) × Holds (now (q .exit)) (outBit n (facts (now (run .entry)))) ⌝ }
 {
-    parting(run, n, d, u, x, p);
-    outing(run, n, d, t, p, x, q);
+    parting(run, n, e, p);
+    outing(run, n, e, p, u, q);
+    relation::clear(u);
+    diagonal(n, u);
+    relation::join_against(e, n, u);
 }
 
 // Whether the closure contradicts a record.
@@ -207,4 +227,92 @@ pub fn answer_to(
         return Answer::Denied;
     }
     Answer::Open
+}
+
+// The index of the run's PARTs in the lent parts. x is scratch.
+pub fn index_of(
+    run: &[u8],
+    n: usize,
+    x: &mut [u64],
+    parens: &mut [u8],
+    marks: &mut [u8],
+    shadows: &mut [u16],
+    places: &mut [u16],
+) -> containment::Counts
+    requires { ⌜ Bounded n (facts (now run)) × Ordered (facts (now run)) × Roomy n (length (now run) / 6) (length (now parens)) (length (now marks)) (length (now shadows)) (length (now places)) × (length (now x) ≡ 65536) ⌝ }
+    ensures { λ r. ⌜ Indexed n (joined n (partIn (facts (now (run .entry))))) (now (parens .exit)) (now (marks .exit)) (now (shadows .exit)) (now (places .exit)) (r .nodes) (r .shadows) ⌝ }
+{
+    store(run, 1, false, true, x);
+    containment::build(n, x, parens, marks, shadows, places)
+}
+
+// The same, and D read off the index.
+pub fn contained(
+    run: &[u8],
+    n: usize,
+    x: &mut [u64],
+    parens: &mut [u8],
+    marks: &mut [u8],
+    shadows: &mut [u16],
+    places: &mut [u16],
+    d: &mut [u64],
+) -> containment::Counts
+    requires { ⌜ Bounded n (facts (now run)) × Ordered (facts (now run)) × Roomy n (length (now run) / 6) (length (now parens)) (length (now marks)) (length (now shadows)) (length (now places)) × (length (now x) ≡ 65536) × (length (now d) ≡ 65536) ⌝ }
+    ensures { λ r. ⌜ Indexed n (joined n (partIn (facts (now (run .entry))))) (now (parens .exit)) (now (marks .exit)) (now (shadows .exit)) (now (places .exit)) (r .nodes) (r .shadows) × Holds (now (d .exit)) (partBit n (facts (now (run .entry)))) ⌝ }
+{
+    let counts = index_of(run, n, x, parens, marks, shadows, places);
+    let nodes = counts.nodes;
+    containment::contents::contents(n, nodes, parens, marks, shadows, places, d);
+    counts
+}
+
+// Whether the run is contradictory. All that is lent is scratch.
+fn run_clashes(
+    run: &[u8],
+    n: usize,
+    e: &mut [u64],
+    d: &mut [u64],
+    t: &mut [u64],
+    parens: &mut [u8],
+    marks: &mut [u8],
+    shadows: &mut [u16],
+    places: &mut [u16],
+) -> bool
+    requires { ⌜ Bounded n (facts (now run)) × Ordered (facts (now run)) × Roomy n (length (now run) / 6) (length (now parens)) (length (now marks)) (length (now shadows)) (length (now places)) × (length (now e) ≡ 65536) × (length (now d) ≡ 65536) × (length (now t) ≡ 65536) ⌝ }
+    ensures { λ b. ⌜ b ≡ clash n (facts (now (run .entry))) ⌝ }
+{
+    contained(run, n, e, parens, marks, shadows, places, d);
+    edges(run, n, e);
+    meeting(run, n, e, t);
+    clashes(run, d, t)
+}
+
+// The place of the contradiction in a contradictory book: the last record of the shortest contradictory run from the start, found by halving, since
+// contradiction only grows with the run. All that is lent is scratch.
+pub fn contradiction(
+    book: &[u8],
+    n: usize,
+    e: &mut [u64],
+    d: &mut [u64],
+    t: &mut [u64],
+    parens: &mut [u8],
+    marks: &mut [u8],
+    shadows: &mut [u16],
+    places: &mut [u16],
+) -> usize
+    requires { ⌜ Bounded n (facts (now book)) × Ordered (facts (now book)) × Roomy n (length (now book) / 6) (length (now parens)) (length (now marks)) (length (now shadows)) (length (now places)) × (length (now e) ≡ 65536) × (length (now d) ≡ 65536) × (length (now t) ≡ 65536) × (clash n (facts (now book)) ≡ true) ⌝ }
+    ensures { λ r. ⌜ r + 1 ≡ shortestClash n (entries (now (book .entry))) ⌝ }
+{
+    let mut low: usize = 0;
+    let mut high = book.len() / 6;
+    while low + 1 < high {
+        let mid = (low + high) / 2;
+        let end = 6 * mid;
+        if run_clashes(&book[..end], n, e, d, t, parens, marks, shadows, places) {
+            high = mid;
+            continue;
+        }
+        low = mid;
+    }
+    low
 }

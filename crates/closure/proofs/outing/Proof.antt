@@ -1,17 +1,21 @@
 use native.Mathlib.Omega.{arith}
 use borrow.Author.Needs.{needs}
-use Rattle.closure.proofs.Holding.{below-2048, part-empty, out-holds}
+use Rattle.closure.proofs.Holding.{below-2048, out-holds}
+use Rattle.closure.proofs.Steps.{edges-rise, parts-reached}
 use Rattle.closure.proofs.outing.Statement.{statement}
 use Rattle.closure.proofs.outing.Tie as tie
 
-store-requires : tie.Need-store-requires
-store-requires c κs = (search needs, search needs, search needs, below-2048 (c .before .before .before .before .before .before .before .pre .0))
+meets-requires : tie.Need-meets-requires
+meets-requires c κs = search needs
 
-multiply-requires : tie.Need-multiply-requires
-multiply-requires c κs = (search needs, search needs, search needs, search needs, part-empty _ _ (c .before .before .before .before .before .before .before .before .before .before .before .before .pre .1))
+store-requires : tie.Need-store-requires
+store-requires c κs = (search needs, search needs, search needs, below-2048 (c .before .before .before .before .before .before .before .before .before .before .pre .0))
 
 product-requires : tie.Need-product-requires
 product-requires c κs = search needs
+
+join-along-requires : tie.Need-join-along-requires
+join-along-requires c κs = (search needs, search needs, search needs, edges-rise _ _ (c .before .before .before .before .before .before .before .before .before .before .before .before .before .before .before .before .before .before .before .pre .0) _ (c .before .before .before .before .before .before .before .before .before .before .before .before .before .before .before .before .before .before .before .pre .2) (c .before .before .before .before .before .before .before .before .before .before .before .before .before .before .before .before .before .before .before .pre .1))
 
 same-length : tie.Need-same-length
 same-length c = search needs
@@ -21,10 +25,18 @@ same-length-2 c = search needs
 
 returns : tie.Need-returns
 returns c =
-    let P = c .before .before .before .before .before .before .before .before .before .before .before .before .before .before .before .before .before .before .before .pre in
-    out-holds _ _ (search needs) (P .1) (c .before .before .before .before .before .before .before .before .before .before .before .store .ensures) (P .2) (P .3) (c .before .before .before .before .before .before .multiply .ensures) (c .before .before .product .ensures)
+    let P = c .before .before .before .before .before .before .before .before .before .before .before .before .before .before .before .before .before .before .before .before .before .before .pre in
+    out-holds _ _ (P .0 .within) (search needs) (search needs) (c .before .before .before .before .before .before .before .before .before .before .before .before .before .before .before .meets .ensures) (P .3) (c .before .before .before .before .before .before .before .before .before .before .before .store .ensures) (c .before .before .before .before .before .before .product .ensures)
+    (c .before .before .join-along .ensures _ (parts-reached _ _ (P .0) _ (P .2)))
 
 pub outing-spec : {M : Type 1} → statement M
 outing-spec =
     tie.close
-    (tie.spec store-requires multiply-requires product-requires same-length same-length-2 returns)
+    (tie.spec
+    meets-requires
+    store-requires
+    product-requires
+    join-along-requires
+    same-length
+    same-length-2
+    returns)
