@@ -1,10 +1,10 @@
+pub mod Session
 pub mod Numbers
 pub mod Reached
 pub mod Joined
 pub mod Nodes
 pub mod Below
 pub mod Sizes
-pub mod Session
 pub mod Ranges
 pub mod Places
 pub mod Contains
@@ -25,3 +25,4 @@ pub mod Pieces
 mod Buildings
 pub mod Ends
 pub mod Table
+pub mod Derived

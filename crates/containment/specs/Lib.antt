@@ -9,3 +9,4 @@ pub mod Filling
 pub mod Matrix
 pub mod Steps
 pub mod Contents
+pub mod Stored

@@ -216,7 +216,8 @@ fn resolve(shadows: &mut [u16], places: &[u16], m: usize)
 {
     let mut j: usize = 0;
     while j < m {
-        let t = place_of(places, DatasetId(wide(shadows[j])));
+        let g = wide(shadows[j]);
+        let t = place_of(places, DatasetId(g));
         let k = t.0;
         shadows[j] = narrow(k);
         j += 1;

@@ -37,7 +37,9 @@ place-of-requires : tie.Need-place-of-requires Inv-loop μ-loop
 place-of-requires c κs = let L = c .before .before .before .loop in omega (arith, c .wide .ensures, L .inv .2 .kept (L .j) (omega arith), L .inv .0 .known (L .j) (omega arith))
 
 narrow-requires : tie.Need-narrow-requires Inv-loop μ-loop
-narrow-requires c κs = omega (arith, c .place-of .ensures, c .before .before .before .before .before .shared-slice-known .given (c .before .wide .result))
+narrow-requires c κs =
+    let j = c .before .before .before .before .loop .j in
+    omega (arith, c .place-of .ensures, c .before .before .before .before .before .shared-slice-known .given (c .before .wide .result), c .before .wide .ensures, c .before .before .slice-known2 .given j)
 
 mul-shadows : tie.Need-mul-shadows Inv-loop μ-loop
 mul-shadows c = omega arith
