@@ -26,3 +26,4 @@ mod Buildings
 pub mod Ends
 pub mod Table
 pub mod Derived
+pub mod Built
