@@ -21,3 +21,4 @@ mod Resolution
 mod Joins
 mod Buildings
 pub mod Derived
+pub mod Loads

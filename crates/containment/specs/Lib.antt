@@ -8,3 +8,4 @@ pub mod Inside
 pub mod Matrix
 pub mod Steps
 pub mod Stored
+pub mod Loaded

@@ -1,7 +1,7 @@
 -- `containment_run::index` meets its contract.
 -- Assumes nothing.
 use mathlib.Core.Path.{_≡_}
-use Rattle.containment_run.proofs.Loads.{ready}
+use Rattle.containment.proofs.Loads.{ready}
 use borrow.Author.Needs.{needs}
 use Rattle.containment_run.proofs.index.Statement.{statement}
 use Rattle.containment_run.proofs.index.Tie as tie

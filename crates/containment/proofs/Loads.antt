@@ -1,4 +1,4 @@
--- A matrix while pairs are put into it. Assumes nothing.
+-- A matrix while pairs are put into it, and that document 01's lent lengths then have room for its index. Assumes nothing.
 use mathlib.Core.Path.{_≡_, refl, sym, ap, _∙_}
 use mathlib.Core.Logic.{_⊎_, inl, inr}
 use mathlib.Core.Bool.{Bool, true, false, _&&_, _||_, and-false}
@@ -17,10 +17,10 @@ use Rattle.relation.proofs.Columns as columns
 use Rattle.rules.specs.Fact.{Fact, PART, AllWithin, Within}
 use Rattle.rules.specs.Follows.{storing}
 use Rattle.rules.proofs.Facts.{added-within}
 use Rattle.containment.specs.Matrix.{Buildable}
 use Rattle.containment.specs.Stored.{partIn}
 use Rattle.containment.proofs.Derived.{buildable}
-use Rattle.containment_run.specs.Loaded.{Loaded}
+use Rattle.containment.specs.Loaded.{Loaded}
 
 none-in : (p c : ℕ) → partIn [] p c ≡ false
 unfolding partIn storing any
