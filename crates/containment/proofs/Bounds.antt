@@ -1,5 +1,5 @@
 -- How many nodes and shadows a book can have. Assumes nothing.
-use mathlib.Core.Path.{_≡_, refl, sym, ap, _∙_}
+use mathlib.Core.Path.{_≡_, refl, sym, ap}
 use mathlib.Core.Logic.{_⊎_, inl, inr}
 use mathlib.Core.Bool.{Bool, true, false, not, _&&_, _||_, true≢false}
 use mathlib.Core.List.{List, [], _∷_}
@@ -8,15 +8,15 @@ use native.Mathlib.Decide.{decLt}
 use native.Mathlib.Omega.{arith}
 use lib.Dec.{eqb, ltb}
 use lib.ListN.{length}
-use borrow.Author.Tests.{eq-eqb, eqb-true, eqb-false, ne-eqb}
+use borrow.Author.Tests.{eq-eqb, eqb-false, ne-eqb}
 use Rattle.lists.specs.Any.{any, anyBelow}
 use Rattle.lists.specs.Tab.{tab}
-use Rattle.lists.proofs.Bools.{or-either, left-or, right-or}
+use Rattle.lists.proofs.Bools.{left-or}
 use Rattle.containment.specs.Numbers.{range, keep, sum}
 use Rattle.containment.specs.Pairs.{parts, pairs, joined, Book}
 use Rattle.containment.specs.Tree.{whole, visits}
 use Rattle.containment.specs.Parts.{shadows}
-use Rattle.containment.proofs.Numbers.{_∈_, which, keep-yes, keep-no, keep-lengths, range-length, range-mem}
+use Rattle.containment.proofs.Numbers.{which, keep-yes, keep-no, keep-lengths, range-length, range-mem}
 use Rattle.containment.proofs.Nodes.{hit}
 use Rattle.containment.proofs.Sizes.{sum-add, sum-at, sum-none, visit-count, shadow-count}
 

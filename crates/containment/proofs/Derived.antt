@@ -1,18 +1,18 @@
 -- Containment in the index of a list of facts is what `rules` derives: PART. Assumes nothing.
-use mathlib.Core.Path.{_≡_, refl, sym, ap, _∙_, fun-ext}
+use mathlib.Core.Path.{_≡_, refl, sym, fun-ext}
 use mathlib.Core.Logic.{_⊎_, inl, inr, _↔_}
-use mathlib.Core.Bool.{Bool, true, false, not, _&&_, _||_, true≢false}
+use mathlib.Core.Bool.{true, false, not, _&&_}
 use mathlib.Core.List.{List, List·Memᴰ}
 use Prim.Native.Nat.{ℕ, zero, suc, _+_, _*_, _/_, _≤_, _<_}
 use native.Mathlib.Decide.{decLt}
 use native.Mathlib.Omega.{arith}
 use lib.Dec.{eqb, ltb}
 use lib.ListN.{length, getD, List·getD-eq-default}
-use borrow.Author.Tests.{eqb-true, eq-eqb, lt-ltb, le-ltb}
+use borrow.Author.Tests.{eqb-true, lt-ltb, le-ltb}
 use Rattle.lists.specs.Any.{anyBelow}
 use Rattle.lists.proofs.Bools.{and-both, both-and, or-either, left-or, eqb-self, not-true}
 use Rattle.parentheses.specs.Bits.{bits}
-use Rattle.relation.specs.Matrix.{bit, bitOf}
+use Rattle.relation.specs.Matrix.{bitOf}
 use Rattle.relation.proofs.Laws.{bit-zero}
 use Rattle.rules.specs.Fact.{Fact, PART, AllWithin, kind, left, right, factOf}
 use Rattle.rules.specs.Derives.{Derives}

@@ -1,8 +1,8 @@
--- The printed session's book: its index, by computation.
+-- The printed session's book: its index, by computation. Assumes nothing.
 use mathlib.Core.Path.{_≡_, refl}
 use mathlib.Core.Bool.{Bool, true, false, _&&_}
 use mathlib.Core.List.{List, [], _∷_, map}
-use Prim.Native.Nat.{ℕ, zero, suc}
+use Prim.Native.Nat.{ℕ}
 use lib.Dec.{eqb}
 use Rattle.lists.specs.Any.{anyBelow}
 use Rattle.lists.specs.Tab.{tab}
@@ -11,7 +11,7 @@ use Rattle.parentheses.specs.Padded.{padded}
 use lib.ListN.{length}
 use Rattle.containment.specs.Numbers.{range, keep, find}
 use Rattle.containment.specs.Pairs.{parts, joined}
-use Rattle.containment.specs.Tree.{Visit, Forest, node, shadow, hang, under, whole, visits}
+use Rattle.containment.specs.Tree.{Forest, hang, under, whole, visits}
 use Rattle.containment.specs.Breadth.{breadth, order, parent}
 use Rattle.containment.specs.Parts.{shape, parens, isNode, isShadow, place, marks, shadows, shadowList, placeList, value, packed}
 

@@ -1,7 +1,7 @@
--- How many nodes and shadows the tree of a book has: one visit for each edge, and one for piece 0; n of them are nodes.
+-- How many nodes and shadows the tree of a book has: one visit for each edge, and one for piece 0; n of them are nodes. Assumes nothing.
 use mathlib.Core.Path.{_≡_, refl, sym, ap, _∙_}
 use mathlib.Core.Logic.{_⊎_, inl, inr}
-use mathlib.Core.Bool.{Bool, true, false, not}
+use mathlib.Core.Bool.{Bool, true, false}
 use mathlib.Core.List.{List, [], _∷_, _++_, List·Memᴰ·head as here, List·Memᴰ·tail as there, List·Memᴰ·cases-cons, List·Memᴰ·not-nil, List·Memᴰ·append-cases}
 use Prim.Native.Nat.{ℕ, zero, suc, _+_, _*_, _-_, _≤_, _<_}
 use native.Mathlib.Omega.{arith}
@@ -9,12 +9,12 @@ use native.Mathlib.Nat.{eq-or-lt-of-le}
 use lib.Dec.{eqb}
 use Rattle.lists.specs.Tab.{tab}
 use lib.ListN.{length, length-append}
-use borrow.Author.Tests.{eqb-true, eqb-false, eq-eqb, ne-eqb}
-use Rattle.containment.specs.Numbers.{sum, range, keep}
+use borrow.Author.Tests.{eq-eqb, ne-eqb}
+use Rattle.containment.specs.Numbers.{sum, range}
 use Rattle.containment.specs.Breadth.{parent}
-use Rattle.containment.specs.Tree.{Visit, node, shadow, Forest, end, tree, hang, under, whole, visits}
+use Rattle.containment.specs.Tree.{Visit, node, shadow, Forest, hang, under, whole, visits}
 use Rattle.containment.specs.Parts.{isNode, shadows}
-use Rattle.containment.proofs.Numbers.{_∈_, which, keep-mem, range-mem}
+use Rattle.containment.proofs.Numbers.{_∈_, which, range-mem}
 use Rattle.containment.specs.Pairs.{parts, pairs, Book}
 use Rattle.containment.proofs.Nodes.{hit, times, hang-node, hang-shadow, parts-mem, once}
 use Rattle.containment.proofs.Below.{piece, under-mem}

@@ -7,9 +7,6 @@ use Rattle.containment.proofs.Loads.{none}
 use borrow.Author.Needs.{needs}
 use Rattle.containment_run.proofs.clear.Statement.{statement}
 use Rattle.containment_run.proofs.clear.Tie as tie
-use Rattle.containment_run.proofs.clear.Reads as reads
-use Rattle.containment_run.proofs.clear.Lts as lts
-use Rattle.relation.proofs.clear.Reads as clear-reads
 
 clear-requires : tie.Need-clear-requires
 clear-requires c κs = search needs

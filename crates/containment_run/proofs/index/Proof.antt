@@ -1,13 +1,9 @@
 -- `containment_run::index` meets its contract.
 -- Assumes nothing.
-use mathlib.Core.Path.{_≡_}
 use Rattle.containment.proofs.Loads.{ready}
 use borrow.Author.Needs.{needs}
 use Rattle.containment_run.proofs.index.Statement.{statement}
 use Rattle.containment_run.proofs.index.Tie as tie
-use Rattle.containment_run.proofs.index.Reads as reads
-use Rattle.containment_run.proofs.index.Lts as lts
-use Rattle.containment.proofs.build.Reads as build-reads
 
 build-requires : tie.Need-build-requires
 build-requires c κs = let s = c .before .before .before .before .before .before .before .before .before .before in ready _ _ (s .args .k) (s .pre .0) (s .pre .1) (s .pre .2) (s .pre .3) (s .pre .4)

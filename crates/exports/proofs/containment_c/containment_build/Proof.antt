@@ -5,10 +5,6 @@ use Rattle.containment.proofs.Loads.{ready}
 use borrow.Author.Needs.{needs}
 use Rattle.exports.proofs.containment_c.containment_build.Statement.{statement}
 use Rattle.exports.proofs.containment_c.containment_build.Tie as tie
-use Rattle.exports.proofs.containment_c.containment_build.Reads as reads
-use Rattle.exports.proofs.containment_c.containment_build.Lts as lts
-use Rattle.containment.proofs.build.Reads as build-reads
-use Rattle.exports.proofs.containment_c.load.Reads as load-reads
 
 returns : tie.Need-returns
 returns c = search needs

@@ -1,18 +1,13 @@
 -- `exports::containment_c::load` meets its contract: of the first j pairs, k were put in.
 -- Assumes nothing.
 use mathlib.Core.Path.{_≡_, refl, ap, _∙_}
-use Prim.Native.Nat.{ℕ, _-_, _≤_, _<_}
+use Prim.Native.Nat.{ℕ, _-_, _≤_}
 use native.Mathlib.Omega.{arith}
 use lib.ListN.{length, replicate}
 use Rattle.containment.specs.Loaded.{Loaded}
 use Rattle.containment.proofs.Loads.{none, more}
 use Rattle.exports.proofs.containment_c.load.Statement.{statement}
 use Rattle.exports.proofs.containment_c.load.Tie as tie
-use Rattle.exports.proofs.containment_c.load.Reads as reads
-use Rattle.exports.proofs.containment_c.load.Lts as lts
-use Rattle.exports.proofs.containment_c.number.Reads as number-reads
-use Rattle.relation.proofs.clear.Reads as clear-reads
-use Rattle.relation.proofs.insert.Reads as insert-reads
 
 abbrev Inv-loop : tie.InvT-loop
 Inv-loop n parts containers edges₀ k₀ j₀ edges k j = (length edges ≡ length edges₀) × (j ≤ length parts) × (k ≤ j) × Loaded n edges k
