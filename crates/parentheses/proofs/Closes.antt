@@ -1,4 +1,4 @@
--- A search for the closing parenthesis: what a bit and what a whole byte do to the depth, and where the excess is 0.
+-- A search for the closing parenthesis: what a bit and what a run of whole bytes do to the depth, and where the excess is 0.
 -- Assumes nothing.
 use mathlib.Core.Path.{_≡_, refl, sym, ap, _∙_}
 use mathlib.Core.Bool.{Bool, true, false}
@@ -12,11 +12,19 @@ use Rattle.lists.specs.First.{first}
 use Rattle.parentheses.specs.Bits.{bits}
 use Rattle.parentheses.specs.Rank.{num, rank}
 use Rattle.parentheses.specs.Close.{balanced, close}
-use Rattle.parentheses.specs.Tables.{onesOf}
-use Rattle.parentheses.proofs.Margins.{margin, margin-le, margin-whole}
+use Rattle.parentheses.specs.Stays.{Stays}
+use Rattle.parentheses.proofs.Margins.{margin, margin-le}
 use Rattle.parentheses.proofs.Packed.{bits-length}
-use Rattle.parentheses.proofs.Ranks.{byte, byte-ones, ones-le, rank-suc, rank-byte}
+use Rattle.parentheses.proofs.Ranks.{rank-suc, rank-mono, rank-byte}
 use Rattle.lists.proofs.Firsts.{passed-over, found, ended}
+
+-- ---- where the depth stays above 0: through fewer bits than it, and through a byte whose lowest excess leaves it there
+
+pub stays-deep : (bs : List Bool) (p n d : ℕ) → n < d → Stays bs p n d
+stays-deep bs p n d h j g = omega (arith, rank-mono bs p (p + suc j) (omega arith))
+
+pub stays-byte : (l : List ℕ) (i d : ℕ) → i < length l → 8 < d + margin (getD l i 0) → Stays (bits l) (8 * i) 8 d
+stays-byte l i d w h j g = omega (arith, margin-le (getD l i 0) j g, rank-byte l i (suc j) w (omega arith))
 
 -- ---- the search, of the parenthesis at o
 
@@ -58,28 +66,26 @@ module _ (l : List ℕ) (o : ℕ) where
   bit-passed p d g h k s =
       sym (passed-over (balanced bs o) p 1 e (omega arith) (λ q a b. let i : q ≡ p = omega arith in rw i (unbalanced p d (rw add-one at h) k))) ∙ s
 
-  -- one byte, from its start
-  module _ (p d : ℕ) (aligned : p % 8 ≡ 0) (within : p < e) (h : Depth p d) (stays : 8 < d + margin (getD l (p / 8) 0)) where
-    abbrev b : ℕ
-    b = getD l (p / 8) 0
-
-    ranks : (j : ℕ) → j ≤ 8 → rank bs (p + j) ≡ rank bs p + rank (byte b) j
-    ranks j g =
-        let i : p ≡ 8 * (p / 8) = omega arith in
-        ap (λ (x : ℕ). rank bs (x + j)) i ∙ rank-byte l (p / 8) j (omega arith) g ∙ ap (λ (x : ℕ). rank bs x + rank (byte b) j) (sym i)
-
-    pub byte-depth : Depth (p + 8) (d + onesOf b - (8 - onesOf b))
-    byte-depth = omega (arith, ranks 8 (omega arith), byte-ones b, ones-le b, margin-whole b)
-
-    each : (q : ℕ) → p ≤ q → q < p + 8 → balanced bs o q ≡ false
+  -- a run of n bits, through which the depth stays above 0; r of them are ones
+  module _ (p n d : ℕ) (h : Depth p d) (stays : Stays bs p n d) where
+    each : (q : ℕ) → p ≤ q → q < p + n → balanced bs o q ≡ false
     each q g k =
         let j = q - p in
-        let n : suc q ≡ p + suc j = omega arith in
-        let low = margin-le b j (omega arith) in
-        unbalanced q (d + 2 * rank (byte b) (suc j) - suc j) (omega (arith, ap (rank bs) n, ranks (suc j) (omega arith))) (omega arith)
+        let i : suc q ≡ p + suc j = omega arith in
+        let above = stays j (omega arith) in
+        unbalanced q (d + 2 * rank bs (p + suc j) - (suc j + 2 * rank bs p)) (omega (arith, ap (rank bs) i)) (omega arith)
 
-    pub byte-passed : Sought p → Sought (p + 8)
-    byte-passed s = sym (passed-over (balanced bs o) p 8 e (omega arith) each) ∙ s
+    pub run-passed : p + n ≤ e → Sought p → Sought (p + n)
+    run-passed g s = sym (passed-over (balanced bs o) p n e g each) ∙ s
+
+    module _ (r : ℕ) (g : 0 < n) (k : r ≤ n) (counted : rank bs p + r ≡ rank bs (p + n)) where
+      pub run-above : n < d + 2 * r
+      run-above =
+          let i : suc (n - 1) ≡ n = omega arith in
+          omega (arith, stays (n - 1) (omega arith), ap (λ (x : ℕ). rank bs (p + x)) i)
+
+      pub run-depth : Depth (p + n) (d + r - (n - r))
+      run-depth = omega (arith, run-above)
 
   pub none-left : (p : ℕ) → p ≡ e → Sought p → e ≡ close bs o
   none-left p g s = sym (ended (balanced bs o) p e g) ∙ s
