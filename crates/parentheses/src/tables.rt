@@ -31,18 +31,20 @@ pub fn ones_in(bytes: &[u8], from: usize, to: usize) -> usize
     n
 }
 
-// The lowest running excess of b: +1 for a 1, -1 for a 0, low bit first, after at least one bit.
-pub fn lowest_of(b: u8) -> i8
+// The lowest running excess of b, by the table: +1 for a 1, -1 for a 0, low bit first, after at least one bit.
+fn lowest_of(table: &[i8; 256], b: u8) -> i8
+    requires { ⌜ now table ≡ tab lowestOf 0 256 ⌝ }
     ensures { λ r. ⌜ r ≡ lowestOf b ⌝ }
 {
-    LOWEST[b as usize]
+    table[b as usize]
 }
 
 // Eight more than the lowest running excess of b, so that it is not negative.
-pub fn margin_of(b: u8) -> usize
+pub fn margin_of(table: &[i8; 256], b: u8) -> usize
+    requires { ⌜ now table ≡ tab lowestOf 0 256 ⌝ }
     ensures { λ r. ⌜ pos r ≡ lowestOf b +ℤ pos 8 ⌝ }
 {
-    (lowest_of(b) + 8) as usize
+    (lowest_of(table, b) + 8) as usize
 }
 
 const ONES: [u8; 256] = [
@@ -304,7 +306,7 @@ const ONES: [u8; 256] = [
     8,
 ];
 
-const LOWEST: [i8; 256] = [
+pub const LOWEST: [i8; 256] = [
     -8,
     -6,
     -6,
