@@ -1,5 +1,5 @@
 // Rank and matching on the bits of a tree of 10,240 nodes, deep, flat and bushy: our functions beside the same loops in plain C, on
-// the same bits; and what passing eight bytes at a time would give, in C.
+// the same bits; and what passing eight bytes at a time would give in C.
 #include <stdint.h>
 #include <stdio.h>
 #include <stdlib.h>
@@ -112,25 +112,26 @@ typedef size_t (*question)(const uint8_t *, size_t, size_t);
 static size_t asked[NODES];
 static size_t sum;
 
-// ns a call, the best of nine runs over every node
-static double ns(question q) {
-  double best = 1e18;
-  for (int run = 0; run < 9; run++) {
-    double t = now();
-    for (size_t i = 0; i < NODES; i++) sum += q(bytes, BYTES, asked[i]);
-    t = (now() - t) / NODES;
-    if (t < best) best = t;
-  }
-  return best;
+// ns a call over every node
+static double run(question q) {
+  double t = now();
+  for (size_t i = 0; i < NODES; i++) sum += q(bytes, BYTES, asked[i]);
+  return (now() - t) / NODES;
 }
 
+// the best of 25 runs of each, taken in turn
 static void report(const char *shape, const char *what, question ours, question c) {
+  double x = 1e18, y = 1e18;
   for (size_t i = 0; i < NODES; i++)
     if (ours(bytes, BYTES, asked[i]) != c(bytes, BYTES, asked[i])) {
       printf("parentheses %s %s: DIFFERENT at %zu\n", shape, what, asked[i]);
       exit(1);
     }
-  double x = ns(ours), y = ns(c);
+  for (int i = 0; i < 25; i++) {
+    double t = run(ours), u = run(c);
+    if (t < x) x = t;
+    if (u < y) y = u;
+  }
   printf("parentheses %s %s: ours %.1f ns, C %.1f ns, ratio %.2f\n", shape, what, x, y, x / y);
 }
 

@@ -5,6 +5,7 @@ use mathlib.Core.Bool.{Bool, true, false}
 use mathlib.Core.List.{List, [], _∷_}
 use Prim.Native.Nat.{ℕ, zero, suc, _+_, _-_, _*_, _/_, _%_, _≤_, _<_}
 use native.Mathlib.Numerals.{add-one}
+use native.Mathlib.Decide.{decLt}
 use native.Mathlib.Omega.{arith}
 use borrow.Author.Tests.{eq-eqb, ne-eqb, eqb-true}
 use lib.Dec.{eqb}
@@ -27,6 +28,15 @@ stays-deep bs p n d h j g = omega (arith, rank-mono bs p (p + suc j) (omega arit
 
 pub stays-byte : (l : List ℕ) (i d : ℕ) → i < length l → 8 < d + margin (getD l i 0) → Stays (bits l) (8 * i) 8 d
 stays-byte l i d w h j g = omega (arith, margin-le (getD l i 0) j g, rank-byte l i (suc j) w (omega arith))
+
+-- one run after another, where the depth after the first is at least f
+pub stays-more : (bs : List Bool) (p n k d f : ℕ) → f + n + 2 * rank bs p ≤ d + 2 * rank bs (p + n) → Stays bs p n d → Stays bs (p + n) k f
+    → Stays bs p (n + k) d
+stays-more bs p n k d f h first next j g =
+    elim (decLt j n) [
+      | yes l ↦ first j l
+      | no l ↦ let i : p + n + suc (j - n) ≡ p + suc j = omega arith in omega (arith, next (j - n) (omega arith), ap (rank bs) i)
+    ]
 
 -- ---- tests that agree find the same
 
