@@ -13,8 +13,8 @@ use lib.ListN.{getD, length}
 use Rattle.lists.specs.First.{first}
 use Rattle.parentheses.specs.Bits.{bits}
 use Rattle.parentheses.specs.Rank.{num, rank}
-use Rattle.parentheses.specs.Close.{balanced, close, shuts, closing}
-use Rattle.parentheses.specs.Stays.{Stays}
+use Rattle.parentheses.specs.Close.{balanced, close}
+use Rattle.parentheses.specs.Search.{shuts, closing, Stays}
 use Rattle.parentheses.proofs.Margins.{margin, margin-le}
 use Rattle.parentheses.proofs.Packed.{bits-length}
 use Rattle.parentheses.proofs.Ranks.{rank-suc, rank-mono, rank-byte}

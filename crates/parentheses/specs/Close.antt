@@ -21,11 +21,3 @@ balanced bs o q = eqb (2 * rank bs (suc q) + o) (2 * rank bs o + suc q)
 -- number of bits where there is none
 unfoldable pub close : List Bool → ℕ → ℕ
 close bs o = first (balanced bs o) (suc o) (length bs - suc o)
-
--- after position q the depth d that there was before position p has fallen to 0
-unfoldable pub shuts : List Bool → ℕ → ℕ → ℕ → Bool
-shuts bs p d q = eqb (2 * rank bs (suc q) + p + d) (2 * rank bs p + suc q)
-
--- the first position from p on after which the depth has fallen to 0; the number of bits where there is none
-unfoldable pub closing : List Bool → ℕ → ℕ → ℕ
-closing bs p d = first (shuts bs p d) p (length bs - p)

@@ -8,7 +8,7 @@ use denote.Ref.{now}
 use lib.ListN.{getD, length}
 use Rattle.parentheses.specs.Bits.{bits}
 use Rattle.parentheses.specs.Rank.{rank}
-use Rattle.parentheses.specs.Stays.{Stays}
+use Rattle.parentheses.specs.Search.{Stays}
 use Rattle.parentheses.proofs.Ranks.{rank-whole}
 use Rattle.parentheses.proofs.Margins.{margin, margin-read, margin-small, margin-whole}
 use Rattle.parentheses.proofs.Closes.{stays-byte, stays-more}

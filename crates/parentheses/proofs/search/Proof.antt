@@ -12,8 +12,8 @@ use lib.ListN.{getD, length}
 use Rattle.lists.specs.Tab.{tab}
 use Rattle.parentheses.specs.Bits.{bits, bitOf, digit}
 use Rattle.parentheses.specs.Rank.{rank}
-use Rattle.parentheses.specs.Close.{excess, closing}
-use Rattle.parentheses.specs.Stays.{Stays}
+use Rattle.parentheses.specs.Close.{excess}
+use Rattle.parentheses.specs.Search.{closing, Stays}
 use Rattle.parentheses.specs.Tables.{lower, lowest, lowestOf}
 use Rattle.parentheses.proofs.Masks.{low3}
 use Rattle.parentheses.proofs.Ranks.{num-le}
