@@ -1,11 +1,10 @@
 -- `records::check_records` meets its contract: the outer loop keeps what is left of the scan, the keys of the records passed and their piece count;
 -- the inner loop keeps that no earlier key passed is the key at hand. Assumes nothing.
 use Rattle.records.specs.Pieces.{piecesUpTo, largest}
-use mathlib.Core.Path.{_≡_, refl, sym, ap, ap₂, _∙_}
+use mathlib.Core.Path.{_≡_, sym, ap, ap₂, _∙_}
 use Prim.Native.Nat.{ℕ, max, _≤_, _<_, _-_, _+_, _*_}
 use Rattle.records.specs.declared.Finding.the-variants.{Fit}
 use Rattle.records.specs.Check.{formFinding}
-use Rattle.records.specs.Rows.{repeatRow}
 use Rattle.records.proofs.Rows.{formed}
 use borrow.Author.Needs.{needs}
 use borrow.Author.Count.{below-more, below-none}
