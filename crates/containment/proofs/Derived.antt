@@ -96,12 +96,16 @@ module _ (n : ℕ) (fs : List Fact) (some : 0 < n) (all : AllWithin n fs) (lower
       pair-path g c e (within-path (omega arith) w)
 
   -- THE THEOREM: what the lent index says of two pieces is what is derived
-  pub inside-derived : (parens marks shadows places : List ℕ) (nodes shadowed : ℕ)
-      → Room n (joined n (partIn fs)) (length parens) (length marks) (length shadows) (length places) → Indexed n (joined n (partIn fs)) parens marks shadows places nodes shadowed
-      → (h g : ℕ) → h < n → g < n → Inside (bits parens) (bits marks) shadows (getD places h 0) (getD places g 0) ↔ Derives n fs (PART g h)
-  inside-derived parens marks shadows places nodes shadowed R I h g lh lg =
-      let e = contains-lent n (joined n (partIn fs)) book parens marks shadows places nodes shadowed R I h g lh lg in
-      (λ i. path-derives (within-path lg (e .0 i)), λ d. e .1 (path-within (derives-shape all (PART g h) some d)))
+  module _ (parens marks shadows places : List ℕ) (nodes shadowed : ℕ)
+      (R : Room n (joined n (partIn fs)) (length parens) (length marks) (length shadows) (length places)) (I : Indexed n (joined n (partIn fs)) parens marks shadows places nodes shadowed)
+      (h g : ℕ) (lh : h < n) (lg : g < n) where
+    pub inside-path : Inside (bits parens) (bits marks) shadows (getD places h 0) (getD places g 0) ↔ Path n fs g h
+    inside-path =
+        let e = contains-lent n (joined n (partIn fs)) book parens marks shadows places nodes shadowed R I h g lh lg in
+        (λ i. within-path lg (e .0 i), λ w. e .1 (path-within w))
+
+    pub inside-derived : Inside (bits parens) (bits marks) shadows (getD places h 0) (getD places g 0) ↔ Derives n fs (PART g h)
+    inside-derived = (λ i. path-derives (inside-path .0 i), λ d. inside-path .1 (derives-shape all (PART g h) some d))
 
   -- ## A matrix of the facts
 
