@@ -27,3 +27,4 @@ pub mod Ends
 pub mod Table
 pub mod Derived
 pub mod Built
+pub mod Loads

@@ -10,3 +10,4 @@ pub mod Matrix
 pub mod Steps
 pub mod Contents
 pub mod Stored
+pub mod Loaded
