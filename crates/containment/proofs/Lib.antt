@@ -11,6 +11,8 @@ pub mod Contains
 pub mod Packing
 pub mod Bounds
 pub mod Lent
+pub mod Siblings
+pub mod Rows
 pub mod Events
 mod Nexts
 mod Queue
@@ -19,6 +21,10 @@ mod Written
 mod Walking
 mod Resolution
 mod Joins
+pub mod Pieces
 mod Buildings
+pub mod Ends
+pub mod Table
 pub mod Derived
 pub mod Loads
+pub mod Built

@@ -5,7 +5,9 @@ pub mod Tree
 pub mod Parts
 pub mod Index
 pub mod Inside
+pub mod Filling
 pub mod Matrix
 pub mod Steps
+pub mod Contents
 pub mod Stored
 pub mod Loaded

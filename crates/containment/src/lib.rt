@@ -1,4 +1,6 @@
 // The index of a book, from the matrix of its pairs into four lent parts.
+pub mod contents;
+
 ghost use mathlib.Core.Path.{_≡_};
 ghost use Prim.Native.Nat.{ℕ, _+_, _-_, _*_, _<_, _≤_};
 ghost use lib.ListN.{length, getD, set, replicate};
