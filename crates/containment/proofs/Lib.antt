@@ -26,5 +26,5 @@ mod Buildings
 pub mod Ends
 pub mod Table
 pub mod Derived
-pub mod Built
 pub mod Loads
+pub mod Built

@@ -54,10 +54,10 @@ fn set_place(places: &mut [u16], g: DatasetId, t: TreeId)
 fn clear(list: &mut [u16])
     ensures { λ _. ⌜ now (list .exit) ≡ replicate (length (now (list .entry))) 0 ⌝ }
 {
-    let mut i: usize = 0;
-    while i < list.len() {
-        list[i] = 0;
-        i += 1;
+    let mut done: usize = 0;
+    while done < list.len() {
+        list[done] = 0;
+        done += 1;
     }
 }
 
