@@ -1,0 +1,55 @@
+-- Document 01's rows 2 to 13, one definition each: true where the row refuses. Assumes nothing.
+use Prim.Native.Nat.{ℕ, zero, suc, _+_, _*_, _/_, _%_}
+use mathlib.Core.Bool.{Bool, true, false, _&&_, _||_, not}
+use mathlib.Core.List.{List}
+use lib.ListN.{length, getD}
+use lib.Dec.{leb, ltb, eqb}
+use Rattle.lists.specs.Any.{anyBelow}
+use Rattle.records.specs.declared.Record.{Record}
+use Rattle.records.specs.Record.{records}
+use Rattle.records.specs.Pieces.{stated, largest}
+
+-- 2: no bytes
+abbrev pub emptyBook : List ℕ → Bool
+emptyBook s = eqb (length s) 0
+
+-- 3 and 10: not a multiple of 6
+abbrev pub ragged : List ℕ → Bool
+ragged s = not (eqb (length s % 6) 0)
+
+-- 4 and 11: more than so many records
+abbrev pub moreThan : ℕ → List ℕ → Bool
+moreThan most s = ltb most (records s)
+
+-- 5: kind not 1 to 5
+abbrev pub kindRow : Record → Bool
+kindRow r = not (leb 1 (r .kind) && leb (r .kind) 5)
+
+-- 6: byte 1 not zero
+abbrev pub tagRow : Record → Bool
+tagRow r = not (eqb (r .tag) 0)
+
+-- 7: a above 2,047, or b above it in kinds 1 to 4
+abbrev pub pieceRow : Record → Bool
+pieceRow r = ltb 2047 (largest r)
+
+-- 8: PART with b not below a
+abbrev pub orderRow : Record → Bool
+orderRow r = eqb (r .kind) 1 && leb (r .a) (r .b)
+
+-- n bytes from p on are those from q on
+unfoldable pub sameBytes : List ℕ → ℕ → ℕ → ℕ → Bool
+sameBytes s p q zero = true
+sameBytes s p q (suc n) = eqb (getD s (p + n) 0) (getD s (q + n) 0) && sameBytes s p q n
+
+-- 9: record i repeats an earlier one byte for byte
+abbrev pub repeatRow : List ℕ → ℕ → Bool
+repeatRow s i = anyBelow (λ j. sameBytes s (6 * i) (6 * j) 6) i
+
+-- 12: a claim's kind not 1 to 4, or byte 1 not zero
+abbrev pub claimRow : Record → Bool
+claimRow r = not (stated r) || tagRow r
+
+-- 13: a or b beyond the book's pieces
+abbrev pub beyondRow : ℕ → Record → Bool
+beyondRow pieces r = leb pieces (largest r)

@@ -1,0 +1,259 @@
+// The six-byte format: records and claims read from bytes, and rows 2 to 13 of document 01's table.
+ghost use mathlib.Core.Path.{_≡_};
+ghost use Prim.Native.Nat.{ℕ, suc, max, _+_, _*_, _≤_, _<_};
+ghost use lib.ListN.{length, getD};
+ghost use Rattle.records.specs.Record.{recordAt};
+ghost use Rattle.records.specs.Refusal.{refusalNumber};
+ghost use Rattle.records.specs.Pieces.{stated, largest};
+ghost use Rattle.records.specs.Key.{keyAt};
+ghost use Rattle.records.specs.Check.{formFinding, recordsCheck, bookCheck, claimAt, claimsCheck};
+
+// A record, or a claim: its kind, byte 1, and two 16-bit numbers.
+pub struct Record {
+    pub kind: u8,
+    pub tag: u8,
+    pub a: usize,
+    pub b: usize,
+}
+
+// The rows of document 01's table, in order.
+pub enum Refusal {
+    ShortBuffer,
+    EmptyBook,
+    BookLength,
+    TooManyRecords,
+    Kind,
+    Tag,
+    PieceNumber,
+    Order,
+    Repeat,
+    ClaimsLength,
+    TooManyClaims,
+    ClaimFormat,
+    ClaimPiece,
+    Contradiction,
+}
+
+// What some rows say of one thing.
+pub enum Finding {
+    Fit,
+    Unfit(Refusal),
+}
+
+// A book: accepted with its piece count, or the first refusal and its place.
+pub enum BookCheck {
+    Accepted(usize),
+    Refused(Refusal, usize),
+}
+
+// A claim that is read: of a kind and a byte 1 that a claim may have, or not.
+pub enum Claim {
+    Sound(Record),
+    Unsound,
+}
+
+pub enum ClaimsCheck {
+    Accepted,
+    Refused(Refusal, usize),
+}
+
+pub fn refusal_number(r: Refusal) -> u8
+    ensures { λ n. ⌜ n ≡ refusalNumber r ⌝ }
+{
+    match r {
+        Refusal::ShortBuffer => 1,
+        Refusal::EmptyBook => 2,
+        Refusal::BookLength => 3,
+        Refusal::TooManyRecords => 4,
+        Refusal::Kind => 5,
+        Refusal::Tag => 6,
+        Refusal::PieceNumber => 7,
+        Refusal::Order => 8,
+        Refusal::Repeat => 9,
+        Refusal::ClaimsLength => 10,
+        Refusal::TooManyClaims => 11,
+        Refusal::ClaimFormat => 12,
+        Refusal::ClaimPiece => 13,
+        Refusal::Contradiction => 14,
+    }
+}
+
+// A byte as a number that sums are made of.
+fn wide(x: u8) -> usize
+    ensures { λ r. ⌜ (r ≡ x) × (r < 256) ⌝ }
+{
+    x as usize
+}
+
+// The one reader of records. Claims have the same layout.
+pub fn record_at(s: &[u8], i: usize) -> Record
+    requires { ⌜ 6 * i + 6 ≤ length (now s) ⌝ }
+    ensures { λ r. ⌜ r ≡ recordAt (now (s .entry)) i ⌝ }
+{
+    let at = 6 * i;
+    let a = wide(s[at + 2]) + 256 * wide(s[at + 3]);
+    let b = wide(s[at + 4]) + 256 * wide(s[at + 5]);
+    Record {
+        kind: s[at],
+        tag: s[at + 1],
+        a,
+        b,
+    }
+}
+
+// Kinds 1 to 4.
+pub fn states_fact(r: Record) -> bool
+    ensures { λ t. ⌜ t ≡ stated r ⌝ }
+{
+    if r.kind < 1 {
+        return false;
+    }
+    r.kind <= 4
+}
+
+// The largest piece number that a record names: a in every kind, b in kinds 1 to 4.
+pub fn largest_named(r: Record) -> usize
+    ensures { λ n. ⌜ n ≡ largest r ⌝ }
+{
+    if !states_fact(r) {
+        return r.a;
+    }
+    if r.a < r.b {
+        return r.b;
+    }
+    r.a
+}
+
+// Rows 5 to 8, which look at one record alone.
+fn check_form(r: Record) -> Finding
+    ensures { λ f. ⌜ f ≡ formFinding r ⌝ }
+{
+    if r.kind < 1 {
+        return Finding::Unfit(Refusal::Kind);
+    }
+    if 5 < r.kind {
+        return Finding::Unfit(Refusal::Kind);
+    }
+    if r.tag != 0 {
+        return Finding::Unfit(Refusal::Tag);
+    }
+    if 2047 < largest_named(r) {
+        return Finding::Unfit(Refusal::PieceNumber);
+    }
+    if r.kind != 1 {
+        return Finding::Fit;
+    }
+    if r.b < r.a {
+        return Finding::Fit;
+    }
+    Finding::Unfit(Refusal::Order)
+}
+
+fn wide64(x: u8) -> u64
+    ensures { λ r. ⌜ (r ≡ x) × (r < 256) ⌝ }
+{
+    x as u64
+}
+
+// The six bytes of record i as one number, so that two records are compared at once.
+fn key_at(s: &[u8], i: usize) -> u64
+    requires { ⌜ 6 * i + 6 ≤ length (now s) ⌝ }
+    ensures { λ r. ⌜ r ≡ keyAt (now (s .entry)) (6 * i) ⌝ }
+{
+    let at = 6 * i;
+    let high = (wide64(s[at + 5]) * 256 + wide64(s[at + 4])) * 256 + wide64(s[at + 3]);
+    ((high * 256 + wide64(s[at + 2])) * 256 + wide64(s[at + 1])) * 256 + wide64(s[at])
+}
+
+// Rows 5 to 9: the first refusal, record by record, or the piece count.
+fn check_records(book: &[u8], n: usize) -> BookCheck
+    requires { ⌜ (n ≤ 8192) × (6 * n ≤ length (now book)) ⌝ }
+    ensures { λ r. ⌜ r ≡ recordsCheck (now (book .entry)) n ⌝ }
+{
+    let mut keys = [0u64; 8192];
+    let mut pieces: usize = 1;
+    let mut i: usize = 0;
+    'records: loop {
+        if n <= i {
+            break 'records BookCheck::Accepted(pieces);
+        }
+        let record = record_at(book, i);
+        let form = check_form(record);
+        if let Finding::Unfit(refusal) = form {
+            break 'records BookCheck::Refused(refusal, i);
+        }
+        let key = key_at(book, i);
+        let mut j: usize = 0;
+        while j < i {
+            if keys[j] == key {
+                break 'records BookCheck::Refused(Refusal::Repeat, i);
+            }
+            j += 1;
+        }
+        keys[i] = key;
+        pieces = larger_of(pieces, largest_named(record) + 1);
+        i += 1;
+    }
+}
+
+fn larger_of(x: usize, y: usize) -> usize
+    ensures { λ r. ⌜ r ≡ max x y ⌝ }
+{
+    if x < y { y } else { x }
+}
+
+// Rows 2 to 9 of a book.
+pub fn check_book(book: &[u8]) -> BookCheck
+    ensures { λ r. ⌜ r ≡ bookCheck (now (book .entry)) ⌝ }
+{
+    if book.len() == 0 {
+        return BookCheck::Refused(Refusal::EmptyBook, 0);
+    }
+    if book.len() % 6 != 0 {
+        return BookCheck::Refused(Refusal::BookLength, 0);
+    }
+    let n = book.len() / 6;
+    if 8192 < n {
+        return BookCheck::Refused(Refusal::TooManyRecords, 0);
+    }
+    check_records(book, n)
+}
+
+// Claim i, by row 12.
+pub fn claim_at(claims: &[u8], i: usize) -> Claim
+    requires { ⌜ 6 * i + 6 ≤ length (now claims) ⌝ }
+    ensures { λ r. ⌜ r ≡ claimAt (now (claims .entry)) i ⌝ }
+{
+    let claim = record_at(claims, i);
+    if !states_fact(claim) {
+        return Claim::Unsound;
+    }
+    if claim.tag != 0 {
+        return Claim::Unsound;
+    }
+    Claim::Sound(claim)
+}
+
+// Rows 10 to 13 of the claims on a book of so many pieces.
+pub fn check_claims(claims: &[u8], pieces: usize) -> ClaimsCheck
+    ensures { λ r. ⌜ r ≡ claimsCheck pieces (now (claims .entry)) ⌝ }
+{
+    if claims.len() % 6 != 0 {
+        return ClaimsCheck::Refused(Refusal::ClaimsLength, 0);
+    }
+    let n = claims.len() / 6;
+    if 4096 < n {
+        return ClaimsCheck::Refused(Refusal::TooManyClaims, 0);
+    }
+    let mut i: usize = 0;
+    while i < n {
+        let Claim::Sound(claim) = claim_at(claims, i) else {
+            return ClaimsCheck::Refused(Refusal::ClaimFormat, i);
+        };
+        if pieces <= largest_named(claim) {
+            return ClaimsCheck::Refused(Refusal::ClaimPiece, i);
+        }
+        i += 1;
+    }
+    ClaimsCheck::Accepted
+}
