@@ -1,0 +1,147 @@
+-- How many nodes and shadows a book can have. Assumes nothing.
+use mathlib.Core.Path.{_≡_, refl, sym, ap, _∙_}
+use mathlib.Core.Logic.{_⊎_, inl, inr}
+use mathlib.Core.Bool.{Bool, true, false, not, _&&_, _||_, true≢false}
+use mathlib.Core.List.{List, [], _∷_}
+use Prim.Native.Nat.{ℕ, zero, suc, _+_, _*_, _-_, _≤_, _<_}
+use native.Mathlib.Decide.{decLt}
+use native.Mathlib.Omega.{arith}
+use lib.Dec.{eqb, ltb}
+use lib.ListN.{length}
+use borrow.Author.Tests.{eq-eqb, eqb-true, eqb-false, ne-eqb}
+use Rattle.lists.specs.Any.{any, anyBelow}
+use Rattle.lists.specs.Tab.{tab}
+use Rattle.lists.proofs.Bools.{or-either, left-or, right-or}
+use Rattle.containment.specs.Numbers.{range, keep, sum}
+use Rattle.containment.specs.Pairs.{parts, pairs, joined, Book}
+use Rattle.containment.specs.Tree.{whole, visits}
+use Rattle.containment.specs.Parts.{shadows}
+use Rattle.containment.proofs.Numbers.{_∈_, which, keep-yes, keep-no, keep-lengths, range-length, range-mem}
+use Rattle.containment.proofs.Nodes.{hit}
+use Rattle.containment.proofs.Counts.{sum-add, sum-at, sum-none, visit-count, shadow-count}
+
+-- ---- lists
+
+sum-le : (f g : ℕ → ℕ) (xs : List ℕ) → ((x : ℕ) → f x ≤ g x) → sum f xs ≤ sum g xs
+unfolding sum
+sum-le f g [] h = omega arith
+sum-le f g (x ∷ xs) h = omega (arith, h x, sum-le f g xs h)
+
+keep-le : (f : ℕ → Bool) (xs : List ℕ) → length (keep f xs) ≤ length xs
+keep-le f xs = omega (arith, keep-lengths f xs)
+
+-- those that pass one of two tests
+keep-or : (f g h : ℕ → Bool) (xs : List ℕ) → ((x : ℕ) → f x ≡ true → (g x || h x) ≡ true) → length (keep f xs) ≤ length (keep g xs) + length (keep h xs)
+unfolding keep
+keep-or f g h [] e = omega arith
+keep-or f g h (x ∷ xs) e = go (which (f x)) (which (g x)) (which (h x)) (keep-or f g h xs e)
+  where
+    Goal : Type 0
+    Goal = length (keep f (x ∷ xs)) ≤ length (keep g (x ∷ xs)) + length (keep h (x ∷ xs))
+
+    go : (f x ≡ true) ⊎ (f x ≡ false) → (g x ≡ true) ⊎ (g x ≡ false) → (h x ≡ true) ⊎ (h x ≡ false)
+        → length (keep f xs) ≤ length (keep g xs) + length (keep h xs) → Goal
+    go (inl a) (inl b) (inl c) r = rw (keep-yes f x xs a, keep-yes g x xs b, keep-yes h x xs c) (omega arith)
+    go (inl a) (inl b) (inr c) r = rw (keep-yes f x xs a, keep-yes g x xs b, keep-no h x xs c) (omega arith)
+    go (inl a) (inr b) (inl c) r = rw (keep-yes f x xs a, keep-no g x xs b, keep-yes h x xs c) (omega arith)
+    go (inl a) (inr b) (inr c) r = absurd (true≢false (sym (rw (b, c) at (e x a))))
+    go (inr a) (inl b) (inl c) r = rw (keep-no f x xs a, keep-yes g x xs b, keep-yes h x xs c) (omega arith)
+    go (inr a) (inl b) (inr c) r = rw (keep-no f x xs a, keep-yes g x xs b, keep-no h x xs c) (omega arith)
+    go (inr a) (inr b) (inl c) r = rw (keep-no f x xs a, keep-no g x xs b, keep-yes h x xs c) (omega arith)
+    go (inr a) (inr b) (inr c) r = rw (keep-no f x xs a, keep-no g x xs b, keep-no h x xs c) r
+
+none-kept : (f : ℕ → Bool) (xs : List ℕ) → ((x : ℕ) → f x ≡ false) → length (keep f xs) ≡ 0
+unfolding keep
+none-kept f [] h = refl
+none-kept f (x ∷ xs) h = rw (keep-no f x xs (h x)) (none-kept f xs h)
+
+-- ---- the joins
+
+module _ (n : ℕ) (fact : ℕ → ℕ → Bool) where
+  join : ℕ → ℕ → Bool
+  join c p = eqb c 0 && (ltb 0 p && (ltb p n && not (anyBelow (fact p) n)))
+
+  -- at most n - 1 of them, all in 0
+  joins : (c : ℕ) → length (keep (join c) (range 0 n)) ≤ hit (eqb c 0) * (n - 1)
+  unfolding join
+  joins zero = at n
+    where
+      at : (m : ℕ) → length (keep (join 0) (range 0 m)) ≤ 1 * (m - 1)
+      at zero = unfold keep range tab in omega arith
+      at (suc m) = unfold keep range tab join in omega (arith, keep-le (join 0) (tab (λ i. i) 1 m), range-length 1 m)
+  joins (suc c) = rw (none-kept (join (suc c)) (range 0 n) (λ p. rw (ne-eqb (suc c) 0 (λ w. omega arith)))) (omega arith)
+
+  pub joined-pairs : 0 < n → pairs n (joined n fact) ≤ pairs n fact + (n - 1)
+  unfolding pairs parts joined
+  joined-pairs pos =
+      omega (
+        arith,
+        sum-le (λ c. length (keep (λ p. joined n fact p c) (range 0 n))) (λ c. length (keep (λ p. fact p c) (range 0 n)) + hit (eqb c 0) * (n - 1)) (range 0 n)
+            (λ c. omega (arith, keep-or (λ p. joined n fact p c) (λ p. fact p c) (join c) (range 0 n) (λ p e. unfold join in e), joins c)),
+        sum-add (λ c. length (keep (λ p. fact p c) (range 0 n))) (λ c. hit (eqb c 0) * (n - 1)) (range 0 n),
+        sum-at (λ c. n - 1) 0 0 n (omega arith) (omega arith),
+      )
+
+  -- THE BOUNDS
+  module _ (B : Book n (joined n fact)) where
+    pub nodes-bound : length (visits (whole n (joined n fact))) ≤ pairs n fact + n
+    nodes-bound = omega (arith, visit-count n (joined n fact) B, joined-pairs (B .some), B .some)
+
+    pub shadows-bound : length (shadows (visits (whole n (joined n fact)))) ≤ pairs n fact
+    shadows-bound = omega (arith, shadow-count n (joined n fact) B, joined-pairs (B .some), B .some)
+
+-- ---- pairs from a list
+
+keep-sum : (f : ℕ → Bool) (xs : List ℕ) → length (keep f xs) ≡ sum (λ x. hit (f x)) xs
+unfolding keep sum
+keep-sum f [] = refl
+keep-sum f (x ∷ xs) = go (which (f x)) (keep-sum f xs)
+  where
+    go : (f x ≡ true) ⊎ (f x ≡ false) → length (keep f xs) ≡ sum (λ x. hit (f x)) xs → length (keep f (x ∷ xs)) ≡ hit (f x) + sum (λ x. hit (f x)) xs
+    go (inl e) r = rw (keep-yes f x xs e, e) (omega arith)
+    go (inr e) r = rw (keep-no f x xs e, e) (omega arith)
+
+-- a number is in a run at most once
+one-at-most : (q n : ℕ) → sum (λ p. hit (eqb p q)) (range 0 n) ≤ 1
+one-at-most q n = go (decLt q n)
+  where
+    go : Dec (q < n) → sum (λ p. hit (eqb p q)) (range 0 n) ≤ 1
+    go (yes l) = omega (arith, sum-at (λ p. 1) q 0 n (omega arith) (omega arith), sum-le (λ p. hit (eqb p q)) (λ p. hit (eqb p q) * 1) (range 0 n) (λ p. omega arith))
+    go (no l) = omega (arith, sum-none (λ p. hit (eqb p q)) (range 0 n) (λ x m. let b = range-mem 0 n m in ap hit (ne-eqb x q (λ w. omega arith))))
+
+-- a test that only one part and container pass
+single : (n part container : ℕ) (f : ℕ → ℕ → Bool) → ((p c : ℕ) → f p c ≡ true → (p ≡ part) × (c ≡ container))
+    → sum (λ c. length (keep (λ p. f p c) (range 0 n))) (range 0 n) ≤ 1
+single n part container f h = omega (arith, one-at-most container n, sum-le (λ c. length (keep (λ p. f p c) (range 0 n))) (λ c. hit (eqb c container)) (range 0 n) at)
+  where
+    at : (c : ℕ) → length (keep (λ p. f p c) (range 0 n)) ≤ hit (eqb c container)
+    at c = go (which (eqb c container))
+      where
+        no : eqb c container ≡ false → (p : ℕ) → (f p c ≡ true) ⊎ (f p c ≡ false) → f p c ≡ false
+        no e p (inl t) = absurd (eqb-false c container e (h p c t .1))
+        no e p (inr t) = t
+
+        go : (eqb c container ≡ true) ⊎ (eqb c container ≡ false) → length (keep (λ p. f p c) (range 0 n)) ≤ hit (eqb c container)
+        go (inl e) = rw e (omega (
+          arith,
+          keep-or (λ p. f p c) (λ p. eqb p part) (λ p. false) (range 0 n) (λ p t. left-or false (eq-eqb p part (h p c t .0))),
+          none-kept (λ p. false) (range 0 n) (λ p. refl),
+          keep-sum (λ p. eqb p part) (range 0 n),
+          one-at-most part n,
+        ))
+        go (inr e) = rw e (omega (arith, none-kept (λ p. f p c) (range 0 n) (λ p. no e p (which (f p c)))))
+
+-- no more pairs than members of a list in which they are found, if each member stands for one pair at most
+pub pairs-any : {A : Type 0} (n : ℕ) (test : ℕ → ℕ → A → Bool) (part container : A → ℕ)
+    → ((p c : ℕ) (x : A) → test p c x ≡ true → (p ≡ part x) × (c ≡ container x)) → (xs : List A) → pairs n (λ p c. any (test p c) xs) ≤ length xs
+unfolding pairs parts any
+pairs-any n test part container h [] = omega (arith, sum-none (λ c. length (keep (λ p. false) (range 0 n))) (range 0 n) (λ c m. none-kept (λ p. false) (range 0 n) (λ p. refl)))
+pairs-any n test part container h (x ∷ xs) =
+    omega (
+      arith,
+      pairs-any n test part container h xs,
+      single n (part x) (container x) (λ p c. test p c x) (λ p c e. h p c x e),
+      sum-add (λ c. length (keep (λ p. test p c x) (range 0 n))) (λ c. length (keep (λ p. any (test p c) xs) (range 0 n))) (range 0 n),
+      sum-le (λ c. length (keep (λ p. test p c x || any (test p c) xs) (range 0 n))) (λ c. length (keep (λ p. test p c x) (range 0 n)) + length (keep (λ p. any (test p c) xs) (range 0 n))) (range 0 n)
+          (λ c. keep-or (λ p. test p c x || any (test p c) xs) (λ p. test p c x) (λ p. any (test p c) xs) (range 0 n) (λ p e. e)),
+    )

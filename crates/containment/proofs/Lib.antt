@@ -1,0 +1,13 @@
+pub mod Numbers
+pub mod Reached
+pub mod Joined
+pub mod Nodes
+pub mod Below
+pub mod Counts
+pub mod Session
+pub mod Ranges
+pub mod Places
+pub mod Contains
+pub mod Packing
+pub mod Bounds
+pub mod Lent

@@ -1,0 +1,7 @@
+pub mod Numbers
+pub mod Pairs
+pub mod Breadth
+pub mod Tree
+pub mod Parts
+pub mod Index
+pub mod Inside

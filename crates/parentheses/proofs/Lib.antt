@@ -1,0 +1,9 @@
+pub mod Masks
+pub mod Packed
+pub mod Ranks
+pub mod Selects
+pub mod Closes
+pub mod Session
+pub mod Trees
+pub mod Unpacked
+pub mod Encloses
