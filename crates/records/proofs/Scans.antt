@@ -9,6 +9,10 @@ use Rattle.records.specs.declared.Finding.{Finding}
 use Rattle.records.specs.declared.Finding.the-variants.{Fit, Unfit}
 use Rattle.records.specs.Refusal.{judge, scan}
 
+pub judged : {A : Type 0} (refused : Refusal → A) (rest : A) (f : Finding) {a : A} → ((r : Refusal) → refused r ≡ a → ⊥) → judge refused rest f ≡ a → (f ≡ Fit) × (rest ≡ a)
+judged refused rest Fit never e = (refl, e)
+judged refused rest (Unfit r) never e = absurd (never r e)
+
 module _ {A : Type 0} (refused : Refusal → ℕ → A) (accepted : A) (find : ℕ → Finding) where
   step : (i e : ℕ) → i < e → scan refused accepted find i (e - i) ≡ judge (λ r. refused r i) (scan refused accepted find (i + 1) (e - (i + 1))) (find i)
   unfolding scan
@@ -24,21 +28,22 @@ module _ {A : Type 0} (refused : Refusal → ℕ → A) (accepted : A) (find : �
   pub scan-stop : (i e : ℕ) (r : Refusal) → i < e → find i ≡ Unfit r → scan refused accepted find i (e - i) ≡ refused r i
   scan-stop i e r h f = step i e h ∙ rw f
 
-  -- where a refusal is no acceptance
-  module _ (never : (r : Refusal) (i : ℕ) → refused r i ≡ accepted → ⊥) where
-    here : (i : ℕ) (rest : A) (f : Finding) → judge (λ r. refused r i) rest f ≡ accepted → (f ≡ Fit) × (rest ≡ accepted)
-    here i rest Fit e = (refl, e)
-    here i rest (Unfit r) e = absurd (never r i e)
-
-    from : (i n : ℕ) → scan refused accepted find i n ≡ accepted → (k : ℕ) → i ≤ k → k < i + n → find k ≡ Fit
+  -- an outcome that is no refusal is the acceptance, and all is fit
+  module _ {a : A} (never : (r : Refusal) (i : ℕ) → refused r i ≡ a → ⊥) where
+    fits : (i n : ℕ) → scan refused accepted find i n ≡ a → (k : ℕ) → i ≤ k → k < i + n → find k ≡ Fit
     unfolding scan
-    from i zero e k l h = absurd (omega arith)
-    from i (suc n) e k l h =
-        let p = here i (scan refused accepted find (suc i) n) (find i) e in
+    fits i zero e k l h = absurd (omega arith)
+    fits i (suc n) e k l h =
+        let p = judged (λ r. refused r i) (scan refused accepted find (suc i) n) (find i) (λ r. never r i) e in
         elim (ℕ-discrete k i) [
           | yes q ↦ ap find q ∙ p .0
-          | no q ↦ from (suc i) n (p .1) k (omega arith) (omega arith)
+          | no q ↦ fits (suc i) n (p .1) k (omega arith) (omega arith)
         ]
 
-    pub all-fit : (n : ℕ) → scan refused accepted find 0 n ≡ accepted → (k : ℕ) → k < n → find k ≡ Fit
-    all-fit n e k h = from 0 n e k (omega arith) (omega arith)
+    ends : (i n : ℕ) → scan refused accepted find i n ≡ a → accepted ≡ a
+    unfolding scan
+    ends i zero e = e
+    ends i (suc n) e = ends (suc i) n (judged (λ r. refused r i) (scan refused accepted find (suc i) n) (find i) (λ r. never r i) e .1)
+
+    pub all-fit : (n : ℕ) → scan refused accepted find 0 n ≡ a → (accepted ≡ a) × ((k : ℕ) → k < n → find k ≡ Fit)
+    all-fit n e = (ends 0 n e, λ k h. fits 0 n e k (omega arith) (omega arith))

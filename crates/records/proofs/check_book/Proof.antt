@@ -1,30 +1,23 @@
+-- `records::check_book` meets its contract: rows 2 to 4 in order, then the records. Assumes nothing.
 use mathlib.Core.Path.{_∙_}
 use native.Mathlib.Omega.{arith}
 use Rattle.records.proofs.Books.{no-bytes, uneven, too-long, measured}
 use borrow.Author.Needs.{needs}
 use Rattle.records.proofs.check_book.Statement.{statement}
 use Rattle.records.proofs.check_book.Tie as tie
-use Rattle.records.proofs.check_book.Reads as reads
-use Rattle.records.proofs.check_book.Lts as lts
-use Rattle.records.proofs.check_records.Reads as check-records-reads
 
--- src/lib.rt:210:9
 returns : tie.Need-returns
 returns c = no-bytes _ (omega arith)
 
--- src/lib.rt:213:9
 returns-2 : tie.Need-returns-2
 returns-2 c = uneven _ (λ e. omega arith) (λ e. omega arith)
 
--- src/lib.rt:217:9
 returns-3 : tie.Need-returns-3
 returns-3 c = too-long _ (λ e. omega arith) (omega arith) (omega arith)
 
--- src/lib.rt:219:5
 check-records-requires : tie.Need-check-records-requires
 check-records-requires c κs = search needs
 
--- src/lib.rt:206:1
 returns-4 : tie.Need-returns-4
 returns-4 c = c .check-records .ensures ∙ measured _ (λ e. omega arith) (omega arith) (omega arith)
 

@@ -1,3 +1,4 @@
+-- `records::check_claims` meets its contract: the loop keeps what is left of the scan. Assumes nothing.
 use borrow.Author.Needs.{needs}
 use native.Mathlib.Omega.{arith}
 use mathlib.Core.Path.{_≡_, sym, ap, _∙_}
@@ -6,10 +7,6 @@ use Rattle.records.specs.Pieces.{largest}
 use Rattle.records.proofs.Claims.{uneven-claims, too-many-claims, first-claim, ClaimsLeft, accepts-claims, refuses-form, refuses-piece, next-claim}
 use Rattle.records.proofs.check_claims.Statement.{statement}
 use Rattle.records.proofs.check_claims.Tie as tie
-use Rattle.records.proofs.check_claims.Reads as reads
-use Rattle.records.proofs.check_claims.Lts as lts
-use Rattle.records.proofs.claim_at.Reads as claim-at-reads
-use Rattle.records.proofs.largest_named.Reads as largest-named-reads
 
 abbrev Inv-loop : tie.InvT-loop
 Inv-loop claims pieces n i₀ i = (i ≤ n) × ClaimsLeft pieces claims i
@@ -17,54 +14,42 @@ Inv-loop claims pieces n i₀ i = (i ≤ n) × ClaimsLeft pieces claims i
 abbrev μ-loop : tie.MeasureT-loop
 μ-loop claims pieces n i₀ i = n - i
 
--- src/lib.rt:242:9
 returns : tie.Need-returns Inv-loop μ-loop
 returns c = uneven-claims _ _ (λ e. omega arith)
 
--- src/lib.rt:246:9
 returns-2 : tie.Need-returns-2 Inv-loop μ-loop
 returns-2 c = too-many-claims _ _ (omega arith) (omega arith)
 
--- src/lib.rt:249:5
 loop-holds : tie.Need-loop-holds Inv-loop μ-loop
 loop-holds c = (search needs, first-claim _ _ (omega arith) (omega arith))
 
--- src/lib.rt:250:35
 claim-at-requires : tie.Need-claim-at-requires Inv-loop μ-loop
 claim-at-requires c κs = search needs
 
--- src/lib.rt:250:26
 enum-known-claim : tie.Need-enum-known-claim Inv-loop μ-loop
 enum-known-claim c = search needs
 
--- src/lib.rt:251:41
 enum-told : tie.Need-enum-told Inv-loop μ-loop
 enum-told c = search needs
 
--- src/lib.rt:251:13
 returns-3 : tie.Need-returns-3 Inv-loop μ-loop
 returns-3 c = let l = c .before .before .before .before in refuses-form _ _ _ (l .loop .inv .1) (omega arith) (sym (c .enum-told .given .1) ∙ c .before .before .claim-at .ensures)
 
--- src/lib.rt:253:22
 largest-named-requires : tie.Need-largest-named-requires Inv-loop μ-loop
 largest-named-requires c κs = search needs
 
--- src/lib.rt:254:13
 returns-4 : tie.Need-returns-4 Inv-loop μ-loop
 returns-4 c =
     let m = c .before .before .before in
     refuses-piece _ _ _ (m .before .before .before .before .loop .inv .1) (omega arith) (sym (m .claim .given .1) ∙ m .before .before .claim-at .ensures)
     (omega (arith, c .before .largest-named .ensures))
 
--- src/lib.rt:256:9
 add-i : tie.Need-add-i Inv-loop μ-loop
 add-i c = search needs
 
--- src/lib.rt:249:5
 loop-less : tie.Need-loop-less Inv-loop μ-loop
 loop-less c = omega arith
 
--- src/lib.rt:249:5
 loop-again : tie.Need-loop-again Inv-loop μ-loop
 loop-again c =
     let m = c .before .before .before in (
@@ -73,7 +58,6 @@ loop-again c =
           (omega (arith, c .before .largest-named .ensures)),
     )
 
--- src/lib.rt:238:1
 returns-5 : tie.Need-returns-5 Inv-loop μ-loop
 returns-5 c = accepts-claims _ _ _ (c .before .loop .inv .1) (omega arith)
 

@@ -1,42 +1,32 @@
+-- `records::check_form` meets its contract: each way out is one of the rows, whose tests the branches are. Assumes nothing.
 use mathlib.Core.Path.{sym}
 use native.Mathlib.Omega.{arith}
 use Rattle.records.proofs.Rows.{kind-low, kind-high, tagged, too-large, not-part, ordered, disordered}
 use borrow.Author.Needs.{needs}
 use Rattle.records.proofs.check_form.Statement.{statement}
 use Rattle.records.proofs.check_form.Tie as tie
-use Rattle.records.proofs.check_form.Reads as reads
-use Rattle.records.proofs.check_form.Lts as lts
-use Rattle.records.proofs.largest_named.Reads as largest-named-reads
 
--- src/lib.rt:132:9
 returns : tie.Need-returns
 returns c = sym (kind-low _ (omega arith))
 
--- src/lib.rt:135:9
 returns-2 : tie.Need-returns-2
 returns-2 c = sym (kind-high _ (omega arith) (omega arith))
 
--- src/lib.rt:138:9
 returns-3 : tie.Need-returns-3
 returns-3 c = sym (tagged _ (omega arith) (omega arith) (λ e. omega arith))
 
--- src/lib.rt:140:15
 largest-named-requires : tie.Need-largest-named-requires
 largest-named-requires c κs = search needs
 
--- src/lib.rt:141:9
 returns-4 : tie.Need-returns-4
 returns-4 c = sym (too-large _ (omega arith) (omega arith) (omega arith) (omega arith))
 
--- src/lib.rt:144:9
 returns-5 : tie.Need-returns-5
 returns-5 c = sym (not-part _ (omega arith) (omega arith) (omega arith) (omega arith) (λ e. omega arith))
 
--- src/lib.rt:147:9
 returns-6 : tie.Need-returns-6
 returns-6 c = sym (ordered _ (omega arith) (omega arith) (omega arith) (omega arith) (omega arith) (omega arith))
 
--- src/lib.rt:128:1
 returns-7 : tie.Need-returns-7
 returns-7 c = sym (disordered _ (omega arith) (omega arith) (omega arith) (omega arith) (omega arith) (omega arith))
 

@@ -1,3 +1,5 @@
+-- `records::check_records` meets its contract: the outer loop keeps what is left of the scan, the keys of the records passed and their piece count;
+-- the inner loop keeps that no earlier key passed is the key at hand. Assumes nothing.
 use Rattle.records.specs.Pieces.{piecesUpTo, largest}
 use mathlib.Core.Path.{_≡_, refl, sym, ap, ap₂, _∙_}
 use Prim.Native.Nat.{ℕ, max, _≤_, _<_, _-_, _+_, _*_}
@@ -15,13 +17,6 @@ use Rattle.records.proofs.Books.{Left, at-first, accepts, refuses, goes
 use Rattle.records.proofs.Keys.{repeated, new, keyed-more}
 use Rattle.records.proofs.check_records.Statement.{statement}
 use Rattle.records.proofs.check_records.Tie as tie
-use Rattle.records.proofs.check_records.Reads as reads
-use Rattle.records.proofs.check_records.Lts as lts
-use Rattle.records.proofs.check_form.Reads as check-form-reads
-use Rattle.records.proofs.key_at.Reads as key-at-reads
-use Rattle.records.proofs.larger_of.Reads as larger-of-reads
-use Rattle.records.proofs.largest_named.Reads as largest-named-reads
-use Rattle.records.proofs.record_at.Reads as record-at-reads
 
 abbrev Inv-loop : tie.InvT-loop
 Inv-loop book n keys pieces i «record» key j₀ j = (j ≤ i) × ((q : ℕ) → q < j → getD keys q 0 ≡ key → ⊥)
@@ -50,82 +45,63 @@ named :
     → c .largest-named .result ≡ largest (recordAt (c .before .before .before .before .before .before .before .before .before .before .before .args .book .now) (c .before .before .before .before .before .before .before .before .before .records .i))
 named c = c .largest-named .ensures ∙ ap largest (c .before .before .before .before .before .before .before .record-at .ensures)
 
--- src/lib.rt:176:5
 records-holds : tie.Need-records-holds Inv-loop μ-loop Inv-records μ-records
 records-holds c = (search needs, search needs, pieces-none _, below-none _, at-first _ _)
 
--- src/lib.rt:180:13
 record-at-requires : tie.Need-record-at-requires Inv-loop μ-loop Inv-records μ-records
 record-at-requires c κs = search needs
 
--- src/lib.rt:181:13
 check-form-requires : tie.Need-check-form-requires Inv-loop μ-loop Inv-records μ-records
 check-form-requires c κs = search needs
 
--- src/lib.rt:182:31
 enum-known-form : tie.Need-enum-known-form Inv-loop μ-loop Inv-records μ-records
 enum-known-form c = search needs
 
 enum-told : tie.Need-enum-told Inv-loop μ-loop Inv-records μ-records
 enum-told c = search needs
 
--- src/lib.rt:185:13
 key-at-requires : tie.Need-key-at-requires Inv-loop μ-loop Inv-records μ-records
 key-at-requires c κs = search needs
 
--- src/lib.rt:187:9
 loop-holds : tie.Need-loop-holds Inv-loop μ-loop Inv-records μ-records
 loop-holds c = (search needs, below-none _)
 
--- src/lib.rt:188:16
 mul-if2 : tie.Need-mul-if2 Inv-loop μ-loop Inv-records μ-records
 mul-if2 c = search needs
 
--- src/lib.rt:188:16
 array-read-if2 : tie.Need-array-read-if2 Inv-loop μ-loop Inv-records μ-records
 array-read-if2 c = search needs
 
--- src/lib.rt:191:13
 add-j : tie.Need-add-j Inv-loop μ-loop Inv-records μ-records
 add-j c = search needs
 
--- src/lib.rt:187:9
 loop-less : tie.Need-loop-less Inv-loop μ-loop Inv-records μ-records
 loop-less c = omega arith
 
--- src/lib.rt:187:9
 loop-again : tie.Need-loop-again Inv-loop μ-loop Inv-records μ-records
 loop-again c = (search needs, below-more _ _ (c .before .before .loop .inv .1) (c .if2 .left))
 
--- src/lib.rt:193:9
 mul-keys : tie.Need-mul-keys Inv-loop μ-loop Inv-records μ-records
 mul-keys c = search needs
 
--- src/lib.rt:193:9
 array-write-keys : tie.Need-array-write-keys Inv-loop μ-loop Inv-records μ-records
 array-write-keys c = search needs
 
--- src/lib.rt:194:36
 largest-named-requires : tie.Need-largest-named-requires Inv-loop μ-loop Inv-records μ-records
 largest-named-requires c κs = search needs
 
--- src/lib.rt:194:36
 add-larger-of : tie.Need-add-larger-of Inv-loop μ-loop Inv-records μ-records
 add-larger-of c = omega (arith, named c, formed _ (fit (c .before .before)))
 
--- src/lib.rt:194:9
 larger-of-requires : tie.Need-larger-of-requires Inv-loop μ-loop Inv-records μ-records
 larger-of-requires c κs = search needs
 
--- src/lib.rt:195:9
 add-i : tie.Need-add-i Inv-loop μ-loop Inv-records μ-records
 add-i c = search needs
 
--- src/lib.rt:176:5
 records-less : tie.Need-records-less Inv-loop μ-loop Inv-records μ-records
 records-less c = omega arith
 
--- src/lib.rt:176:5
 records-again : tie.Need-records-again Inv-loop μ-loop Inv-records μ-records
 records-again c =
     let l = c .before .before .before in
@@ -138,18 +114,15 @@ records-again c =
           (form-new _ _ (fit l) (new _ _ (λ j h e. l .loop .inv .1 j (omega arith) (o .records .inv .3 j h ∙ e ∙ sym (l .before .key-at .ensures))))),
     )
 
--- src/lib.rt:169:1
 returns : tie.Need-returns Inv-loop μ-loop Inv-records μ-records
 returns c = accepts _ _ _ (c .before .records .inv .4) (omega arith) (omega arith) (c .before .records .inv .2)
 
--- src/lib.rt:169:1
 returns-2 : tie.Need-returns-2 Inv-loop μ-loop Inv-records μ-records
 returns-2 c =
     let l = c .before .before .before .before .before .before in
     refuses _ _ (l .records .i) (l .records .inv .4) (omega arith)
     (form-unfit _ _ _ (sym (ap formFinding (c .before .before .before .before .record-at .ensures)) ∙ sym (c .before .before .before .check-form .ensures) ∙ c .before .form .given .1))
 
--- src/lib.rt:169:1
 returns-3 : tie.Need-returns-3 Inv-loop μ-loop Inv-records μ-records
 returns-3 c =
     let l = c .before .before in

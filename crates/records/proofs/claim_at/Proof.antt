@@ -1,3 +1,4 @@
+-- `records::claim_at` meets its contract: each way out is a case of row 12. Assumes nothing.
 use borrow.Author.Tests.{not-true, not-false}
 use mathlib.Core.Path.{sym, _∙_}
 use native.Mathlib.Omega.{arith}
@@ -5,28 +6,19 @@ use Rattle.records.proofs.Claims.{unstated, marked, read-whole}
 use borrow.Author.Needs.{needs}
 use Rattle.records.proofs.claim_at.Statement.{statement}
 use Rattle.records.proofs.claim_at.Tie as tie
-use Rattle.records.proofs.claim_at.Reads as reads
-use Rattle.records.proofs.claim_at.Lts as lts
-use Rattle.records.proofs.record_at.Reads as record-at-reads
-use Rattle.records.proofs.states_fact.Reads as states-fact-reads
 
--- src/lib.rt:227:9
 record-at-requires : tie.Need-record-at-requires
 record-at-requires c κs = search needs
 
--- src/lib.rt:228:9
 states-fact-requires : tie.Need-states-fact-requires
 states-fact-requires c κs = search needs
 
--- src/lib.rt:229:9
 returns : tie.Need-returns
 returns c = unstated _ _ (c .before .before .record-at .ensures) (sym (c .before .states-fact .ensures) ∙ not-true _ (c .if1 .taken))
 
--- src/lib.rt:232:9
 returns-2 : tie.Need-returns-2
 returns-2 c = marked _ _ (c .before .before .before .before .record-at .ensures) (λ e. omega arith)
 
--- src/lib.rt:223:1
 returns-3 : tie.Need-returns-3
 returns-3 c = read-whole _ _ (c .before .before .before .before .record-at .ensures) (sym (c .before .before .before .states-fact .ensures) ∙ not-false _ (c .before .before .if1 .left)) (omega arith)
 

@@ -1,3 +1,4 @@
+-- `records::largest_named` meets its contract: each way out is a case of `largest`. Assumes nothing.
 use borrow.Author.Tests.{not-true, not-false}
 use mathlib.Core.Path.{sym, _∙_}
 use native.Mathlib.Omega.{arith}
@@ -5,23 +6,16 @@ use Rattle.records.proofs.Rows.{plain-largest, both-largest}
 use borrow.Author.Needs.{needs}
 use Rattle.records.proofs.largest_named.Statement.{statement}
 use Rattle.records.proofs.largest_named.Tie as tie
-use Rattle.records.proofs.largest_named.Reads as reads
-use Rattle.records.proofs.largest_named.Lts as lts
-use Rattle.records.proofs.states_fact.Reads as states-fact-reads
 
--- src/lib.rt:118:9
 states-fact-requires : tie.Need-states-fact-requires
 states-fact-requires c κs = search needs
 
--- src/lib.rt:119:9
 returns : tie.Need-returns
 returns c = sym (plain-largest _ (sym (c .before .states-fact .ensures) ∙ not-true _ (c .if1 .taken)))
 
--- src/lib.rt:122:9
 returns-2 : tie.Need-returns-2
 returns-2 c = omega (arith, both-largest (c .before .before .before .before .args .r) (sym (c .before .before .before .states-fact .ensures) ∙ not-false _ (c .before .before .if1 .left)))
 
--- src/lib.rt:115:1
 returns-3 : tie.Need-returns-3
 returns-3 c = omega (arith, both-largest (c .before .before .before .before .args .r) (sym (c .before .before .before .states-fact .ensures) ∙ not-false _ (c .before .before .if1 .left)))
 

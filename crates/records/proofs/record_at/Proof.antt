@@ -1,3 +1,4 @@
+-- `records::record_at` meets its contract: the six bytes that were read are those of `recordAt`. Assumes nothing.
 use Rattle.records.proofs.Records.{read-record}
 use native.Mathlib.Omega.{arith}
 use Rattle.records.specs.Record.{recordAt}
@@ -5,91 +6,67 @@ use mathlib.Core.Path.{_≡_, ap}
 use borrow.Author.Needs.{needs}
 use Rattle.records.proofs.record_at.Statement.{statement}
 use Rattle.records.proofs.record_at.Tie as tie
-use Rattle.records.proofs.record_at.Reads as reads
-use Rattle.records.proofs.record_at.Lts as lts
-use Rattle.records.proofs.wide.Reads as wide-reads
 
--- src/lib.rt:93:14
 mul-at : tie.Need-mul-at
 mul-at c = search needs
 
--- src/lib.rt:94:20
 add-wide : tie.Need-add-wide
 add-wide c = search needs
 
--- src/lib.rt:94:18
 shared-slice-read-wide : tie.Need-shared-slice-read-wide
 shared-slice-read-wide c = search needs
 
--- src/lib.rt:94:13
 wide-requires : tie.Need-wide-requires
 wide-requires c κs = search needs
 
--- src/lib.rt:94:44
 add-wide-2 : tie.Need-add-wide-2
 add-wide-2 c = search needs
 
--- src/lib.rt:94:42
 shared-slice-read-wide-2 : tie.Need-shared-slice-read-wide-2
 shared-slice-read-wide-2 c = search needs
 
--- src/lib.rt:94:37
 wide-requires-2 : tie.Need-wide-requires-2
 wide-requires-2 c κs = search needs
 
--- src/lib.rt:94:31
 mul-a : tie.Need-mul-a
 mul-a c = search needs
 
--- src/lib.rt:94:13
 add-a : tie.Need-add-a
 add-a c = search needs
 
--- src/lib.rt:95:20
 add-wide-3 : tie.Need-add-wide-3
 add-wide-3 c = search needs
 
--- src/lib.rt:95:18
 shared-slice-read-wide-3 : tie.Need-shared-slice-read-wide-3
 shared-slice-read-wide-3 c = search needs
 
--- src/lib.rt:95:13
 wide-requires-3 : tie.Need-wide-requires-3
 wide-requires-3 c κs = search needs
 
--- src/lib.rt:95:44
 add-wide-4 : tie.Need-add-wide-4
 add-wide-4 c = search needs
 
--- src/lib.rt:95:42
 shared-slice-read-wide-4 : tie.Need-shared-slice-read-wide-4
 shared-slice-read-wide-4 c = search needs
 
--- src/lib.rt:95:37
 wide-requires-4 : tie.Need-wide-requires-4
 wide-requires-4 c κs = search needs
 
--- src/lib.rt:95:31
 mul-b : tie.Need-mul-b
 mul-b c = search needs
 
--- src/lib.rt:95:13
 add-b : tie.Need-add-b
 add-b c = search needs
 
--- src/lib.rt:97:15
 shared-slice-read-t13 : tie.Need-shared-slice-read-t13
 shared-slice-read-t13 c = search needs
 
--- src/lib.rt:98:16
 add-t6 : tie.Need-add-t6
 add-t6 c = search needs
 
--- src/lib.rt:98:14
 shared-slice-read-t9 : tie.Need-shared-slice-read-t9
 shared-slice-read-t9 c = search needs
 
--- src/lib.rt:89:1
 returns : tie.Need-returns
 returns c = read-record _ _ _ _ _ _ (c .before .before .before .before .before .before .before .before .wide .ensures .0) (c .before .before .before .before .before .before .wide2 .ensures .0) (c .before .before .before .before .wide3 .ensures .0) (c .before .before .wide4 .ensures .0)
 

