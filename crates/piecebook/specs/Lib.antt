@@ -1,0 +1,4 @@
+pub mod Outcome
+pub mod Lent
+pub mod Call
+pub mod Demands
