@@ -1,2 +1,5 @@
 pub mod Outcomes
 pub mod Kept
+pub mod Buffers
+pub mod Judges
+pub mod Answering

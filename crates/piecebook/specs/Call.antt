@@ -2,12 +2,11 @@
 -- and no answers. Assumes nothing.
 use mathlib.Core.Path.{_≡_}
 use Prim.Native.Nat.{ℕ, _-_}
-use mathlib.Core.Bool.{Bool, true, false, _&&_}
+use mathlib.Core.Bool.{Bool, true, false}
 use mathlib.Core.List.{List}
 use lib.Dec.{eqb, leb}
 use lib.ListN.{length, replicate}
 use Rattle.lists.specs.Tab.{tab}
-use Rattle.rules.specs.Follows.{storing}
 use Rattle.rules.specs.Verdict.{verdict}
 use Rattle.rules.specs.Entries.{shortestClash}
 use Rattle.rules.specs.Fact.{Fact}
@@ -21,6 +20,7 @@ use Rattle.records.specs.declared.BookCheck.the-variants as book
 use Rattle.records.specs.declared.ClaimsCheck.{ClaimsCheck}
 use Rattle.records.specs.declared.ClaimsCheck.the-variants as claims
 use Rattle.containment.specs.Pairs.{joined}
+use Rattle.containment.specs.Stored.{partIn}
 use Rattle.containment.specs.Index.{parenthesesOf, visitsOf}
 use Rattle.containment.specs.Parts as on
 use Rattle.piecebook.specs.Lent.{Lent, shortLent, front}
@@ -29,7 +29,7 @@ use Rattle.piecebook.specs.declared.Outcome.the-variants.{Accepted, Refu
 
 -- the pairs (part, container) of a book with n pieces, with the joins to piece 0
 unfoldable pub edges : ℕ → List ℕ → ℕ → ℕ → Bool
-edges n s = joined n (λ p c. storing (facts s) 1 (λ a b. eqb a p && eqb b c))
+edges n s = joined n (partIn (facts s))
 
 -- ---- the outcome: rows 1 to 14 from top to bottom
 

@@ -14,6 +14,9 @@ pub record Lent : Type 0 where
   pub places : List ℕ
   pub answers : List ℕ
 
+abbrev pub lent : List ℕ → List ℕ → List ℕ → List ℕ → List ℕ → Lent
+lent parens marks shadows places answers = record { parens = parens; marks = marks; shadows = shadows; places = places; answers = answers }
+
 -- row 1: an index part shorter than its length, or the answers shorter than claim bytes / 6, rounded down
 unfoldable pub shortLent : List ℕ → Lent → Bool
 shortLent claims l =

@@ -2,3 +2,4 @@ pub mod Outcome
 pub mod Lent
 pub mod Call
 pub mod Demands
+pub mod Judging
