@@ -18,7 +18,7 @@ use Rattle.containment.specs.Tree.{whole, visits}
 use Rattle.containment.specs.Parts.{shadows}
 use Rattle.containment.proofs.Numbers.{_∈_, which, keep-yes, keep-no, keep-lengths, range-length, range-mem}
 use Rattle.containment.proofs.Nodes.{hit}
-use Rattle.containment.proofs.Counts.{sum-add, sum-at, sum-none, visit-count, shadow-count}
+use Rattle.containment.proofs.Sizes.{sum-add, sum-at, sum-none, visit-count, shadow-count}
 
 -- ---- lists
 

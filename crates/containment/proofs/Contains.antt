@@ -14,13 +14,14 @@ use borrow.Author.Tests.{eq-eqb, eqb-true}
 use Rattle.containment.specs.Tree.{Visit, node, shadow, under, whole, visits}
 use Rattle.containment.specs.Parts.{parens, isNode, isShadow, place, marks, shadows, shadowList}
 use Rattle.containment.proofs.Numbers.{_∈_, which}
-use Rattle.parentheses.specs.Bits.{rank}
+use Rattle.parentheses.specs.Rank.{rank}
+use Rattle.parentheses.specs.Subtree.{after}
 use Rattle.parentheses.proofs.Ranks.{rank-zero}
 use Rattle.parentheses.proofs.Trees.{rank-cons}
 use Rattle.containment.specs.Pairs.{Book, Within, self, step}
 use Rattle.containment.proofs.Nodes.{hit, times, times-append, once}
 use Rattle.containment.proofs.Below.{piece, within-trans, within-le, Seen, under-mem, part-seen, node-part-seen}
-use Rattle.containment.specs.Inside.{after, Inside, below, through}
+use Rattle.containment.specs.Inside.{Inside, below, through}
 use Rattle.containment.proofs.Places.{Stand, stand, stand-place, stand-after}
 
 -- ## Lists of visits

@@ -3,7 +3,7 @@ pub mod Reached
 pub mod Joined
 pub mod Nodes
 pub mod Below
-pub mod Counts
+pub mod Sizes
 pub mod Session
 pub mod Ranges
 pub mod Places
@@ -11,3 +11,18 @@ pub mod Contains
 pub mod Packing
 pub mod Bounds
 pub mod Lent
+pub mod Siblings
+pub mod Rows
+pub mod Events
+mod Nexts
+mod Queue
+mod Rounds
+mod Written
+mod Walking
+mod Resolution
+mod Joins
+pub mod Pieces
+mod Buildings
+pub mod Derived
+pub mod Ends
+pub mod Table

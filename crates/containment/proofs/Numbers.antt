@@ -7,6 +7,8 @@ use Prim.Native.Nat.{ℕ, zero, suc, _+_, _≤_, _<_}
 use native.Mathlib.Omega.{arith}
 use native.Mathlib.Nat.{eq-or-lt-of-le}
 use Rattle.lists.specs.Tab.{tab}
+use lib.Dec.{ltb}
+use borrow.Author.Tests.{ltb-true, ltb-false, lt-ltb, le-ltb}
 use lib.ListN.{length}
 use Rattle.lists.proofs.Tabs.{tab-length}
 use Rattle.containment.specs.Numbers.{range, keep, find}
@@ -100,3 +102,11 @@ find-mem f (y ∷ xs) {x} m e = go (which (f y)) (List·Memᴰ·cases-cons m) (�
     go (inl t) h r = rw (t, find) (here refl, t)
     go (inr t) (inl q) r = let z : true ≡ false = cc (ap f q) in absurd (mathlib.Core.Bool.true≢false z)
     go (inr t) (inr h) r = rw (t, find) (there (r h .0), r h .1)
+
+-- ## A bound that is one more changes nothing at the other numbers
+pub same-test : (p q : ℕ) → (q ≡ p → ⊥) → ltb q (p + 1) ≡ ltb q p
+same-test p q x = go (which (ltb q p))
+  where
+    go : (ltb q p ≡ true) ⊎ (ltb q p ≡ false) → ltb q (p + 1) ≡ ltb q p
+    go (inl t) = lt-ltb q (p + 1) (omega (arith, ltb-true q p t)) ∙ sym t
+    go (inr t) = le-ltb q (p + 1) (omega (arith, ltb-false q p t)) ∙ sym t

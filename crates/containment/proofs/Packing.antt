@@ -7,51 +7,36 @@ use native.Mathlib.Nat.{pow-suc, div-one, zero-div}
 use native.Mathlib.Decide.{decLt}
 use native.Mathlib.Omega.{arith}
 use lib.Dec.{eqb}
-use lib.ListN.{length, getD, take, drop, replicate, length-append, length-replicate, getD-replicate, length-take, List·getD-append, List·getD-eq-default}
+use lib.ListN.{length, getD, take, drop, replicate, getD-replicate, length-take, List·getD-append, List·getD-eq-default}
 use lib.Pow.{shr-shr, pow-mono}
 use lib.Seq.{ext-getD, getD-take, getD-drop, getD-append-add}
 use Rattle.lists.specs.Tab.{tab}
 use Rattle.lists.proofs.Tabs.{tab-at, tab-length}
-use Rattle.parentheses.specs.Bits.{bits, bitOf, digit, num}
+use Rattle.parentheses.specs.Bits.{bits, bitOf, digit}
+use Rattle.parentheses.specs.Rank.{num}
+use Rattle.parentheses.specs.Padded.{padded}
 use Rattle.parentheses.proofs.Packed.{bits-length, bits-at}
+use Rattle.parentheses.proofs.Paddeds.{padded-length}
 use Rattle.parentheses.proofs.Unpacked.{bits-same}
-use Rattle.containment.specs.Parts.{value, packed, padded}
+use Rattle.containment.specs.Parts.{value, packed}
 
--- ---- a list cut or filled to a length
+-- ---- a list in n elements
 
--- filled with d
-pub filled : {A : Type 0} (d : A) (xs : List A) (n : ℕ) → length xs ≤ n → tab (λ i. getD xs i d) 0 n ≡ xs ++ replicate (n - length xs) d
-filled {A} d xs n l = ext-getD d (tab f 0 n) (xs ++ replicate (n - length xs) d)
-    (tab-length f 0 n ∙ sym all) (λ i b. tab-at f n i d (rw (tab-length f 0 n) at b) ∙ at i (rw (tab-length f 0 n) at b) (decLt i (length xs)))
+pub padded-at : {A : Type 0} (d : A) (n : ℕ) (xs : List A) (i : ℕ) → i < n → getD (padded d n xs) i d ≡ getD xs i d
+unfolding padded
+padded-at {A} d n xs i b = go (decLt i (length xs))
   where
-    f : ℕ → A
-    f i = getD xs i d
-
-    all : length (xs ++ replicate (n - length xs) d) ≡ n
-    all = omega (arith, length-append xs (replicate (n - length xs) d), length-replicate (n - length xs) d)
-
-    at : (i : ℕ) → i < n → Dec (i < length xs) → getD xs i d ≡ getD (xs ++ replicate (n - length xs) d) i d
-    at i b (yes h) = sym (List·getD-append xs (replicate (n - length xs) d) d i h)
-    at i b (no h) =
+    go : Dec (i < length xs) → getD (xs ++ replicate (n - length xs) d) i d ≡ getD xs i d
+    go (yes h) = List·getD-append xs (replicate (n - length xs) d) d i h
+    go (no h) =
         let e : length xs + (i - length xs) ≡ i = omega arith in
-        List·getD-eq-default xs d {n = i} (omega arith) ∙ sym (rw e at (getD-append-add xs (replicate (n - length xs) d) (i - length xs) d
-        ∙ getD-replicate (n - length xs) (i - length xs) d d (omega arith)))
+        (rw e at (getD-append-add xs (replicate (n - length xs) d) (i - length xs) d ∙ getD-replicate (n - length xs) (i - length xs) d d (omega arith)))
+        ∙ sym (List·getD-eq-default xs d {n = i} (omega arith))
 
--- ---- numbers
-
-pub padded-at : (n : ℕ) (xs : List ℕ) (i : ℕ) → i < n → getD (padded n xs) i 0 ≡ getD xs i 0
-unfolding padded
-padded-at n xs i l = tab-at (λ i. getD xs i 0) n i 0 l
-
-pub padded-is : (n : ℕ) (xs : List ℕ) → length xs ≤ n → padded n xs ≡ xs ++ replicate (n - length xs) 0
-unfolding padded
-padded-is n xs l = filled 0 xs n l
-
--- a part that agrees with xs at every place
-pub by-places : (buf xs : List ℕ) → ((i : ℕ) → i < length buf → getD buf i 0 ≡ getD xs i 0) → buf ≡ padded (length buf) xs
-unfolding padded
-by-places buf xs h = ext-getD 0 buf (tab (λ i. getD xs i 0) 0 (length buf)) (sym (tab-length (λ i. getD xs i 0) 0 (length buf)))
-    (λ i l. h i l ∙ sym (tab-at (λ i. getD xs i 0) (length buf) i 0 l))
+-- a list that agrees with xs at every place
+pub by-places : {A : Type 0} (d : A) (buf xs : List A) → length xs ≤ length buf → ((i : ℕ) → i < length buf → getD buf i d ≡ getD xs i d) → buf ≡ padded d (length buf) xs
+by-places d buf xs l h = ext-getD d buf (padded d (length buf) xs) (sym (padded-length d (length buf) xs l))
+    (λ i b. h i b ∙ sym (padded-at d (length buf) xs i b))
 
 -- ---- bytes
 
@@ -116,11 +101,12 @@ module _ (len : ℕ) (bs : List Bool) where
       )
       (one-is (getD bs k false))
 
-  packed-bits : bits (packed len bs) ≡ tab (λ k. getD bs k false) 0 (8 * len)
-  packed-bits = ext-getD false (bits (packed len bs)) (tab (λ k. getD bs k false) 0 (8 * len))
-      (bits-length (packed len bs) ∙ ap (λ (x : ℕ). 8 * x) packed-length ∙ sym (tab-length (λ k. getD bs k false) 0 (8 * len)))
-      (λ k l. let b : k < 8 * len = omega (arith, bits-length (packed len bs), packed-length) in
-      bits-at (packed len bs) k (omega (arith, packed-length)) ∙ packed-bit k b ∙ sym (tab-at (λ k. getD bs k false) (8 * len) k false b))
+  -- the bits of packed bytes: the bits, and zeros
+  pub packed-is : length bs ≤ 8 * len → bits (packed len bs) ≡ padded false (8 * len) bs
+  packed-is r =
+      let e : length (bits (packed len bs)) ≡ 8 * len = bits-length (packed len bs) ∙ ap (λ (x : ℕ). 8 * x) packed-length in
+      rw e at (by-places false (bits (packed len bs)) bs (omega arith)
+      (λ k l. bits-at (packed len bs) k (omega (arith, packed-length)) ∙ packed-bit k (omega arith)))
 
   packed-small : (j : ℕ) → getD (packed len bs) j 0 < 256
   packed-small j = go (decLt j len)
@@ -129,14 +115,8 @@ module _ (len : ℕ) (bs : List Bool) where
       go (yes l) = unfold byte in rw (packed-at j l) (omega (arith, value-lt (take 8 (drop (8 * j) bs)), pow-mono {i = length (take 8 (drop (8 * j) bs))} {j = 8} (omega (arith, length-take 8 (drop (8 * j) bs)))))
       go (no l) = omega (arith, List·getD-eq-default (packed len bs) 0 {n = j} (omega (arith, packed-length)))
 
-  -- the bits of packed bytes: the bits, and zeros
-  pub packed-is : length bs ≤ 8 * len → bits (packed len bs) ≡ bs ++ replicate (8 * len - length bs) false
-  packed-is l = packed-bits ∙ filled false bs (8 * len) l
-
 -- bytes that hold the bits at every place
-pub by-bits : (buf : List ℕ) (bs : List Bool) → ((i : ℕ) → getD buf i 0 < 256) → ((k : ℕ) → k < 8 * length buf → getD (bits buf) k false ≡ getD bs k false)
+pub by-bits : (buf : List ℕ) (bs : List Bool) → length bs ≤ 8 * length buf → ((i : ℕ) → getD buf i 0 < 256) → ((k : ℕ) → getD (bits buf) k false ≡ getD bs k false)
     → buf ≡ packed (length buf) bs
-by-bits buf bs small h = bits-same buf (packed (length buf) bs) small (packed-small (length buf) bs)
-    (ext-getD false (bits buf) (tab (λ k. getD bs k false) 0 (8 * length buf)) (bits-length buf ∙ sym (tab-length (λ k. getD bs k false) 0 (8 * length buf)))
-    (λ k l. let b : k < 8 * length buf = omega (arith, bits-length buf) in h k b ∙ sym (tab-at (λ k. getD bs k false) (8 * length buf) k false b))
-    ∙ sym (packed-bits (length buf) bs))
+by-bits buf bs r small h = bits-same buf (packed (length buf) bs) small (packed-small (length buf) bs)
+    ((rw (bits-length buf) at (by-places false (bits buf) bs (omega (arith, bits-length buf)) (λ k l. h k))) ∙ sym (packed-is (length buf) bs r))

@@ -14,13 +14,13 @@ use Rattle.containment.specs.Breadth.{parent}
 use Rattle.containment.specs.Tree.{Visit, node, shadow, Forest, end, tree, hang, under, whole, visits}
 use Rattle.containment.specs.Parts.{parens, isNode, place}
 use Rattle.containment.proofs.Numbers.{_∈_, which}
-use Rattle.parentheses.specs.Bits.{rank}
-use Rattle.parentheses.proofs.Trees.{rank-cons}
+use Rattle.parentheses.specs.Rank.{rank}
+use Rattle.parentheses.specs.Subtree.{after}
+use Rattle.parentheses.proofs.Trees.{rank-cons, ones, ones-append}
 use Rattle.containment.specs.Pairs.{parts, Book}
 use Rattle.containment.proofs.Reached.{parent-edge}
 use Rattle.containment.proofs.Nodes.{hit, times, times-append, hang-node, hang-shadow, parts-mem, mem-parts, once}
-use Rattle.containment.proofs.Ranges.{ones, ones-append, ones-parens, after-at}
-use Rattle.containment.specs.Inside.{after}
+use Rattle.containment.proofs.Ranges.{ones-parens, after-at}
 
 -- ## Lists
 

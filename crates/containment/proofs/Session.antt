@@ -7,12 +7,13 @@ use lib.Dec.{eqb}
 use Rattle.lists.specs.Any.{anyBelow}
 use Rattle.lists.specs.Tab.{tab}
 use Rattle.parentheses.specs.Forest.{enc}
+use Rattle.parentheses.specs.Padded.{padded}
 use lib.ListN.{length}
 use Rattle.containment.specs.Numbers.{range, keep, find}
 use Rattle.containment.specs.Pairs.{parts, joined}
 use Rattle.containment.specs.Tree.{Visit, Forest, node, shadow, hang, under, whole, visits}
 use Rattle.containment.specs.Breadth.{breadth, order, parent}
-use Rattle.containment.specs.Parts.{shape, parens, isNode, isShadow, place, marks, shadows, shadowList, placeList, value, packed, padded}
+use Rattle.containment.specs.Parts.{shape, parens, isNode, isShadow, place, marks, shadows, shadowList, placeList, value, packed}
 
 listed : List (ℕ × ℕ) → ℕ → ℕ → Bool
 listed [] p c = false
@@ -41,7 +42,7 @@ marks-are : packed 2 (marks (visits W)) ≡ 64 ∷ 0 ∷ []
 unfolding range tab keep anyBelow find joined parts breadth order parent hang under whole visits book listed W value packed marks isShadow
 marks-are = refl
 
-shadows-are : padded 2 (shadowList (visits W)) ≡ 3 ∷ 0 ∷ []
+shadows-are : padded 0 2 (shadowList (visits W)) ≡ 3 ∷ 0 ∷ []
 unfolding range tab keep anyBelow find joined parts breadth order parent hang under whole visits book listed W padded shadowList shadows isNode place
 shadows-are = refl
 

@@ -4,6 +4,7 @@ use mathlib.Core.Bool.{Bool}
 use mathlib.Core.List.{List}
 use Prim.Native.Nat.{ℕ, _*_, _≤_}
 use lib.ListN.{length}
+use Rattle.parentheses.specs.Padded.{padded}
 use Rattle.containment.specs.Tree.{Visit, whole, visits}
 use Rattle.containment.specs.Parts as on
 
@@ -25,7 +26,7 @@ module _ (n : ℕ) (edge : ℕ → ℕ → Bool) where
   pub record Indexed (parens marks shadows places : List ℕ) (nodes shadowed : ℕ) : Type 0 where
     pub parens-are : parens ≡ on.packed (length parens) parenthesesOf
     pub marks-are : marks ≡ on.packed (length marks) (on.marks visitsOf)
-    pub shadows-are : shadows ≡ on.padded (length shadows) (on.shadowList visitsOf)
-    pub places-are : places ≡ on.padded (length places) (on.placeList n visitsOf)
+    pub shadows-are : shadows ≡ padded 0 (length shadows) (on.shadowList visitsOf)
+    pub places-are : places ≡ padded 0 (length places) (on.placeList n visitsOf)
     pub nodes-are : nodes ≡ length visitsOf
     pub shadowed-are : shadowed ≡ length (on.shadows visitsOf)

@@ -3,12 +3,9 @@ use mathlib.Core.Path.{_≡_}
 use mathlib.Core.Bool.{Bool, true, false}
 use mathlib.Core.List.{List}
 use Prim.Native.Nat.{ℕ, _≤_, _<_}
-use lib.ListN.{length, getD}
-use Rattle.parentheses.specs.Bits.{rank, select, close}
-
--- the first place after the tree of the node at place p: the ones up to the parenthesis that closes the node's
-unfoldable pub after : List Bool → ℕ → ℕ
-after bs p = rank bs (close bs (select bs p) (length bs))
+use lib.ListN.{getD}
+use Rattle.parentheses.specs.Rank.{rank}
+use Rattle.parentheses.specs.Subtree.{after}
 
 -- the place q is at or below the place p, or at or below a place that a shadow at or below p stands for, and so on
 pub data Inside (parens marks : List Bool) (targets : List ℕ) : ℕ → ℕ → Type 0 where

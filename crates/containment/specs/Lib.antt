@@ -5,3 +5,8 @@ pub mod Tree
 pub mod Parts
 pub mod Index
 pub mod Inside
+pub mod Filling
+pub mod Matrix
+pub mod Steps
+pub mod Stored
+pub mod Contents

@@ -3,9 +3,9 @@ use mathlib.Core.Bool.{Bool, true, false}
 use mathlib.Core.List.{List, [], _∷_, map}
 use Prim.Native.Nat.{ℕ, zero, suc, _+_, _*_}
 use lib.Dec.{eqb}
-use lib.ListN.{getD, take, drop}
+use lib.ListN.{take, drop}
 use Rattle.lists.specs.Tab.{tab}
-use Rattle.parentheses.specs.Bits.{num}
+use Rattle.parentheses.specs.Rank.{num}
 use Rattle.parentheses.specs.Forest as on
 use Rattle.parentheses.specs.Forest.{enc}
 use Rattle.containment.specs.Tree.{Visit, node, shadow, Forest, end, tree}
@@ -52,7 +52,7 @@ shadowList vs = map (place vs) (shadows vs)
 unfoldable pub placeList : ℕ → List Visit → List ℕ
 placeList n vs = tab (place vs) 0 n
 
--- ---- in lent parts: what is unused is zero
+-- ---- in lent bytes: what is unused is zero
 
 -- the bits as a number, the first at the lowest weight
 unfoldable pub value : List Bool → ℕ
@@ -62,7 +62,3 @@ value (b ∷ bs) = num b + 2 * value bs
 -- bits in `len` bytes: bit k is in byte k / 8 at weight 2 to the power k mod 8
 unfoldable pub packed : ℕ → List Bool → List ℕ
 packed len bs = tab (λ j. value (take 8 (drop (8 * j) bs))) 0 len
-
--- numbers in `len` numbers
-unfoldable pub padded : ℕ → List ℕ → List ℕ
-padded len xs = tab (λ i. getD xs i 0) 0 len

@@ -1,3 +1,9 @@
 pub mod Bits
-pub mod Forest
+pub mod Padded
+pub mod Rank
+pub mod Close
+pub mod Subtree
 pub mod Enclose
+pub mod Found
+pub mod Tables
+pub mod Forest

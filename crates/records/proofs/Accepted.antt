@@ -1,33 +1,31 @@
 -- What an accepted book and accepted claims are like. Assumes nothing.
-use Prim.Native.Nat.{ℕ, suc, max, _+_, _*_, _/_, _%_, _≤_, _<_}
+use Prim.Native.Nat.{ℕ, _*_, _%_, _≤_, _<_}
 use mathlib.Core.Path.{_≡_, refl, sym, ap, subst, _∙_}
-use mathlib.Core.Bool.{Bool, true, false, not, _||_, false≢true}
+use mathlib.Core.Bool.{Bool, true, false, false≢true}
 use mathlib.Core.List.{List, List·Memᴰ}
 use native.Mathlib.Omega.{arith}
-use lib.ListN.{length}
+use lib.ListN.{length, getD}
 use lib.Dec.{eqb, ltb, leb}
-use borrow.Author.Tests.{eqb-true, eqb-false, ltb-false, leb-false, leb-true, not-false}
-use Rattle.lists.proofs.Bools.{and-both, Known, is-true, is-false, known, not-true, right-or, left-or}
+use borrow.Author.Tests.{eqb-true, eqb-false, ltb-true, ltb-false, leb-false, leb-true, not-false}
+use Rattle.lists.proofs.Bools.{and-both, Known, is-true, is-false, known, not-true}
 use Rattle.lists.proofs.Anys.{below-hit}
 use Rattle.rules.specs.Fact.{Fact, PART, APART, MEETS, NOTPART, kind, left, right, factOf, Within, AllWithin}
 use Rattle.records.specs.declared.Record.{Record}
 use Rattle.records.specs.declared.Refusal.{Refusal}
 use Rattle.records.specs.declared.Finding.{Finding}
 use Rattle.records.specs.declared.Finding.the-variants.{Fit, Unfit}
-use Rattle.records.specs.declared.Claim.{Claim}
-use Rattle.records.specs.declared.Claim.the-variants.{Sound, Unsound}
-use Rattle.records.specs.declared.BookCheck.{BookCheck}
+use Rattle.records.specs.declared.Claim.the-variants.{Sound}
 use Rattle.records.specs.declared.BookCheck.the-variants as book
-use Rattle.records.specs.declared.ClaimsCheck.{ClaimsCheck}
 use Rattle.records.specs.declared.ClaimsCheck.the-variants as claims
 use Rattle.records.specs.Record.{recordAt, records}
-use Rattle.records.specs.Refusal.{row, judge, scan}
-use Rattle.records.specs.Pieces.{stated, largest, piecesUpTo, pieceCount}
-use Rattle.records.specs.Rows.{emptyBook, ragged, moreThan, sameBytes, repeatRow, claimRow, tagRow, beyondRow}
+use Rattle.records.specs.Refusal.{row, scan}
+use Rattle.records.specs.Pieces.{stated, largest, pieceCount}
+use Rattle.records.specs.Rows.{emptyBook, ragged, moreThan, sameBytes, repeatRow, claimRow, beyondRow}
 use Rattle.records.specs.Check.{bookLength, formFinding, recordFinding, recordsCheck, bookCheck, read, claimAt, claimFinding, claimsLength, claimsCheck}
 use Rattle.records.specs.Facts.{saying, facts}
 use Rattle.records.proofs.Rows.{Formed, formed, row-fit, both-largest}
 use Rattle.records.proofs.Scans.{judged, all-fit}
+use Rattle.records.proofs.Keys.{equal-bytes}
 use Rattle.records.proofs.Runs.{fact-from, pieces-positive, pieces-cover, pieces-least}
 
 -- What a record of kind 1 to 4 says: its kind and its pieces.
@@ -132,6 +130,19 @@ module _ {s : List ℕ} {p : ℕ} (b : AcceptedBook s p) where
 
   pub accepted-pieces : p ≤ 2048
   accepted-pieces = rw (b .count) (pieces-least s (records s) 2048 (omega arith) (λ i h. let f = b .each i h .named in omega arith))
+
+  -- records of different numbers differ
+  module _ (h : (k : ℕ) → getD s k 0 < 256) where
+    later : (i j : ℕ) → i < records s → j < i → recordAt s i ≡ recordAt s j → ⊥
+    later i j l k e = false≢true (sym (b .new i j l k) ∙ equal-bytes s i j h e)
+
+    pub accepted-once : (i j : ℕ) → i < records s → j < records s → recordAt s i ≡ recordAt s j → i ≡ j
+    accepted-once i j l k e = pick (known (ltb i j)) (known (ltb j i))
+      where
+        pick : Known (ltb i j) → Known (ltb j i) → i ≡ j
+        pick (is-true p) q = absurd (later j i k (ltb-true i j p) (sym e))
+        pick (is-false p) (is-true q) = absurd (later i j l (ltb-true j i q) e)
+        pick (is-false p) (is-false q) = omega (arith, ltb-false i j p, ltb-false j i q)
 
 -- An accepted list of claims on p pieces: each is read whole, and says something of those pieces.
 pub record AcceptedClaims (p : ℕ) (s : List ℕ) : Type 0 where

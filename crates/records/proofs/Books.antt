@@ -1,22 +1,18 @@
 -- The check of a book's records, record by record. Assumes nothing.
-use Prim.Native.Nat.{ℕ, suc, max, _+_, _-_, _/_, _%_, _≤_, _<_}
+use Prim.Native.Nat.{ℕ, max, _+_, _-_, _%_, _≤_, _<_}
 use mathlib.Core.Path.{_≡_, refl, sym, ap, _∙_}
-use mathlib.Core.Bool.{Bool, true, false}
+use mathlib.Core.Bool.{true, false}
 use mathlib.Core.List.{List}
 use native.Mathlib.Nat.{sub-zero, le-antisymm}
 use native.Mathlib.Numerals.{add-one}
-use native.Mathlib.Omega.{arith}
 use borrow.Author.Tests.{eq-eqb, ne-eqb, lt-ltb, le-ltb}
 use lib.ListN.{length}
-use lib.Dec.{eqb, ltb}
-use Rattle.records.specs.declared.Record.{Record}
 use Rattle.records.specs.declared.Refusal.{Refusal}
 use Rattle.records.specs.declared.Refusal.the-variants.{EmptyBook, BookLength, TooManyRecords, Repeat}
-use Rattle.records.specs.declared.Finding.{Finding}
 use Rattle.records.specs.declared.Finding.the-variants.{Fit, Unfit}
 use Rattle.records.specs.declared.BookCheck.the-variants.{Accepted, Refused}
 use Rattle.records.specs.Record.{recordAt, records}
-use Rattle.records.specs.Refusal.{row, judge, scan}
+use Rattle.records.specs.Refusal.{scan}
 use Rattle.records.specs.Pieces.{largest, piecesUpTo}
 use Rattle.records.specs.Rows.{repeatRow}
 use Rattle.records.specs.Check.{formFinding, recordFinding, recordsCheck, bookCheck}

@@ -1,22 +1,21 @@
 -- How a claim is read. Assumes nothing.
-use Prim.Native.Nat.{ℕ, _+_, _-_, _/_, _%_, _≤_, _<_}
-use mathlib.Core.Path.{_≡_, refl, sym, ap, _∙_}
-use mathlib.Core.Bool.{Bool, true, false, not, _||_}
+use Prim.Native.Nat.{ℕ, _+_, _-_, _%_, _≤_, _<_}
+use mathlib.Core.Path.{_≡_, sym, _∙_}
+use mathlib.Core.Bool.{Bool, true, false, not}
 use mathlib.Core.List.{List}
 use borrow.Author.Tests.{eq-eqb, ne-eqb, lt-ltb, le-ltb, le-leb, lt-leb}
 use native.Mathlib.Nat.{sub-zero}
 use lib.ListN.{length}
-use lib.Dec.{eqb, ltb, leb}
-use Rattle.lists.proofs.Bools.{Known, is-true, is-false, known, right-or}
+use Rattle.lists.proofs.Bools.{right-or}
 use Rattle.records.specs.declared.Record.{Record}
 use Rattle.records.specs.declared.Claim.the-variants.{Sound, Unsound}
 use Rattle.records.specs.declared.Refusal.the-variants.{ClaimsLength, TooManyClaims, ClaimFormat, ClaimPiece}
 use Rattle.records.specs.declared.Finding.{Finding}
 use Rattle.records.specs.declared.ClaimsCheck.the-variants.{Accepted, Refused}
-use Rattle.records.specs.Refusal.{row, judge, scan}
+use Rattle.records.specs.Refusal.{scan}
 use Rattle.records.specs.Record.{recordAt, records}
 use Rattle.records.specs.Pieces.{stated, largest}
-use Rattle.records.specs.Rows.{claimRow, tagRow}
+use Rattle.records.specs.Rows.{claimRow}
 use Rattle.records.specs.Check.{claimAt, read, claimFinding, claimsCheck}
 use Rattle.records.proofs.Scans.{scan-end, scan-pass, scan-stop}
 

@@ -1,7 +1,7 @@
 -- Two records are the same byte for byte just where their keys are equal. Assumes nothing.
-use Prim.Native.Nat.{ℕ, zero, suc, _+_, _*_, _<_, _≤_}
+use Prim.Native.Nat.{ℕ, zero, suc, _+_, _*_, _<_}
 use mathlib.Core.Path.{_≡_, refl, sym, ap, _∙_}
-use mathlib.Core.Bool.{Bool, true, false}
+use mathlib.Core.Bool.{true, false}
 use mathlib.Core.List.{List}
 use native.Mathlib.Nat.{add-zero}
 use native.Mathlib.Omega.{arith}
@@ -12,6 +12,8 @@ use lib.ListN.{length, getD, set}
 use lib.Seq.{getD-set-same, getD-set-other}
 use Rattle.lists.proofs.Bools.{and-both, both-and, not-true}
 use Rattle.lists.proofs.Anys.{below-find, below-hit}
+use Rattle.records.specs.declared.Record.{Record}
+use Rattle.records.specs.Record.{recordAt}
 use Rattle.records.specs.Rows.{sameBytes, repeatRow}
 use Rattle.records.specs.Key.{keyAt}
 
@@ -61,3 +63,16 @@ pub keyed-more :
     → (p : ℕ) → p < i + 1 → getD (set K i r) p 0 ≡ keyAt s (6 * p)
 keyed-more s K i r h e before =
     below-more (λ p. getD (set K i r) p 0 ≡ keyAt s (6 * p)) i (λ p l. getD-set-other K i p r 0 (λ q. omega arith) ∙ before p l) (getD-set-same K i r 0 h ∙ e)
+
+-- Equal records have equal bytes.
+low-high : (x y u v : ℕ) → x < 256 → u < 256 → x + 256 * y ≡ u + 256 * v → (x ≡ u) × (y ≡ v)
+low-high x y u v p q e = omega arith
+
+pub equal-bytes : (s : List ℕ) (i j : ℕ) → ((k : ℕ) → getD s k 0 < 256) → recordAt s i ≡ recordAt s j → sameBytes s (6 * i) (6 * j) 6 ≡ true
+unfolding recordAt
+equal-bytes s i j h e =
+    let k : getD s (6 * i) 0 ≡ getD s (6 * j) 0 = ap (λ (r : Record). r .kind) e in
+    let t : getD s (6 * i + 1) 0 ≡ getD s (6 * j + 1) 0 = ap (λ (r : Record). r .tag) e in
+    let a = low-high _ _ _ _ (h (6 * i + 2)) (h (6 * j + 2)) (ap (λ (r : Record). r .a) e) in
+    let b = low-high _ _ _ _ (h (6 * i + 4)) (h (6 * j + 4)) (ap (λ (r : Record). r .b) e) in
+    key-same s (6 * i) (6 * j) h (omega (arith, k, t, a, b))

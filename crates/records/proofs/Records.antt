@@ -1,9 +1,8 @@
 -- The record that is read from six bytes. Assumes nothing.
 use Prim.Native.Nat.{ℕ, _+_, _*_}
-use mathlib.Core.Path.{_≡_, refl}
+use mathlib.Core.Path.{_≡_}
 use mathlib.Core.List.{List}
 use lib.ListN.{getD}
-use Rattle.records.specs.declared.Record.{Record}
 use Rattle.records.specs.Record.{recordAt}
 
 pub read-record :

@@ -4,7 +4,6 @@ use Prim.Native.Nat.{ℕ}
 use mathlib.Core.Bool.{Bool, true, false}
 use mathlib.Core.List.{List}
 use Rattle.records.specs.declared.Record.{Record}
-use Rattle.records.specs.declared.Refusal.{Refusal}
 use Rattle.records.specs.declared.Refusal.the-variants.{EmptyBook, BookLength, TooManyRecords, Kind, Tag, PieceNumber, Order, Repeat, ClaimsLength, TooManyClaims, ClaimFormat, ClaimPiece}
 use Rattle.records.specs.declared.Finding.{Finding}
 use Rattle.records.specs.declared.Finding.the-variants.{Fit, Unfit}

@@ -1,6 +1,6 @@
 -- The facts of a run of records, one entry a record (TRAY brings none), and a claim as a fact. Assumes nothing.
 use Prim.Native.Nat.{ℕ}
-use mathlib.Core.Bool.{Bool, true, false}
+use mathlib.Core.Bool.{true, false}
 use mathlib.Core.List.{List}
 use Rattle.lists.specs.Tab.{tab}
 use Rattle.rules.specs.Fact.{Fact, factOf}

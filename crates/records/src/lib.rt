@@ -165,6 +165,12 @@ fn key_at(s: &[u8], i: usize) -> u64
     ((high * 256 + wide64(s[at + 2])) * 256 + wide64(s[at + 1])) * 256 + wide64(s[at])
 }
 
+fn larger_of(x: usize, y: usize) -> usize
+    ensures { λ r. ⌜ r ≡ max x y ⌝ }
+{
+    if x < y { y } else { x }
+}
+
 // Rows 5 to 9: the first refusal, record by record, or the piece count.
 fn check_records(book: &[u8], n: usize) -> BookCheck
     requires { ⌜ (n ≤ 8192) × (6 * n ≤ length (now book)) ⌝ }
@@ -183,6 +189,7 @@ fn check_records(book: &[u8], n: usize) -> BookCheck
             break 'records BookCheck::Refused(refusal, i);
         }
         let key = key_at(book, i);
+        keys[i] = key;
         let mut j: usize = 0;
         while j < i {
             if keys[j] == key {
@@ -190,16 +197,9 @@ fn check_records(book: &[u8], n: usize) -> BookCheck
             }
             j += 1;
         }
-        keys[i] = key;
         pieces = larger_of(pieces, largest_named(record) + 1);
         i += 1;
     }
-}
-
-fn larger_of(x: usize, y: usize) -> usize
-    ensures { λ r. ⌜ r ≡ max x y ⌝ }
-{
-    if x < y { y } else { x }
 }
 
 // Rows 2 to 9 of a book.

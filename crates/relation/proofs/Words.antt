@@ -8,7 +8,7 @@ use native.Mathlib.Decide.{decLt, ℕ-discrete}
 use native.Mathlib.Omega.{arith}
 use lib.Bits.{bitAnd, bitOr, and-le-l}
 use lib.Count.{trailingZeros}
-use lib.ListN.{length, getD, set}
+use lib.ListN.{length, length-set, getD, set}
 use lib.Seq.{getD-set-same, getD-set-other}
 use borrow.Author.Count.{below-more}
 use Rattle.lists.proofs.Bools.{not-true}
@@ -37,6 +37,14 @@ joined-more m m′ n a b i x y h ex ey J =
       below = λ w l. getD-set-other m′ (a + i) w (bitOr x y) 0 (λ e. omega arith) ∙ J .below w l;
       above = λ w l. getD-set-other m′ (a + i) w (bitOr x y) 0 (λ e. omega arith) ∙ J .above w (omega arith);
     }
+
+-- two words, both read before either is written
+pub joined-pair :
+    (m m′ n : List ℕ) (a b i x y x′ y′ : ℕ) → a + (i + 1) < length m′ → x ≡ getD m (a + i) 0 → y ≡ getD n (b + i) 0 → x′ ≡ getD m (a + (i + 1)) 0
+    → y′ ≡ getD n (b + (i + 1)) 0 → Joined m m′ n a b i → Joined m (set (set m′ (a + i) (bitOr x y)) (a + (i + 1)) (bitOr x′ y′)) n a b (i + 2)
+joined-pair m m′ n a b i x y x′ y′ h ex ey ex′ ey′ J =
+    let e : i + 1 + 1 ≡ i + 2 = omega arith in
+    rw e at (joined-more _ _ _ _ _ _ _ _ (simp length-set (omega arith)) ex′ ey′ (joined-more _ _ _ _ _ _ _ _ (omega arith) ex ey J))
 
 -- a whole row
 pub united : (m m′ n : List ℕ) (d s : ℕ) → Joined m m′ n (d * 32) (s * 32) 32 → United m m′ d n s

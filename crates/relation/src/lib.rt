@@ -3,6 +3,8 @@ ghost use mathlib.Core.Path.{_≡_};
 ghost use Prim.Native.Nat.{ℕ, _+_, _-_, _*_, _<_, _≤_};
 ghost use lib.ListN.{length, replicate};
 ghost use Rattle.lists.specs.First.{first};
+ghost use mathlib.Core.Bool.{Bool, false};
+ghost use Rattle.relation.specs.Flow.{Rising, Pushed, Reached, Carried, along, against};
 ghost use Rattle.relation.specs.Matrix.{bitOf, common, Inserted, United, Gathered, Columned, Multiplied, Transposed};
 
 // Whether bit i of row r is set.
@@ -22,7 +24,7 @@ pub fn insert(m: &mut [u64], r: usize, i: usize)
     m[w] = m[w] | (1 << (i % 64));
 }
 
-// Puts row s of src into row d of dst.
+// Puts row s of src into row d of dst. Two words a turn, both read before either is written: such a pair is one vector.
 pub fn union_row(dst: &mut [u64], d: usize, src: &[u64], s: usize)
     requires { ⌜ (length (now dst) ≡ 65536) × (length (now src) ≡ 65536) × (d < 2048) × (s < 2048) ⌝ }
     ensures { λ _. ⌜ United (now (dst .entry)) (now (dst .exit)) d (now (src .entry)) s ⌝ }
@@ -31,8 +33,12 @@ pub fn union_row(dst: &mut [u64], d: usize, src: &[u64], s: usize)
     let b = s * 32;
     let mut i: usize = 0;
     while i < 32 {
-        dst[a + i] = dst[a + i] | src[b + i];
-        i += 1;
+        let j = i + 1;
+        let x = dst[a + i] | src[b + i];
+        let y = dst[a + j] | src[b + j];
+        dst[a + i] = x;
+        dst[a + j] = y;
+        i += 2;
     }
 }
 
@@ -164,5 +170,62 @@ pub fn transpose(dst: &mut [u64], src: &[u64], n: usize)
     while r < n {
         union_column(dst, r, src, r);
         r += 1;
+    }
+}
+
+// Puts into row h of m the rows to which edges lead from h.
+fn pull(e: &[u64], h: usize, m: &mut [u64])
+    requires { ⌜ (length (now e) ≡ 65536) × (length (now m) ≡ 65536) × (h < 2048) × (bitOf (now e) h h ≡ false) ⌝ }
+    ensures { λ _. ⌜ Gathered (now (m .entry)) (now (m .exit)) (now (e .entry)) h (now (m .entry)) ⌝ }
+{
+    let mut from: usize = 0;
+    while from < 2048 {
+        let p = next_bit(e, h, from);
+        if 2048 <= p {
+            return;
+        }
+        union_within(m, h, p);
+        from = p + 1;
+    }
+}
+
+// Puts row h of m into the rows to which edges lead from h.
+fn push(e: &[u64], h: usize, m: &mut [u64])
+    requires { ⌜ (length (now e) ≡ 65536) × (length (now m) ≡ 65536) × (h < 2048) × (bitOf (now e) h h ≡ false) ⌝ }
+    ensures { λ _. ⌜ Pushed (now (e .entry)) (now (m .entry)) (now (m .exit)) h ⌝ }
+{
+    let mut from: usize = 0;
+    while from < 2048 {
+        let p = next_bit(e, h, from);
+        if 2048 <= p {
+            return;
+        }
+        union_within(m, p, h);
+        from = p + 1;
+    }
+}
+
+// Each row below n becomes the union of the rows that it reaches along the edges. Edges rise, so the rows are taken from the last
+// to the first, and each is whole when it is used.
+pub fn join_along(e: &[u64], n: usize, m: &mut [u64])
+    requires { ⌜ (length (now e) ≡ 65536) × (length (now m) ≡ 65536) × (n ≤ 2048) × Rising (now e) n ⌝ }
+    ensures { λ _. ⌜ ((r : ℕ → ℕ → Bool) → Reached (along (now (e .entry))) n r → Carried r n (now (m .entry)) (now (m .exit))) ⌝ }
+{
+    let mut h = n;
+    while 0 < h {
+        h -= 1;
+        pull(e, h, m);
+    }
+}
+
+// Each row below n becomes the union of the rows that it reaches against the edges.
+pub fn join_against(e: &[u64], n: usize, m: &mut [u64])
+    requires { ⌜ (length (now e) ≡ 65536) × (length (now m) ≡ 65536) × (n ≤ 2048) × Rising (now e) n ⌝ }
+    ensures { λ _. ⌜ ((r : ℕ → ℕ → Bool) → Reached (against (now (e .entry))) n r → Carried r n (now (m .entry)) (now (m .exit))) ⌝ }
+{
+    let mut h: usize = 0;
+    while h < n {
+        push(e, h, m);
+        h += 1;
     }
 }

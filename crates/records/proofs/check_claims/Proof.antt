@@ -1,9 +1,8 @@
 -- `records::check_claims` meets its contract: the loop keeps what is left of the scan. Assumes nothing.
 use borrow.Author.Needs.{needs}
 use native.Mathlib.Omega.{arith}
-use mathlib.Core.Path.{_≡_, sym, ap, _∙_}
-use Prim.Native.Nat.{ℕ, _≤_, _<_, _-_}
-use Rattle.records.specs.Pieces.{largest}
+use mathlib.Core.Path.{sym, _∙_}
+use Prim.Native.Nat.{_≤_, _-_}
 use Rattle.records.proofs.Claims.{uneven-claims, too-many-claims, first-claim, ClaimsLeft, accepts-claims, refuses-form, refuses-piece, next-claim}
 use Rattle.records.proofs.check_claims.Statement.{statement}
 use Rattle.records.proofs.check_claims.Tie as tie

@@ -1,11 +1,10 @@
 -- `records::check_records` meets its contract: the outer loop keeps what is left of the scan, the keys of the records passed and their piece count;
 -- the inner loop keeps that no earlier key passed is the key at hand. Assumes nothing.
 use Rattle.records.specs.Pieces.{piecesUpTo, largest}
-use mathlib.Core.Path.{_≡_, refl, sym, ap, ap₂, _∙_}
+use mathlib.Core.Path.{_≡_, sym, ap, ap₂, _∙_}
 use Prim.Native.Nat.{ℕ, max, _≤_, _<_, _-_, _+_, _*_}
 use Rattle.records.specs.declared.Finding.the-variants.{Fit}
 use Rattle.records.specs.Check.{formFinding}
-use Rattle.records.specs.Rows.{repeatRow}
 use Rattle.records.proofs.Rows.{formed}
 use borrow.Author.Needs.{needs}
 use borrow.Author.Count.{below-more, below-none}
@@ -39,6 +38,16 @@ fit c =
     let f = c .before .before .before .before in
     sym (ap formFinding (f .before .record-at .ensures)) ∙ sym (f .check-form .ensures) ∙ c .before .before .enum-told .given .1
 
+-- its key stands with those of the earlier ones
+keyed :
+    (c : tie.At-loop Inv-loop μ-loop Inv-records μ-records)
+    → (p : ℕ) → p < c .before .before .before .before .before .before .before .records .i + 1
+    → getD (set (c .before .before .before .before .before .before .before .records .keys) (c .before .before .before .before .before .before .before .records .i) (c .before .key-at .result)) p 0
+    ≡ keyAt (c .before .before .before .before .before .before .before .before .before .args .book .now) (6 * p)
+keyed c =
+    let o = c .before .before .before .before .before .before .before in
+    keyed-more (o .before .before .args .book .now) (o .records .keys) (o .records .i) _ (omega arith) (c .before .key-at .ensures) (o .records .inv .3)
+
 -- the largest number that it names
 named :
     (c : tie.After-largest-named Inv-loop μ-loop Inv-records μ-records)
@@ -63,6 +72,12 @@ enum-told c = search needs
 key-at-requires : tie.Need-key-at-requires Inv-loop μ-loop Inv-records μ-records
 key-at-requires c κs = search needs
 
+mul-keys : tie.Need-mul-keys Inv-loop μ-loop Inv-records μ-records
+mul-keys c = search needs
+
+array-write-keys : tie.Need-array-write-keys Inv-loop μ-loop Inv-records μ-records
+array-write-keys c = search needs
+
 loop-holds : tie.Need-loop-holds Inv-loop μ-loop Inv-records μ-records
 loop-holds c = (search needs, below-none _)
 
@@ -80,12 +95,6 @@ loop-less c = omega arith
 
 loop-again : tie.Need-loop-again Inv-loop μ-loop Inv-records μ-records
 loop-again c = (search needs, below-more _ _ (c .before .before .loop .inv .1) (c .if2 .left))
-
-mul-keys : tie.Need-mul-keys Inv-loop μ-loop Inv-records μ-records
-mul-keys c = search needs
-
-array-write-keys : tie.Need-array-write-keys Inv-loop μ-loop Inv-records μ-records
-array-write-keys c = search needs
 
 largest-named-requires : tie.Need-largest-named-requires Inv-loop μ-loop Inv-records μ-records
 largest-named-requires c κs = search needs
@@ -109,9 +118,9 @@ records-again c =
       search needs,
       simp length-set (omega arith),
       c .larger-of .ensures ∙ ap₂ (λ (x y : ℕ). max x (y + 1)) (o .records .inv .2) (named (c .before)) ∙ sym (pieces-more _ _),
-      keyed-more (o .before .before .args .book .now) (o .records .keys) (o .records .i) _ (omega arith) (l .before .key-at .ensures) (o .records .inv .3),
+      keyed l,
       goes-on _ _ _ (o .records .inv .4) (omega arith)
-          (form-new _ _ (fit l) (new _ _ (λ j h e. l .loop .inv .1 j (omega arith) (o .records .inv .3 j h ∙ e ∙ sym (l .before .key-at .ensures))))),
+          (form-new _ _ (fit l) (new _ _ (λ j h e. l .loop .inv .1 j (omega arith) (keyed l j (omega arith) ∙ e ∙ sym (l .before .key-at .ensures))))),
     )
 
 returns : tie.Need-returns Inv-loop μ-loop Inv-records μ-records
@@ -130,7 +139,7 @@ returns-3 c =
     refuses _ _ (o .records .i) (o .records .inv .4) (omega arith)
     (form-repeats _ _ (fit l)
     (repeated _ _ (λ k. o .before .shared-slice-known .given k .fits) (l .loop .j) (omega arith)
-    (sym (l .before .key-at .ensures) ∙ sym (c .if2 .taken) ∙ o .records .inv .3 (l .loop .j) (omega arith))))
+    (sym (l .before .key-at .ensures) ∙ sym (c .if2 .taken) ∙ keyed l (l .loop .j) (omega arith))))
 
 pub check-records-spec : {M : Type 1} → statement M
 check-records-spec =
@@ -146,14 +155,14 @@ check-records-spec =
     enum-known-form
     enum-told
     key-at-requires
+    mul-keys
+    array-write-keys
     loop-holds
     mul-if2
     array-read-if2
     add-j
     loop-less
     loop-again
-    mul-keys
-    array-write-keys
     largest-named-requires
     add-larger-of
     larger-of-requires

@@ -1,8 +1,5 @@
 -- `records::record_at` meets its contract: the six bytes that were read are those of `recordAt`. Assumes nothing.
 use Rattle.records.proofs.Records.{read-record}
-use native.Mathlib.Omega.{arith}
-use Rattle.records.specs.Record.{recordAt}
-use mathlib.Core.Path.{_≡_, ap}
 use borrow.Author.Needs.{needs}
 use Rattle.records.proofs.record_at.Statement.{statement}
 use Rattle.records.proofs.record_at.Tie as tie

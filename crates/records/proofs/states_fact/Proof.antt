@@ -1,8 +1,6 @@
 -- `records::states_fact` meets its contract: `stated` computes on each way out. Assumes nothing.
-use borrow.Author.Tests.{le-leb, lt-leb, lt-ltb, le-ltb, eq-eqb, ne-eqb}
-use Rattle.records.specs.Pieces.{stated, largest}
-use mathlib.Core.Path.{_≡_, refl, sym, ap, _∙_}
-use native.Mathlib.Omega.{arith}
+use borrow.Author.Tests.{le-leb, lt-leb}
+use Rattle.records.specs.Pieces.{stated}
 use Rattle.records.proofs.states_fact.Statement.{statement}
 use Rattle.records.proofs.states_fact.Tie as tie
 

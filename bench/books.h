@@ -1,0 +1,149 @@
+/* Books of chosen shapes for the measures of the whole call, always the same ones. */
+#ifndef BOOKS_H
+#define BOOKS_H
+
+#include <stdint.h>
+#include <string.h>
+
+enum { PART = 1, APART, MEETS, NOTPART, TRAY };
+enum shape { TREE, DEEP, LADDER, DENSE };
+
+typedef struct {
+    unsigned records, claims;
+    uint8_t book[8192 * 6], asked[4096 * 6];
+} sample;
+
+/* splitmix64 */
+static uint64_t random_state;
+
+static unsigned below(unsigned end)
+{
+    uint64_t z = random_state += 0x9e3779b97f4a7c15;
+    z = (z ^ z >> 30) * 0xbf58476d1ce4e5b9;
+    z = (z ^ z >> 27) * 0x94d049bb133111eb;
+    return (z ^ z >> 31) % end;
+}
+
+static void write_record(uint8_t *at, unsigned kind, unsigned a, unsigned b)
+{
+    uint8_t bytes[6] = {kind, 0, a, a >> 8, b, b >> 8};
+    memcpy(at, bytes, 6);
+}
+
+/* Adds a record that is not there yet. */
+static void add(sample *s, unsigned kind, unsigned a, unsigned b)
+{
+    uint8_t *next = s->book + s->records * 6;
+    write_record(next, kind, a, b);
+    for (uint8_t *at = s->book; at < next; at += 6)
+        if (memcmp(at, next, 6) == 0)
+            return;
+    s->records++;
+}
+
+static void add_containers(sample *s, enum shape shape, unsigned part)
+{
+    switch (shape) {
+    case TREE: /* three parts a container, one part in ten in two */
+        add(s, PART, part, (part - 1) / 3);
+        if (below(10) == 0)
+            add(s, PART, part, below(part));
+        break;
+    case DEEP: /* one chain */
+        add(s, PART, part, part - 1);
+        break;
+    case LADDER: /* two pieces a level, each in both of the level above */
+        for (unsigned above = (part - 1) / 2 * 2, i = 0; i < 2; i++)
+            add(s, PART, part, above == 0 ? 0 : above - i);
+        break;
+    case DENSE: /* up to three of the sixty pieces before */
+        for (unsigned i = 0; i < 3; i++)
+            add(s, PART, part, part - 1 - below(part < 60 ? part : 60));
+        break;
+    }
+}
+
+enum { GRAINS = 512 / 64 };
+static uint64_t ice[2048][GRAINS];
+
+/* A laying of the PART records: each piece gets a grain or two, and all that its parts have. */
+static void lay(const sample *s, unsigned pieces)
+{
+    static uint16_t container[8192], next[8192], first[2048];
+    memset(ice, 0, sizeof ice);
+    memset(first, 0xff, sizeof first);
+    for (unsigned i = 0; i < s->records; i++) {
+        const uint8_t *r = s->book + i * 6;
+        unsigned part = r[2] | r[3] << 8;
+        container[i] = r[4] | r[5] << 8;
+        next[i] = first[part];
+        first[part] = i;
+    }
+    for (unsigned p = 0; p < pieces; p++)
+        for (unsigned i = 0; i < 2; i++) {
+            unsigned grain = below(512);
+            ice[p][grain / 64] |= (uint64_t)1 << grain % 64;
+        }
+    for (unsigned p = pieces; p-- > 1;)
+        for (unsigned i = first[p], c = 0;; i = next[i], c = 0) {
+            c = i == 0xffff ? 0 : container[i];
+            for (unsigned w = 0; w < GRAINS; w++)
+                ice[c][w] |= ice[p][w];
+            if (i == 0xffff)
+                break;
+        }
+}
+
+static int keeps(unsigned kind, unsigned a, unsigned b)
+{
+    uint64_t common = 0, outside = 0;
+    for (unsigned w = 0; w < GRAINS; w++) {
+        common |= ice[a][w] & ice[b][w];
+        outside |= ice[a][w] & ~ice[b][w];
+    }
+    return kind == APART ? common == 0 : kind == MEETS ? common != 0 : outside != 0;
+}
+
+/* A book that is accepted: containment of the given shape, then facts that one laying keeps, then as many TRAY records as are needed. */
+static void make_sample(sample *s, enum shape shape, unsigned pieces, unsigned records, unsigned claims)
+{
+    random_state = shape;
+    s->records = 0;
+    for (unsigned part = 1; part < pieces; part++)
+        add_containers(s, shape, part);
+    lay(s, pieces);
+    for (unsigned i = 0; i < 2 * records && s->records < records - records / 8; i++) {
+        unsigned kind = APART + below(3), a = below(pieces), b = below(pieces);
+        if (keeps(kind, a, b))
+            add(s, kind, a, b);
+    }
+    while (s->records < records)
+        add(s, TRAY, below(pieces), below(65536));
+    s->claims = claims;
+    for (unsigned i = 0; i < claims; i++)
+        write_record(s->asked + i * 6, PART + below(4), below(pieces), below(pieces));
+}
+
+static void shuffle(sample *s)
+{
+    for (unsigned i = s->records - 1; i > 0; i--) {
+        uint8_t *x = s->book + i * 6, *y = s->book + below(i + 1) * 6, bytes[6];
+        memcpy(bytes, x, 6);
+        memcpy(x, y, 6);
+        memcpy(y, bytes, 6);
+    }
+}
+
+/* Makes the last record an APART of a part and its container. The PART records stand first, so that each shorter run is nearly as deep. */
+static void contradict_late(sample *s)
+{
+    for (unsigned i = 0; i < s->records - 1; i++) {
+        uint8_t *r = s->book + i * 6;
+        if (r[0] == PART && (r[4] | r[5]) != 0) {
+            write_record(s->book + (s->records - 1) * 6, APART, r[2] | r[3] << 8, r[4] | r[5] << 8);
+            return;
+        }
+    }
+}
+
+#endif

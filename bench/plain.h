@@ -1,0 +1,16 @@
+/* The same two calls in plain C: the yardstick of bench/whole.c, and a second implementation for tests/reference to be tried on. */
+#ifndef PLAIN_H
+#define PLAIN_H
+
+#include "../include/piecebook.h"
+
+piecebook_result plain_answer(const uint8_t *book, size_t book_length, const uint8_t *claims, size_t claims_length,
+                              uint8_t *parentheses, size_t parentheses_length, uint8_t *marks, size_t marks_length,
+                              uint16_t *shadows, size_t shadows_length, uint16_t *places, size_t places_length,
+                              uint8_t *answers, size_t answers_length);
+
+piecebook_result plain_index(const uint8_t *book, size_t book_length,
+                             uint8_t *parentheses, size_t parentheses_length, uint8_t *marks, size_t marks_length,
+                             uint16_t *shadows, size_t shadows_length, uint16_t *places, size_t places_length);
+
+#endif

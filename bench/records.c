@@ -1,0 +1,84 @@
+// Rows 2 to 9 at 8,192 records, most of it row 9: our function beside the same check in plain C, on the same book.
+#include <stdint.h>
+#include <stdio.h>
+#include <stdlib.h>
+#include <string.h>
+#include <time.h>
+
+#define RECORDS 8192
+uint8_t records_check_book(const uint8_t *, size_t);
+
+static uint8_t book[RECORDS * 6];
+
+static double now(void) {
+  struct timespec t;
+  clock_gettime(CLOCK_MONOTONIC, &t);
+  return t.tv_sec * 1e9 + t.tv_nsec;
+}
+
+// the records packed into keys once, each compared with the earlier ones, left at the first refusal
+__attribute__((noinline)) static int c_check_book(const uint8_t *s, size_t length) {
+  static uint64_t keys[RECORDS];
+  if (length == 0) return 2;
+  if (length % 6) return 3;
+  size_t n = length / 6;
+  if (RECORDS < n) return 4;
+  size_t pieces = 1;
+  for (size_t i = 0; i < n; i++) {
+    const uint8_t *r = s + 6 * i;
+    size_t a = r[2] + 256 * r[3], b = r[4] + 256 * r[5];
+    int stated = 1 <= r[0] && r[0] <= 4;
+    size_t largest = stated && a < b ? b : a;
+    if (r[0] < 1 || 5 < r[0]) return 5;
+    if (r[1]) return 6;
+    if (2047 < largest) return 7;
+    if (r[0] == 1 && a <= b) return 8;
+    uint64_t key = 0;
+    memcpy(&key, r, 6);
+    keys[i] = key;
+    for (size_t j = 0; j < i; j++)
+      if (keys[j] == key) return 9;
+    if (pieces < largest + 1) pieces = largest + 1;
+  }
+  return pieces ? 0 : 1;
+}
+
+static void put(size_t i, int kind, unsigned a, unsigned b) {
+  uint8_t r[6] = {kind, 0, a % 256, a / 256, b % 256, b / 256};
+  memcpy(book + 6 * i, r, 6);
+}
+
+static int order(const void *x, const void *y) {
+  double a = *(const double *)x, b = *(const double *)y;
+  return (a > b) - (a < b);
+}
+
+// the median of 11 runs of each, one after the other
+static void compare(const char *what) {
+  double ours[11], theirs[11];
+  for (int k = 0; k < 11; k++) {
+    double t0 = now();
+    int x = records_check_book(book, sizeof book);
+    double t1 = now();
+    int y = c_check_book(book, sizeof book);
+    double t2 = now();
+    if (x != y) {
+      printf("records %s: ours says %d, C %d\n", what, x, y);
+      exit(1);
+    }
+    ours[k] = t1 - t0;
+    theirs[k] = t2 - t1;
+  }
+  qsort(ours, 11, sizeof *ours, order);
+  qsort(theirs, 11, sizeof *theirs, order);
+  printf("records %s: ours %.0f ns, C %.0f ns, ratio %.2f\n", what, ours[5], theirs[5], ours[5] / theirs[5]);
+}
+
+int main(void) {
+  for (size_t i = 0; i < RECORDS; i++) put(i, 5, i % 2048, i);
+  compare("rows 2 to 9, 8192 TRAY records");
+  for (size_t i = 0; i < RECORDS; i++) put(i, 2 + i / 4096, i % 2048, i / 2048);
+  compare("rows 2 to 9, 8192 APART and MEETS records");
+  put(RECORDS - 1, 2, 0, 0);
+  compare("rows 2 to 9, the last record repeats the first");
+}

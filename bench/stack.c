@@ -1,0 +1,105 @@
+/* The peak stack of the whole call: the smallest stack of a thread on which it comes to its end, found by halving. Each try is a process of its
+   own, since one that is too small ends it. What a thread needs for a call that does nothing is taken off. */
+#define _DEFAULT_SOURCE
+#include "books.h"
+#include "../include/piecebook.h"
+
+#include <pthread.h>
+#include <stdio.h>
+#include <stdlib.h>
+#include <sys/mman.h>
+#include <sys/resource.h>
+#include <sys/wait.h>
+#include <unistd.h>
+
+enum { PAGE = 4096, MOST = 16 << 20 };
+
+static sample s;
+static uint8_t parentheses[PIECEBOOK_PARENTHESES], marks[PIECEBOOK_MARKS], answers[4096];
+static uint16_t shadows[PIECEBOOK_SHADOWS], places[PIECEBOOK_PLACES];
+
+static void *nothing(void *unused)
+{
+    return unused;
+}
+
+static void *whole(void *unused)
+{
+    piecebook_answer(s.book, s.records * 6, s.asked, s.claims * 6, parentheses, sizeof parentheses, marks, sizeof marks, shadows,
+                     PIECEBOOK_SHADOWS, places, PIECEBOOK_PLACES, answers, sizeof answers);
+    return unused;
+}
+
+/* In the new process: runs f on a stack of the given size, below which no page can be touched. */
+static void on_stack(void *f(void *), size_t size)
+{
+    struct rlimit none = {0, 0};
+    setrlimit(RLIMIT_CORE, &none);
+    size_t guard = MOST;
+    char *room = mmap(NULL, guard + size, PROT_NONE, MAP_PRIVATE | MAP_ANONYMOUS | MAP_NORESERVE, -1, 0);
+    if (room == MAP_FAILED || mprotect(room + guard, size, PROT_READ | PROT_WRITE) != 0)
+        _exit(2);
+    pthread_attr_t attributes;
+    pthread_t thread;
+    pthread_attr_init(&attributes);
+    if (pthread_attr_setstack(&attributes, room + guard, size) != 0 || pthread_create(&thread, &attributes, f, NULL) != 0)
+        _exit(2);
+    pthread_join(thread, NULL);
+    _exit(0);
+}
+
+static int enough(void *f(void *), size_t size)
+{
+    pid_t child = fork();
+    if (child == 0)
+        on_stack(f, size);
+    int status;
+    if (child < 0 || waitpid(child, &status, 0) < 0 || (WIFEXITED(status) && WEXITSTATUS(status) == 2)) {
+        printf("stack: no process or thread to try on\n");
+        exit(1);
+    }
+    return WIFEXITED(status);
+}
+
+/* In bytes; the smallest stack that a thread may have is 16 KiB. */
+static size_t smallest(void *f(void *))
+{
+    size_t small = 4 * PAGE, large = MOST;
+    if (enough(f, small))
+        return small;
+    if (!enough(f, large)) {
+        printf("stack: more than %d KiB\n", MOST >> 10);
+        exit(1);
+    }
+    while (large - small > PAGE) {
+        size_t middle = small + (large - small) / 2 / PAGE * PAGE;
+        if (enough(f, middle))
+            large = middle;
+        else
+            small = middle;
+    }
+    return large;
+}
+
+static void measure(const char *name)
+{
+    static size_t least;
+    if (least == 0)
+        least = smallest(nothing);
+    printf("stack %s: %zu KiB\n", name, (smallest(whole) - least) >> 10);
+    fflush(stdout);
+}
+
+int main(void)
+{
+    make_sample(&s, DEEP, 2048, 8192, 4096);
+    shuffle(&s);
+    measure("deep");
+    make_sample(&s, LADDER, 2048, 8192, 4096);
+    shuffle(&s);
+    measure("ladder");
+    make_sample(&s, DEEP, 2048, 8192, 4096);
+    contradict_late(&s);
+    measure("deep, contradictory");
+    return 0;
+}

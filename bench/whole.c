@@ -1,0 +1,89 @@
+/* The whole call of the library beside the same algorithm in plain C, on the same books. Times are the processor's. */
+#define _POSIX_C_SOURCE 199309L
+#include "books.h"
+#include "plain.h"
+
+#include <stdio.h>
+#include <stdlib.h>
+#include <time.h>
+
+enum { MOST = 101 };
+
+typedef struct {
+    uint8_t parentheses[PIECEBOOK_PARENTHESES], marks[PIECEBOOK_MARKS];
+    uint16_t shadows[PIECEBOOK_SHADOWS], places[PIECEBOOK_PLACES];
+    uint8_t answers[4096];
+    piecebook_result result;
+} written;
+
+typedef piecebook_result call(const uint8_t *, size_t, const uint8_t *, size_t, uint8_t *, size_t, uint8_t *, size_t, uint16_t *, size_t,
+                              uint16_t *, size_t, uint8_t *, size_t);
+
+static double once(call *f, const sample *s, written *w)
+{
+    struct timespec start, end;
+    clock_gettime(CLOCK_PROCESS_CPUTIME_ID, &start);
+    w->result = f(s->book, s->records * 6, s->asked, s->claims * 6, w->parentheses, PIECEBOOK_PARENTHESES, w->marks, PIECEBOOK_MARKS,
+                  w->shadows, PIECEBOOK_SHADOWS, w->places, PIECEBOOK_PLACES, w->answers, sizeof w->answers);
+    clock_gettime(CLOCK_PROCESS_CPUTIME_ID, &end);
+    return (end.tv_sec - start.tv_sec) * 1e6 + (end.tv_nsec - start.tv_nsec) / 1e3;
+}
+
+static int rising(const void *x, const void *y)
+{
+    double a = *(const double *)x, b = *(const double *)y;
+    return (a > b) - (a < b);
+}
+
+static double median(double *times, unsigned runs)
+{
+    qsort(times, runs, sizeof *times, rising);
+    return times[runs / 2];
+}
+
+static int same(const written *x, const written *y)
+{
+    return memcmp(x->parentheses, y->parentheses, sizeof x->parentheses) == 0 && memcmp(x->marks, y->marks, sizeof x->marks) == 0 &&
+           memcmp(x->shadows, y->shadows, sizeof x->shadows) == 0 && memcmp(x->places, y->places, sizeof x->places) == 0 &&
+           memcmp(x->answers, y->answers, sizeof x->answers) == 0 && memcmp(&x->result, &y->result, sizeof x->result) == 0;
+}
+
+/* Both take turns, so that whatever else the machine does falls on both. The number is what the book was made to get. */
+static void measure(const char *name, const sample *s, unsigned runs, unsigned number)
+{
+    static written ours, theirs;
+    double our_times[MOST], their_times[MOST];
+    memset(&ours, 0, sizeof ours);
+    memset(&theirs, 0, sizeof theirs);
+    for (unsigned i = 0; i < runs; i++) {
+        our_times[i] = once(piecebook_answer, s, &ours);
+        their_times[i] = once(plain_answer, s, &theirs);
+    }
+    if (!same(&ours, &theirs) || ours.result.number != number) {
+        printf("whole %s: the two differ, or the number is not %u\n", name, number);
+        exit(1);
+    }
+    double x = median(our_times, runs), y = median(their_times, runs);
+    printf("whole %s: ours %.0f us, C %.0f us, ratio %.2f\n", name, x, y, x / y);
+    fflush(stdout);
+}
+
+int main(void)
+{
+    static const char *accepted[] = {"tree-like", "deep", "ladder", "dense"};
+    static const char *contradictory[] = {"tree-like, contradictory", "deep, contradictory", "ladder, contradictory", "dense, contradictory"};
+    static sample s;
+    for (unsigned shape = TREE; shape <= DENSE; shape++) {
+        make_sample(&s, shape, 2048, 8192, 4096);
+        shuffle(&s);
+        measure(accepted[shape], &s, 11, 0);
+    }
+    for (unsigned shape = TREE; shape <= DENSE; shape++) {
+        make_sample(&s, shape, 2048, 8192, 4096);
+        contradict_late(&s);
+        measure(contradictory[shape], &s, 3, 14);
+    }
+    make_sample(&s, TREE, 40, 100, 100);
+    measure("small", &s, MOST, 0);
+    return 0;
+}

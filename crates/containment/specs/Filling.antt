@@ -1,0 +1,63 @@
+-- The rows of what each piece contains, while they are being filled: a row whose own bit is set is whole, and any other is empty.
+-- Assumes nothing.
+use mathlib.Core.Path.{_≡_}
+use mathlib.Core.Logic.{_↔_}
+use mathlib.Core.Bool.{Bool, true, false}
+use mathlib.Core.List.{List, _++_}
+use Prim.Native.Nat.{ℕ, _≤_, _<_}
+use lib.ListN.{length, getD}
+use Rattle.parentheses.specs.Subtree.{after}
+use Rattle.relation.specs.Matrix.{bitOf}
+use Rattle.containment.specs.Pairs.{Book, Within}
+use Rattle.containment.specs.Tree.{Visit, node, shadow, whole, visits}
+use Rattle.containment.specs.Parts as on
+use Rattle.containment.specs.Parts.{place}
+
+-- the piece that is visited, or for which the shadow that is visited stands
+unfoldable pub visited : Visit → ℕ
+visited (node p) = p
+visited (shadow p) = p
+
+-- what is read of the index of some pairs: the place list, and of each place the first one past its subtree and the piece there
+pub record Setting (places ends pieces : List ℕ) : Type 0 where
+  pub n : ℕ
+  pub edge : ℕ → ℕ → Bool
+  pub book : Book n edge
+  pub few : n ≤ 2048
+  pub zeros : List Bool
+  pub room : n ≤ length places
+  pub places-are : (g : ℕ) → g < n → getD places g 0 ≡ place (visits (whole n edge)) g
+  pub ends-room : length (visits (whole n edge)) ≤ length ends
+  pub ends-are : (q : ℕ) → q < length (visits (whole n edge)) → getD ends q 0 ≡ after (on.parens (whole n edge) ++ zeros) q
+  pub pieces-room : length (visits (whole n edge)) ≤ length pieces
+  pub pieces-are : (q : ℕ) → q < length (visits (whole n edge)) → getD pieces q 0 ≡ visited (getD (visits (whole n edge)) q (node 0))
+
+module _ {places ends pieces : List ℕ} (s : Setting places ends pieces) where
+  pub record Row (rows : List ℕ) (h : ℕ) : Type 0 where
+    pub filled : bitOf rows h h ≡ true → (h < s .n) × ((g : ℕ) → g < 2048 → (bitOf rows h g ≡ true) ↔ Within (s .edge) g h)
+    pub empty : bitOf rows h h ≡ false → (g : ℕ) → g < 2048 → bitOf rows h g ≡ false
+
+  -- the rows from k on
+  abbrev pub From : List ℕ → ℕ → Type 0
+  From rows k = (h : ℕ) → k ≤ h → h < 2048 → Row rows h
+
+  -- row h is filled, and no row below it is touched
+  pub record Filled (rows rows′ : List ℕ) (h : ℕ) : Type 0 where
+    pub own : bitOf rows′ h h ≡ true
+    pub from : From rows′ h
+    pub kept : (r j : ℕ) → r < h → j < 2048 → bitOf rows′ r j ≡ bitOf rows r j
+
+  -- all rows below k are filled
+  pub record FilledTo (rows : List ℕ) (k : ℕ) : Type 0 where
+    pub own : (h : ℕ) → h < k → bitOf rows h h ≡ true
+    pub from : From rows 0
+
+pub record Fillable (places ends pieces rows : List ℕ) (h : ℕ) : Type 0 where
+  pub setting : Setting places ends pieces
+  pub below : h < setting .n
+  pub from : From setting rows h
+
+pub record Ready (n : ℕ) (places ends pieces rows : List ℕ) : Type 0 where
+  pub setting : Setting places ends pieces
+  pub count : n ≡ setting .n
+  pub from : From setting rows 0

@@ -1,0 +1,300 @@
+// Prints the index of the printed session's book, and for generated books the counts and a checksum of each part over its whole lent
+// length, zeros included. tests/runs/containment_run.py works the same lines out in another way.
+ghost use mathlib.Core.Path.{_≡_};
+ghost use Prim.Native.Nat.{_*_, _<_, _≤_};
+ghost use lib.ListN.{length};
+ghost use Rattle.containment_run.specs.Loaded.{Loaded};
+
+// The shapes of the generated books.
+const DEEP: u8 = 0;
+
+const FLAT: u8 = 1;
+
+const BUSHY: u8 = 2;
+
+const LADDER: u8 = 3;
+
+const RANDOM: u8 = 4;
+
+fn main() {
+    let mut edges = [0u64; 65536];
+    session(&mut edges);
+    book(b"alone", FLAT, 1, 0, &mut edges);
+    book(b"joined", FLAT, 2048, 0, &mut edges);
+    book(b"deep", DEEP, 2048, 2047, &mut edges);
+    book(b"flat", FLAT, 2048, 2047, &mut edges);
+    book(b"bushy", BUSHY, 2048, 8188, &mut edges);
+    book(b"ladder", LADDER, 2001, 4000, &mut edges);
+    book(b"random", RANDOM, 7, 12, &mut edges);
+    book(b"random", RANDOM, 50, 100, &mut edges);
+    book(b"random", RANDOM, 300, 1000, &mut edges);
+    book(b"random", RANDOM, 2048, 3000, &mut edges);
+    book(b"random", RANDOM, 2048, 8192, &mut edges);
+}
+
+fn clear(n: usize, edges: &mut [u64])
+    requires { ⌜ (0 < n) × (n ≤ 2048) × (length (now edges) ≡ 65536) ⌝ }
+    ensures { λ _. ⌜ Loaded n (now (edges .exit)) 0 ⌝ }
+{
+    relation::clear(edges);
+}
+
+// Puts in the pair of the part p and the container c, where it is one: the new count.
+fn add(n: usize, edges: &mut [u64], k: usize, p: usize, c: usize) -> usize
+    requires { ⌜ Loaded n (now edges) k ⌝ }
+    ensures { λ r. ⌜ Loaded n (now (edges .exit)) r ⌝ }
+{
+    if p <= c {
+        return k;
+    }
+    if n <= p {
+        return k;
+    }
+    if 8192 <= k {
+        return k;
+    }
+    relation::insert(edges, c, p);
+    k + 1
+}
+
+fn next(state: u64) -> u64 {
+    (state % 2147483648 * 1103515245 + 12345) % 2147483648
+}
+
+// The part of pair j.
+fn part(shape: u8, n: usize, j: usize, state: u64) -> usize
+    requires { ⌜ (0 < n) × (n ≤ 2048) × (j < 8192) ⌝ }
+    ensures { λ r. ⌜ r ≤ 8192 ⌝ }
+{
+    if shape == BUSHY {
+        return j / 4 + 1;
+    }
+    if shape == LADDER {
+        return j / 2 + 1;
+    }
+    if shape == RANDOM {
+        return (state / 64 % 2048) as usize % n;
+    }
+    j + 1
+}
+
+// The container of pair j, whose part is p.
+fn container(shape: u8, j: usize, p: usize, state: u64) -> usize
+    requires { ⌜ (p ≤ 8192) × (j < 8192) ⌝ }
+{
+    if shape == FLAT {
+        return 0;
+    }
+    if shape == BUSHY {
+        return p / 2 / (j % 4 + 1);
+    }
+    if shape == LADDER {
+        return ladder(j, p);
+    }
+    if shape == RANDOM {
+        return (state / 64 % 2048) as usize % (p + 1);
+    }
+    j
+}
+
+// Two pieces a level, each in both of the level above.
+fn ladder(j: usize, p: usize) -> usize
+    requires { ⌜ (p ≤ 8192) × (j < 8192) ⌝ }
+{
+    if p < 3 {
+        return 0;
+    }
+    (p - 3) / 2 * 2 + 1 + j % 2
+}
+
+// Puts in the first `count` pairs of a shape.
+fn load(shape: u8, n: usize, count: usize, edges: &mut [u64]) -> usize
+    requires { ⌜ (count ≤ 8192) × Loaded n (now edges) 0 ⌝ }
+    ensures { λ r. ⌜ Loaded n (now (edges .exit)) r ⌝ }
+{
+    let mut state: u64 = 1;
+    let mut k: usize = 0;
+    let mut j: usize = 0;
+    while j < count {
+        state = next(state);
+        let p = part(shape, n, j, state);
+        state = next(state);
+        let c = container(shape, j, p, state);
+        k = add(n, edges, k, p, c);
+        j += 1;
+    }
+    k
+}
+
+// The index of the k pairs.
+fn index(
+    n: usize,
+    k: usize,
+    edges: &mut [u64],
+    parens: &mut [u8],
+    marks: &mut [u8],
+    shadows: &mut [u16],
+    places: &mut [u16],
+) -> containment::Counts
+    requires { ⌜ Loaded n (now edges) k × (length (now parens) ≡ 2560) × (length (now marks) ≡ 1280) × (length (now shadows) ≡ 8192) × (length (now places) ≡ 2048) ⌝ }
+{
+    containment::build(n, edges, parens, marks, shadows, places)
+}
+
+// The checksum's next value.
+fn mix(sum: u64, x: usize) -> u64 {
+    (sum % 65521 * 31 + x as u64 % 65521 + 1) % 65521
+}
+
+fn of_byte(x: u8) -> usize {
+    x as usize
+}
+
+fn of_number(x: u16) -> usize {
+    x as usize
+}
+
+fn sum_bytes(bytes: &[u8]) -> u64 {
+    let mut sum: u64 = 0;
+    let mut i: usize = 0;
+    while i < bytes.len() {
+        sum = mix(sum, of_byte(bytes[i]));
+        i += 1;
+    }
+    sum
+}
+
+fn sum_numbers(numbers: &[u16]) -> u64 {
+    let mut sum: u64 = 0;
+    let mut i: usize = 0;
+    while i < numbers.len() {
+        sum = mix(sum, of_number(numbers[i]));
+        i += 1;
+    }
+    sum
+}
+
+fn print(x: u64) {
+    io::write_all(1, b" ");
+    io::print_decimal(1, x);
+}
+
+fn print_counts(n: usize, counts: containment::Counts) {
+    print(n as u64);
+    print(counts.nodes as u64);
+    print(counts.shadows as u64);
+}
+
+fn print_sums(
+    parens: &[u8; 2560],
+    marks: &[u8; 1280],
+    shadows: &[u16; 8192],
+    places: &[u16; 2048],
+) {
+    print(sum_bytes(parens));
+    print(sum_bytes(marks));
+    print(sum_numbers(shadows));
+    print(sum_numbers(places));
+    io::write_all(1, b"\n");
+}
+
+// Prints the counts and checksums of the book of `count` pairs of a shape. The lent parts hold other numbers before.
+fn book(name: &[u8], shape: u8, n: usize, count: usize, edges: &mut [u64])
+    requires { ⌜ (0 < n) × (n ≤ 2048) × (count ≤ 8192) × (length (now edges) ≡ 65536) ⌝ }
+{
+    let mut parens = [255u8; 2560];
+    let mut marks = [255u8; 1280];
+    let mut shadows = [65535u16; 8192];
+    let mut places = [65535u16; 2048];
+    clear(n, edges);
+    let k = load(shape, n, count, edges);
+    let counts = index(
+        n,
+        k,
+        edges,
+        &mut parens,
+        &mut marks,
+        &mut shadows,
+        &mut places,
+    );
+    io::write_all(1, name);
+    print_counts(n, counts);
+    print_sums(&parens, &marks, &shadows, &places);
+}
+
+// Prints the first bytes, as far as there are any.
+fn row_bytes(name: &[u8], bytes: &[u8], count: usize) {
+    io::write_all(1, name);
+    let mut i: usize = 0;
+    while i < count {
+        if bytes.len() <= i {
+            return;
+        }
+        print(of_byte(bytes[i]) as u64);
+        i += 1;
+    }
+    io::write_all(1, b"\n");
+}
+
+fn row_numbers(name: &[u8], numbers: &[u16], count: usize) {
+    io::write_all(1, name);
+    let mut i: usize = 0;
+    while i < count {
+        if numbers.len() <= i {
+            return;
+        }
+        print(of_number(numbers[i]) as u64);
+        i += 1;
+    }
+    io::write_all(1, b"\n");
+}
+
+// Prints the front of each part, one byte or number more than the printed session's index has.
+fn print_front(
+    parens: &[u8; 2560],
+    marks: &[u8; 1280],
+    shadows: &[u16; 8192],
+    places: &[u16; 2048],
+) {
+    row_bytes(b"parentheses", parens, 3);
+    row_bytes(b"marks", marks, 2);
+    row_numbers(b"shadow list", shadows, 2);
+    row_numbers(b"place list", places, 7);
+}
+
+// The printed session's PART records.
+fn session_pairs(edges: &mut [u64]) -> usize
+    requires { ⌜ length (now edges) ≡ 65536 ⌝ }
+    ensures { λ r. ⌜ Loaded 6 (now (edges .exit)) r ⌝ }
+{
+    clear(6, edges);
+    let a = add(6, edges, 0, 1, 0);
+    let b = add(6, edges, a, 2, 0);
+    let c = add(6, edges, b, 3, 1);
+    let d = add(6, edges, c, 4, 1);
+    let e = add(6, edges, d, 4, 2);
+    add(6, edges, e, 5, 4)
+}
+
+fn session(edges: &mut [u64])
+    requires { ⌜ length (now edges) ≡ 65536 ⌝ }
+{
+    let mut parens = [255u8; 2560];
+    let mut marks = [255u8; 1280];
+    let mut shadows = [65535u16; 8192];
+    let mut places = [65535u16; 2048];
+    let k = session_pairs(edges);
+    let counts = index(
+        6,
+        k,
+        edges,
+        &mut parens,
+        &mut marks,
+        &mut shadows,
+        &mut places,
+    );
+    io::write_all(1, b"session");
+    print_counts(6, counts);
+    io::write_all(1, b"\n");
+    print_front(&parens, &marks, &shadows, &places);
+}

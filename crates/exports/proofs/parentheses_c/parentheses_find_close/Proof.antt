@@ -1,0 +1,55 @@
+-- `exports::parentheses_c::parentheses_find_close` meets its contract.
+-- Assumes nothing.
+use mathlib.Core.Path.{sym, _∙_}
+use borrow.Author.Needs.{needs}
+use Rattle.exports.proofs.parentheses_c.parentheses_find_close.Statement.{statement}
+use Rattle.exports.proofs.parentheses_c.parentheses_find_close.Tie as tie
+
+returns : tie.Need-returns
+returns c = search needs
+
+mul-if2 : tie.Need-mul-if2
+mul-if2 c = search needs
+
+returns-2 : tie.Need-returns-2
+returns-2 c = search needs
+
+get-requires : tie.Need-get-requires
+get-requires c κs = search needs
+
+find-close-requires : tie.Need-find-close-requires
+find-close-requires c κs = (search needs, search needs, sym (c .before .get .ensures) ∙ c .if3 .taken)
+
+enum-known-close : tie.Need-enum-known-close
+enum-known-close c = search needs
+
+enum-told : tie.Need-enum-told
+enum-told c = search needs
+
+mul-result : tie.Need-mul-result
+mul-result c = search needs
+
+returns-3 : tie.Need-returns-3
+returns-3 c = search needs
+
+returns-4 : tie.Need-returns-4
+returns-4 c = search needs
+
+returns-5 : tie.Need-returns-5
+returns-5 c = search needs
+
+pub parentheses-find-close-spec : {M : Type 1} → statement M
+parentheses-find-close-spec =
+    tie.close
+    (tie.spec
+    returns
+    mul-if2
+    returns-2
+    get-requires
+    find-close-requires
+    enum-known-close
+    enum-told
+    mul-result
+    returns-3
+    returns-4
+    returns-5)

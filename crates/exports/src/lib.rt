@@ -1,0 +1,4 @@
+// What C and Rust programs link: thin wrappers, a module for each crate.
+pub mod parentheses_c;
+pub mod records_c;
+pub mod relation_c;

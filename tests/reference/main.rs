@@ -1,0 +1,473 @@
+//! Compares the library's two calls with the reference on many books: the outcome, every answer and every byte of every buffer, with guard
+//! values before and behind what is lent. The last line is 'N passed, M failed', where N + M books were compared.
+
+mod books;
+mod piecebook;
+mod reference;
+mod rules;
+
+use books::*;
+use piecebook::{Outcome, Parts};
+use reference::{judge, Change, Expected, Lengths};
+use std::collections::BTreeMap;
+use std::time::Instant;
+
+/// A lent buffer: guard values, the lent part, guard values.
+#[derive(Clone, PartialEq)]
+struct Buffer<T> {
+    all: Vec<T>,
+    front: usize,
+    length: usize,
+}
+
+impl<T: Copy + PartialEq> Buffer<T> {
+    fn new(random: &mut Random, length: usize, value: fn(u64) -> T) -> Buffer<T> {
+        let front = random.below(9);
+        let behind = random.range(1, 40);
+        Buffer { all: (0..front + length + behind).map(|_| value(random.next())).collect(), front, length }
+    }
+
+    fn lend(&mut self) -> &mut [T] {
+        &mut self.all[self.front..][..self.length]
+    }
+
+    fn write(&mut self, values: &[T]) {
+        self.lend()[..values.len()].copy_from_slice(values);
+    }
+
+    /// The first place in which two differ, counted from the lent part's start.
+    fn difference(&self, other: &Buffer<T>) -> Option<isize> {
+        let at = self.all.iter().zip(&other.all).position(|(x, y)| x != y)?;
+        Some(at as isize - self.front as isize)
+    }
+}
+
+#[derive(Clone)]
+struct Lent {
+    parentheses: Buffer<u8>,
+    marks: Buffer<u8>,
+    shadows: Buffer<u16>,
+    places: Buffer<u16>,
+    answers: Buffer<u8>,
+}
+
+impl Lent {
+    fn new(random: &mut Random, lengths: Lengths) -> Lent {
+        Lent {
+            parentheses: Buffer::new(random, lengths.parentheses, |x| x as u8),
+            marks: Buffer::new(random, lengths.marks, |x| x as u8),
+            shadows: Buffer::new(random, lengths.shadows, |x| x as u16),
+            places: Buffer::new(random, lengths.places, |x| x as u16),
+            answers: Buffer::new(random, lengths.answers, |x| x as u8),
+        }
+    }
+
+    /// Calls the library: with claims the call that answers them, else the one that writes the index alone.
+    fn call(&mut self, book: &[u8], claims: Option<&[u8]>) -> Outcome {
+        let mut index = Parts {
+            parentheses: self.parentheses.lend(),
+            marks: self.marks.lend(),
+            shadows: self.shadows.lend(),
+            places: self.places.lend(),
+        };
+        match claims {
+            Some(claims) => piecebook::answer(book, claims, &mut index, self.answers.lend()),
+            None => piecebook::index(book, &mut index),
+        }
+    }
+
+    fn apply(&mut self, change: &Change) {
+        let (index, answers) = match change {
+            Change::Nothing => return,
+            Change::Index(index) => (index, None),
+            Change::IndexAndAnswers(index, answers) => (index, Some(answers)),
+        };
+        self.parentheses.write(&index.parentheses);
+        self.marks.write(&index.marks);
+        self.shadows.write(&index.shadows);
+        self.places.write(&index.places);
+        if let Some(answers) = answers {
+            self.answers.write(answers);
+        }
+    }
+
+    fn difference(&self, other: &Lent) -> Option<String> {
+        let places = [
+            ("parentheses", self.parentheses.difference(&other.parentheses)),
+            ("marks", self.marks.difference(&other.marks)),
+            ("shadows", self.shadows.difference(&other.shadows)),
+            ("places", self.places.difference(&other.places)),
+            ("answers", self.answers.difference(&other.answers)),
+        ];
+        let (name, at) = places.into_iter().find_map(|(name, at)| at.map(|at| (name, at)))?;
+        Some(format!("{name} differ at {at}"))
+    }
+}
+
+/// Calls the library once and says what is wrong.
+fn compare(random: &mut Random, book: &[u8], claims: Option<&[u8]>, lengths: Lengths) -> (Expected, Option<String>) {
+    let expected = judge(book, claims, lengths);
+    let mut lent = Lent::new(random, lengths);
+    let mut after = lent.clone();
+    after.apply(&expected.change);
+    let (book_before, claims_before) = (book.to_vec(), claims.map(<[u8]>::to_vec));
+    let outcome = lent.call(book, claims);
+    let wrong = if let Some(doubt) = &expected.doubt {
+        Some(format!("the reference is in doubt: {doubt}"))
+    } else if outcome != expected.outcome {
+        Some(format!("got {outcome:?}, expected {:?}", expected.outcome))
+    } else if book != book_before || claims != claims_before.as_deref() {
+        Some("the book or the claims were written to".into())
+    } else {
+        lent.difference(&after)
+    };
+    (expected, wrong)
+}
+
+/// A book with its claims and the lengths of the lent buffers.
+struct Case {
+    book: Vec<u8>,
+    claims: Vec<u8>,
+    lengths: Lengths,
+}
+
+const LEAST: Lengths = Lengths { parentheses: 2560, marks: 1280, shadows: 8192, places: 2048, answers: 0 };
+
+/// Lengths that do, now and then just so.
+fn enough(random: &mut Random, claims: usize) -> Lengths {
+    let mut more = |least: usize| least + if random.one_in(3) { 0 } else { random.below(50) };
+    Lengths {
+        parentheses: more(LEAST.parentheses),
+        marks: more(LEAST.marks),
+        shadows: more(LEAST.shadows),
+        places: more(LEAST.places),
+        answers: more(claims),
+    }
+}
+
+/// Lengths of which one at least, mostly, is too short.
+fn short(random: &mut Random, claims: usize) -> Lengths {
+    let mut lengths = enough(random, claims);
+    for _ in 0..1 + random.below(2) {
+        let length = match random.below(5) {
+            0 => &mut lengths.parentheses,
+            1 => &mut lengths.marks,
+            2 => &mut lengths.shadows,
+            3 => &mut lengths.places,
+            _ => &mut lengths.answers,
+        };
+        let least = *length;
+        *length = match random.below(4) {
+            0 => 0,
+            1 => random.below(least + 1),
+            _ => least.saturating_sub(random.range(1, 52)),
+        };
+    }
+    lengths
+}
+
+fn case(random: &mut Random, book: &[Bytes], claims: &[Bytes]) -> Case {
+    Case { book: book.concat(), claims: claims.concat(), lengths: enough(random, claims.len()) }
+}
+
+/// Counts what was compared.
+struct Tally {
+    random: Random,
+    passed: usize,
+    failed: usize,
+}
+
+impl Tally {
+    fn try_case(&mut self, group: &str, number: usize, case: &Case) -> Expected {
+        let (expected, wrong) = compare(&mut self.random, &case.book, Some(&case.claims), case.lengths);
+        let (_, wrong_index) = compare(&mut self.random, &case.book, None, case.lengths);
+        let wrong = wrong.or(wrong_index.map(|wrong| format!("index alone: {wrong}")));
+        self.count(wrong.map(|wrong| {
+            let bytes = if case.book.len() <= 600 { format!("{:?}", case.book) } else { format!("{} bytes", case.book.len()) };
+            format!("{group}, book {number}: {wrong}; book {bytes}, {} bytes of claims, {:?}", case.claims.len(), case.lengths)
+        }));
+        expected
+    }
+
+    fn count(&mut self, wrong: Option<String>) {
+        match wrong {
+            None => self.passed += 1,
+            Some(wrong) => {
+                self.failed += 1;
+                if self.failed <= 10 {
+                    println!("FAIL {wrong}");
+                }
+            }
+        }
+    }
+
+    /// A group of random books, each made from the group's random numbers; prints one line.
+    fn group(&mut self, name: &str, count: usize, make: impl Fn(&mut Random, usize) -> Case) {
+        let start = Instant::now();
+        let failed = self.failed;
+        let mut random = Random(name.bytes().fold(7, |seed, byte| seed * 31 + u64::from(byte)));
+        let mut numbers = BTreeMap::new();
+        let mut answers = [0; 4];
+        for number in 0..count {
+            let case = make(&mut random, number);
+            let expected = self.try_case(name, number, &case);
+            *numbers.entry(expected.outcome.number).or_insert(0) += 1;
+            if let Change::IndexAndAnswers(_, bytes) = &expected.change {
+                bytes.iter().for_each(|&byte| answers[usize::from(byte)] += 1);
+            }
+        }
+        let accepted = numbers.remove(&0).unwrap_or(0);
+        let refused: Vec<String> = numbers.iter().map(|(number, count)| format!("{number}: {count}")).collect();
+        println!(
+            "{name}: {count} books, {accepted} accepted, refused {{{}}}; answers {} FOLLOWS, {} DENIED, {} OPEN; {} failed; {:.1} s",
+            refused.join(", "),
+            answers[1],
+            answers[2],
+            answers[3],
+            self.failed - failed,
+            start.elapsed().as_secs_f64()
+        );
+    }
+}
+
+// Document 01's own examples, its numbers written out.
+
+fn session(random: &mut Random) -> Option<String> {
+    const BOOK: &[u8] = include_bytes!("../../examples/book.rec");
+    const CLAIMS: &[u8] = include_bytes!("../../examples/claims");
+    const PRINTED: &str = include_str!("../../examples/expected.txt");
+    let mut lent = Lent::new(random, Lengths { answers: CLAIMS.len() / 6, ..LEAST });
+    let Outcome { number, place, pieces, nodes, shadows } = lent.call(BOOK, Some(CLAIMS));
+    if (number, place) != (0, 0) {
+        return Some(format!("printed session: REFUSED {number} {place}"));
+    }
+    let mut printed = format!("PIECES {pieces} NODES {nodes} SHADOWS {shadows}\n");
+    for (i, (claim, answer)) in CLAIMS.chunks(6).zip(lent.answers.lend()).enumerate() {
+        let kind = ["PART", "APART", "MEETS", "NOTPART"][usize::from(claim[0]) - 1];
+        let answer = ["FOLLOWS", "DENIED", "OPEN"][usize::from(*answer) - 1];
+        printed += &format!("{i} {kind} {} {} {answer}\n", claim[2], claim[4]);
+    }
+    if printed != PRINTED {
+        return Some(format!("printed session: {printed}"));
+    }
+    let index = [
+        lent.parentheses.lend()[..3] == [55, 6, 0],
+        lent.marks.lend()[..2] == [64, 0],
+        lent.shadows.lend()[..2] == [3, 0],
+        lent.places.lend()[..7] == [0, 1, 5, 2, 3, 4, 0],
+    ];
+    (index != [true; 4]).then(|| "printed session: its index".into())
+}
+
+/// Sound records that differ, with the largest piece number among them.
+fn many(count: usize) -> Vec<Bytes> {
+    (0..count).map(|i| record(TRAY, 2047 - i % 2048, i)).collect()
+}
+
+/// Books with the number and the place that document 01 gives them.
+fn edges() -> Vec<(&'static str, Vec<Bytes>, Vec<Bytes>, (u32, u32))> {
+    let session = || {
+        let bytes: &[u8] = include_bytes!("../../examples/book.rec");
+        bytes.chunks(6).map(|r| r.try_into().unwrap()).collect::<Vec<Bytes>>()
+    };
+    let with = |more: &[Bytes]| [session(), more.to_vec()].concat();
+    let one = |kind, a, b| vec![record(kind, a, b)];
+    let mut bad_kind = record(7, 9000, 9000);
+    bad_kind[1] = 1;
+    let bad_second = [PART, 1, 0, 16, 0, 16];
+    let none: Vec<Bytes> = vec![];
+    vec![
+        ("no bytes", none.clone(), none.clone(), (2, 0)),
+        ("8,192 records", many(8192), none.clone(), (0, 0)),
+        ("8,193 records", many(8193), none.clone(), (4, 0)),
+        ("8,193 records, a bad one first", [vec![bad_kind], many(8192)].concat(), none.clone(), (4, 0)),
+        ("piece 2,047", one(PART, 2047, 2046), none.clone(), (0, 0)),
+        ("piece 2,048 as a", one(PART, 2048, 2047), none.clone(), (7, 0)),
+        ("piece 2,048 as b", one(APART, 1, 2048), none.clone(), (7, 0)),
+        ("piece 2,048 as b of PART is 7 and not 8", one(PART, 1, 2048), none.clone(), (7, 0)),
+        ("piece 2,048 on a tray", one(TRAY, 2048, 0), none.clone(), (7, 0)),
+        ("tray 2,048", one(TRAY, 0, 2048), none.clone(), (0, 0)),
+        ("tray 65,535", one(TRAY, 2047, 65535), none.clone(), (0, 0)),
+        ("PART 3 3", one(PART, 3, 3), none.clone(), (8, 0)),
+        ("PART 0 0", one(PART, 0, 0), none.clone(), (8, 0)),
+        ("PART 1 2", one(PART, 1, 2), none.clone(), (8, 0)),
+        ("APART 3 4 and 4 3", vec![record(APART, 3, 4), record(APART, 4, 3)], all_claims(5), (0, 0)),
+        ("APART 3 4 twice", vec![record(APART, 3, 4), record(TRAY, 1, 1), record(APART, 3, 4)], none.clone(), (9, 2)),
+        ("APART 2 2", one(APART, 2, 2), all_claims(3), (14, 0)),
+        ("NOTPART 1 0", one(NOTPART, 1, 0), all_claims(2), (14, 0)),
+        ("APART 1 0", one(APART, 1, 0), all_claims(2), (14, 0)),
+        ("NOTPART 0 1", one(NOTPART, 0, 1), all_claims(2), (0, 0)),
+        ("NOTPART 0 0", one(NOTPART, 0, 0), all_claims(1), (14, 0)),
+        ("the session and MEETS 5 3", with(&[record(MEETS, 5, 3)]), all_claims(6), (14, 9)),
+        ("MEETS 5 3 and the session", [one(MEETS, 5, 3), session()].concat(), all_claims(6), (14, 7)),
+        ("row 5 before 6", vec![record(TRAY, 0, 0), bad_kind], none.clone(), (5, 1)),
+        ("row 6 before 7", vec![record(TRAY, 0, 0), bad_second], none.clone(), (6, 1)),
+        ("row 9 before a later row 5", [one(TRAY, 0, 0), one(TRAY, 0, 0), vec![bad_kind]].concat(), none.clone(), (9, 1)),
+        ("row 9 before row 14", [one(APART, 2, 2), one(APART, 2, 2)].concat(), none.clone(), (9, 1)),
+        ("4,096 claims", session(), vec![record(PART, 5, 2); 4096], (0, 0)),
+        ("4,097 claims", session(), vec![record(PART, 5, 2); 4097], (11, 0)),
+        ("4,097 claims, a bad one first", session(), [vec![bad_kind], vec![record(PART, 5, 2); 4096]].concat(), (11, 0)),
+        ("a claim of kind 5", session(), [one(PART, 1, 1), one(TRAY, 1, 1)].concat(), (12, 1)),
+        ("a claim of kind 0", session(), one(0, 9, 9), (12, 0)),
+        ("a claim's byte 1", session(), vec![bad_second], (12, 0)),
+        ("a claim about piece 6 as a", session(), one(PART, 6, 0), (13, 0)),
+        ("a claim about piece 6 as b", session(), one(MEETS, 0, 6), (13, 0)),
+        ("row 13 before a later row 12", session(), [one(PART, 6, 0), one(TRAY, 0, 0)].concat(), (13, 0)),
+        ("row 13 before row 14", one(APART, 2, 2), one(PART, 3, 0), (13, 0)),
+        ("a claim about all pieces of a book of trays", one(TRAY, 3, 9), all_claims(4), (0, 0)),
+        ("piece 0 alone", one(TRAY, 0, 0), all_claims(1), (0, 0)),
+    ]
+}
+
+/// The most nodes that a book can have: five parts share 8,192 containers, all other pieces are joined to 0.
+fn widest() -> Vec<Bytes> {
+    (1..2048).rev().flat_map(|part| (0..part).map(move |container| record(PART, part, container))).take(8192).collect()
+}
+
+fn examples(tally: &mut Tally) {
+    let failed = tally.failed;
+    let wrong = session(&mut tally.random);
+    tally.count(wrong);
+    let edges = edges();
+    let count = edges.len() + 1;
+    for (i, (name, book, claims, place)) in edges.into_iter().enumerate() {
+        let case = case(&mut tally.random, &book, &claims);
+        let Outcome { number, place: at, .. } = tally.try_case(name, i, &case).outcome;
+        if (number, at) != place {
+            println!("FAIL {name}: the reference says {number} at {at}, document 01 {place:?}");
+            tally.failed += 1;
+        }
+    }
+    println!("document 01's session and edges: {count} books; {} failed", tally.failed - failed);
+}
+
+// Random groups.
+
+fn small_plan(random: &mut Random) -> Plan {
+    let pieces = random.range(1, 13);
+    Plan { shape: random.pick(&SHAPES), pieces, records: random.range(1, 40), facts: random.below(2 * pieces + 1), fill: false }
+}
+
+/// The book with all claims about every two of its pieces.
+fn small_case(random: &mut Random, book: &[Bytes]) -> Case {
+    let largest = book.iter().map(|r| if r[0] == TRAY { r[2] } else { r[2].max(r[4]) }).max().unwrap();
+    let mut claims = all_claims(usize::from(largest) + 1);
+    random.shuffle(&mut claims);
+    case(random, book, &claims)
+}
+
+fn small_sound(random: &mut Random) -> Case {
+    let plan = small_plan(random);
+    let book = sound(random, plan);
+    small_case(random, &book)
+}
+
+fn small_contradictory(random: &mut Random) -> Case {
+    let plan = small_plan(random);
+    let mut book = sound(random, plan);
+    let facts = random.range(1, 5);
+    contradict(random, &mut book, plan.pieces, facts);
+    small_case(random, &book)
+}
+
+/// Bytes out of nowhere, most of them low.
+fn junk(random: &mut Random) -> Case {
+    let mut bytes = |end: usize| -> Vec<u8> {
+        let length = 6 * random.below(end) + if random.one_in(6) { random.below(6) } else { 0 };
+        (0..length).map(|_| if random.one_in(30) { random.next() as u8 } else { random.pick(&[0, 0, 0, 1, 2, 3, 4]) }).collect()
+    };
+    let (book, claims) = (bytes(6), bytes(4));
+    let lengths = enough(random, claims.len() / 6);
+    Case { book, claims, lengths }
+}
+
+fn damaged(random: &mut Random, number: usize) -> Case {
+    let mut case = if number % 4 == 0 { small_contradictory(random) } else { small_sound(random) };
+    match random.below(4) {
+        0 => damage(random, &mut case.claims),
+        1 => {
+            damage(random, &mut case.book);
+            damage(random, &mut case.claims);
+        }
+        _ => damage(random, &mut case.book),
+    }
+    case.lengths = enough(random, case.claims.len() / 6);
+    case
+}
+
+fn short_buffers(random: &mut Random, number: usize) -> Case {
+    let mut case = if number % 3 == 0 { damaged(random, number) } else { small_sound(random) };
+    case.lengths = short(random, case.claims.len() / 6);
+    case
+}
+
+fn middle_plan(random: &mut Random, shape: Shape) -> Plan {
+    let pieces = random.range(100, 301);
+    let dense = if matches!(shape, Shape::Dense) { 4 } else { 2 };
+    Plan { shape, pieces, records: pieces * dense + random.below(300), facts: random.below(300), fill: false }
+}
+
+fn middle(random: &mut Random, shape: Shape, number: usize) -> Case {
+    let plan = middle_plan(random, shape);
+    let mut book = sound(random, plan);
+    if number % 4 == 3 {
+        contradict(random, &mut book, plan.pieces, 1 + number % 20);
+    }
+    // where the last pieces are not named, row 13 refuses claims about them
+    if !random.one_in(10) && book.len() < 8192 {
+        book.push(record(TRAY, plan.pieces - 1, 65535));
+    }
+    let asked = [claims(random, plan.pieces, 500), near_claims(random, plan.pieces, 500)].concat();
+    case(random, &book, &asked)
+}
+
+/// As many pieces, records and claims as can be.
+fn largest(random: &mut Random, shape: Shape, facts: usize) -> Case {
+    let book = sound(random, Plan { shape, pieces: 2048, records: 8192, facts, fill: true });
+    let asked = [claims(random, 2048, 2048), near_claims(random, 2048, 2048)].concat();
+    case(random, &book, &asked)
+}
+
+/// The same with a contradiction: the record of the given number says that a part and its container are APART.
+fn largest_contradictory(random: &mut Random, shape: Shape, place: usize) -> Case {
+    let mut case = largest(random, shape, 3000);
+    let part = case.book.chunks(6).find(|r| r[0] == PART && (r[4] > 0 || r[5] > 0)).expect("a part of another piece than 0").to_vec();
+    case.book[place * 6] = APART;
+    case.book[place * 6 + 1..][..5].copy_from_slice(&part[1..]);
+    case
+}
+
+/// Compares them all, `times` as many random books where that is more than once.
+fn run(times: usize) -> bool {
+    let mut tally = Tally { random: Random(1), passed: 0, failed: 0 };
+    examples(&mut tally);
+    tally.group("small, from a laying", 3000 * times, |random, _| small_sound(random));
+    tally.group("small, facts thrown in", 3000 * times, |random, _| small_contradictory(random));
+    tally.group("damaged", 4000 * times, damaged);
+    tally.group("short buffers", 1000 * times, short_buffers);
+    tally.group("junk", 1000 * times, |random, _| junk(random));
+    for shape in SHAPES {
+        tally.group(&format!("100 to 300 pieces, {shape:?}"), 40 * times, |random, number| middle(random, shape, number));
+    }
+    tally.group("most nodes", 1, |random, _| {
+        let asked = claims(random, 2048, 4096);
+        case(random, &widest(), &asked)
+    });
+    for shape in SHAPES {
+        tally.group(&format!("2,048 pieces, 8,192 records, 4,096 claims, {shape:?}"), 2 * times, |random, number| {
+            largest(random, shape, 1000 + 3000 * (number % 2))
+        });
+    }
+    for shape in SHAPES {
+        tally.group(&format!("2,048 pieces, 8,192 records, contradictory, {shape:?}"), 3 * times, |random, number| {
+            largest_contradictory(random, shape, [8191, 4000, 100][number % 3])
+        });
+    }
+    println!("{} passed, {} failed", tally.passed, tally.failed);
+    tally.failed == 0
+}
+
+fn main() {
+    let times = std::env::args().nth(1).map_or(1, |times| times.parse().expect("a number of times"));
+    std::process::exit(if run(times) { 0 } else { 1 });
+}

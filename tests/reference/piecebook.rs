@@ -1,0 +1,108 @@
+//! The piece book from Rust: safe calls over `include/piecebook.h`. Link with libpiecebook.a.
+//!
+//! The slices give the C interface all that it asks for: a length with each pointer, and lent buffers that do not overlap.
+
+/// What a call returns. `number` is 0 for an accepted book, or the number of the refusal, whose record or claim is `place`; the counts are 0
+/// for a refusal.
+#[repr(C)]
+#[derive(Clone, Copy, Debug, PartialEq, Eq)]
+pub struct Outcome {
+    pub number: u32,
+    pub place: u32,
+    pub pieces: u32,
+    pub nodes: u32,
+    pub shadows: u32,
+}
+
+/// The least lengths of the four parts of an index; shorter ones are refused by number 1.
+pub const PARENTHESES: usize = 2560;
+pub const MARKS: usize = 1280;
+pub const SHADOWS: usize = 8192;
+pub const PLACES: usize = 2048;
+
+/// The answer bytes.
+pub const FOLLOWS: u8 = 1;
+pub const DENIED: u8 = 2;
+pub const OPEN: u8 = 3;
+
+/// The four parts of an index, as the caller lends them.
+pub struct Parts<'a> {
+    pub parentheses: &'a mut [u8],
+    pub marks: &'a mut [u8],
+    pub shadows: &'a mut [u16],
+    pub places: &'a mut [u16],
+}
+
+/// Answers the claims, one byte each at the front of `answers`, and writes the index.
+pub fn answer(book: &[u8], claims: &[u8], index: &mut Parts, answers: &mut [u8]) -> Outcome {
+    // SAFETY: each pointer comes with the length of its slice, and exclusive slices do not overlap.
+    unsafe {
+        piecebook_answer(
+            book.as_ptr(),
+            book.len(),
+            claims.as_ptr(),
+            claims.len(),
+            index.parentheses.as_mut_ptr(),
+            index.parentheses.len(),
+            index.marks.as_mut_ptr(),
+            index.marks.len(),
+            index.shadows.as_mut_ptr(),
+            index.shadows.len(),
+            index.places.as_mut_ptr(),
+            index.places.len(),
+            answers.as_mut_ptr(),
+            answers.len(),
+        )
+    }
+}
+
+/// Writes the index alone.
+pub fn index(book: &[u8], index: &mut Parts) -> Outcome {
+    // SAFETY: as above.
+    unsafe {
+        piecebook_index(
+            book.as_ptr(),
+            book.len(),
+            index.parentheses.as_mut_ptr(),
+            index.parentheses.len(),
+            index.marks.as_mut_ptr(),
+            index.marks.len(),
+            index.shadows.as_mut_ptr(),
+            index.shadows.len(),
+            index.places.as_mut_ptr(),
+            index.places.len(),
+        )
+    }
+}
+
+extern "C" {
+    fn piecebook_answer(
+        book: *const u8,
+        book_length: usize,
+        claims: *const u8,
+        claims_length: usize,
+        parentheses: *mut u8,
+        parentheses_length: usize,
+        marks: *mut u8,
+        marks_length: usize,
+        shadows: *mut u16,
+        shadows_length: usize,
+        places: *mut u16,
+        places_length: usize,
+        answers: *mut u8,
+        answers_length: usize,
+    ) -> Outcome;
+
+    fn piecebook_index(
+        book: *const u8,
+        book_length: usize,
+        parentheses: *mut u8,
+        parentheses_length: usize,
+        marks: *mut u8,
+        marks_length: usize,
+        shadows: *mut u16,
+        shadows_length: usize,
+        places: *mut u16,
+        places_length: usize,
+    ) -> Outcome;
+}

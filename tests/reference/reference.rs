@@ -1,0 +1,299 @@
+//! Document 01 once more, from its words: which input is refused, what the index is, what each claim is answered. It knows nothing of the
+//! library's ways.
+
+use crate::piecebook::{Outcome, DENIED, FOLLOWS, MARKS, OPEN, PARENTHESES, PLACES, SHADOWS};
+use crate::rules::{has_no_laying, Derived, Fact, Facts, Kind, Rows};
+use std::collections::{BTreeSet, HashSet, VecDeque};
+
+/// The lengths of the lent buffers.
+#[derive(Clone, Copy, Debug)]
+pub struct Lengths {
+    pub parentheses: usize,
+    pub marks: usize,
+    pub shadows: usize,
+    pub places: usize,
+    pub answers: usize,
+}
+
+/// The four parts of an index over their whole lengths, what is unused being zero.
+pub struct Index {
+    pub parentheses: Vec<u8>,
+    pub marks: Vec<u8>,
+    pub shadows: Vec<u16>,
+    pub places: Vec<u16>,
+}
+
+/// What a call does to its buffers.
+pub enum Change {
+    Nothing,
+    Index(Index),
+    IndexAndAnswers(Index, Vec<u8>),
+}
+
+pub struct Expected {
+    pub outcome: Outcome,
+    pub change: Change,
+    /// where this reference contradicts itself
+    pub doubt: Option<String>,
+}
+
+type Refusal = (u32, u32);
+
+struct Record {
+    kind: u8,
+    second: u8,
+    a: usize,
+    b: usize,
+}
+
+fn records(bytes: &[u8]) -> impl Iterator<Item = Record> + '_ {
+    bytes.chunks_exact(6).map(|r| Record {
+        kind: r[0],
+        second: r[1],
+        a: u16::from_le_bytes([r[2], r[3]]) as usize,
+        b: u16::from_le_bytes([r[4], r[5]]) as usize,
+    })
+}
+
+fn fact(record: &Record) -> Option<Fact> {
+    let kind = match record.kind {
+        1 => Kind::Part,
+        2 => Kind::Apart,
+        3 => Kind::Meets,
+        4 => Kind::Notpart,
+        _ => return None,
+    };
+    Some(Fact { kind, a: record.a, b: record.b })
+}
+
+/// Rows 2 to 9; the facts of a book that passes them, none for a TRAY, and the number of its pieces.
+fn read_book(book: &[u8]) -> Result<(Vec<Option<Fact>>, usize), Refusal> {
+    let whole = |number| Err((number, 0));
+    match book.len() {
+        0 => return whole(2),
+        length if length % 6 != 0 => return whole(3),
+        length if length > 8192 * 6 => return whole(4),
+        _ => {}
+    }
+    let mut seen = HashSet::new();
+    let mut facts = Vec::new();
+    let mut largest = 0;
+    for (i, (record, bytes)) in records(book).zip(book.chunks(6)).enumerate() {
+        let Record { kind, second, a, b } = record;
+        let b_is_piece = kind != 5;
+        let rows = [
+            (5, !(1..=5).contains(&kind)),
+            (6, second != 0),
+            (7, a > 2047 || b_is_piece && b > 2047),
+            (8, kind == 1 && b >= a),
+            (9, !seen.insert(bytes)),
+        ];
+        if let Some(&(number, _)) = rows.iter().find(|row| row.1) {
+            return Err((number, i as u32));
+        }
+        largest = largest.max(a);
+        if b_is_piece {
+            largest = largest.max(b);
+        }
+        facts.push(fact(&record));
+    }
+    Ok((facts, largest + 1))
+}
+
+/// Rows 10 to 13.
+fn read_claims(claims: &[u8], pieces: usize) -> Result<Vec<Fact>, Refusal> {
+    if claims.len() % 6 != 0 {
+        return Err((10, 0));
+    }
+    if claims.len() / 6 > 4096 {
+        return Err((11, 0));
+    }
+    let mut facts = Vec::new();
+    for (i, record) in records(claims).enumerate() {
+        let claim = fact(&record).filter(|_| record.second == 0).ok_or((12, i as u32))?;
+        if claim.a.max(claim.b) >= pieces {
+            return Err((13, i as u32));
+        }
+        facts.push(claim);
+    }
+    Ok(facts)
+}
+
+struct Node {
+    piece: usize,
+    shadow: bool,
+    children: Vec<usize>,
+}
+
+enum Step {
+    Enter(usize),
+    Leave,
+}
+
+fn packed(bits: &[bool], bytes: usize) -> Vec<u8> {
+    let mut all = vec![0; bytes];
+    for (k, _) in bits.iter().enumerate().filter(|(_, &bit)| bit) {
+        all[k / 8] += 1 << (k % 8);
+    }
+    all
+}
+
+fn padded(mut numbers: Vec<u16>, length: usize) -> Vec<u16> {
+    assert!(numbers.len() <= length);
+    numbers.resize(length, 0);
+    numbers
+}
+
+/// The index of the PART facts, the number of its nodes and that of its shadows.
+fn build(pieces: usize, facts: &[Option<Fact>]) -> (Index, usize, usize) {
+    let mut parts = vec![BTreeSet::new(); pieces];
+    let mut is_part = HashSet::new();
+    for fact in facts.iter().flatten().filter(|f| f.kind == Kind::Part) {
+        parts[fact.b].insert(fact.a);
+        is_part.insert(fact.a);
+    }
+    parts[0].extend((1..pieces).filter(|piece| !is_part.contains(piece)));
+
+    // breadth first: the tree, its nodes numbered as they are met
+    let mut tree = vec![Node { piece: 0, shadow: false, children: vec![] }];
+    let mut node_of: Vec<Option<usize>> = vec![None; pieces];
+    node_of[0] = Some(0);
+    let mut waiting = VecDeque::from([0]);
+    while let Some(container) = waiting.pop_front() {
+        for &piece in &parts[tree[container].piece] {
+            let node = tree.len();
+            let shadow = node_of[piece].is_some();
+            tree.push(Node { piece, shadow, children: vec![] });
+            tree[container].children.push(node);
+            if !shadow {
+                node_of[piece] = Some(node);
+                waiting.push_back(node);
+            }
+        }
+    }
+
+    // depth first: the nodes in the order of their places
+    let mut parentheses = Vec::new();
+    let mut preorder = Vec::new();
+    let mut steps = vec![Step::Enter(0)];
+    while let Some(step) = steps.pop() {
+        match step {
+            Step::Leave => parentheses.push(false),
+            Step::Enter(node) => {
+                parentheses.push(true);
+                preorder.push(node);
+                steps.push(Step::Leave);
+                steps.extend(tree[node].children.iter().rev().map(|&child| Step::Enter(child)));
+            }
+        }
+    }
+    let mut place = vec![0; tree.len()];
+    for (at, &node) in preorder.iter().enumerate() {
+        place[node] = at as u16;
+    }
+    let place_of = |piece: usize| place[node_of[piece].expect("every piece has a node")];
+    let marks: Vec<bool> = preorder.iter().map(|&node| tree[node].shadow).collect();
+    let shadows: Vec<u16> = preorder.iter().filter(|&&node| tree[node].shadow).map(|&node| place_of(tree[node].piece)).collect();
+    let count = shadows.len();
+    let index = Index {
+        parentheses: packed(&parentheses, PARENTHESES),
+        marks: packed(&marks, MARKS),
+        shadows: padded(shadows, SHADOWS),
+        places: padded((0..pieces).map(place_of).collect(), PLACES),
+    };
+    (index, tree.len(), count)
+}
+
+fn cleared() -> Index {
+    Index { parentheses: vec![0; PARENTHESES], marks: vec![0; MARKS], shadows: vec![0; SHADOWS], places: vec![0; PLACES] }
+}
+
+/// Books of at most this many pieces are worked out fact by fact, and by the faster ways as well; the results must agree.
+const SMALL: usize = 16;
+
+/// The last record of the shortest contradictory run from the start.
+fn contradiction(pieces: usize, facts: &[Option<Fact>], doubt: &mut Option<String>) -> Option<usize> {
+    let run = |length: usize| -> Vec<Fact> { facts[..length].iter().flatten().copied().collect() };
+    // what a run derives, every longer run derives
+    let (mut sound, mut bad) = (0, facts.len());
+    let by_laying = has_no_laying(pieces, &run(bad)).then(|| {
+        while bad - sound > 1 {
+            let middle = (sound + bad) / 2;
+            if has_no_laying(pieces, &run(middle)) {
+                bad = middle;
+            } else {
+                sound = middle;
+            }
+        }
+        bad - 1
+    });
+    if pieces <= SMALL {
+        let contradictory = |length: usize| Facts::derive(pieces, &run(length)).contradictory();
+        let by_rules = if contradictory(facts.len()) { (0..facts.len()).find(|&last| contradictory(last + 1)) } else { None };
+        if by_rules != by_laying {
+            *doubt = Some(format!("contradiction at {by_rules:?} by the rules, at {by_laying:?} by layings"));
+        }
+    } else if let Some(last) = by_laying.filter(|_| pieces <= 320) {
+        let contradictory = |length: usize| Rows::derive(pieces, &run(length)).contradictory();
+        if contradictory(last) || !contradictory(last + 1) {
+            *doubt = Some(format!("contradiction at {last} by layings and not by the rules"));
+        }
+    }
+    by_laying
+}
+
+fn verdict(all: &dyn Derived, claim: Fact) -> u8 {
+    if all.has(claim) {
+        FOLLOWS
+    } else if all.has(Fact { kind: claim.kind.opposite(), ..claim }) {
+        DENIED
+    } else {
+        OPEN
+    }
+}
+
+fn answer(pieces: usize, facts: &[Option<Fact>], claims: &[Fact], doubt: &mut Option<String>) -> Vec<u8> {
+    let stored: Vec<Fact> = facts.iter().flatten().copied().collect();
+    let rows = Rows::derive(pieces, &stored);
+    if rows.contradictory() {
+        *doubt = Some("contradictory by the rules and not by layings".into());
+    }
+    let answers: Vec<u8> = claims.iter().map(|&claim| verdict(&rows, claim)).collect();
+    if pieces <= SMALL {
+        let single = Facts::derive(pieces, &stored);
+        if !claims.iter().map(|&claim| verdict(&single, claim)).eq(answers.iter().copied()) {
+            *doubt = Some("the rules by rows and by single facts answer differently".into());
+        }
+    }
+    answers
+}
+
+fn refused((number, place): Refusal, change: Change) -> (Outcome, Change) {
+    (Outcome { number, place, pieces: 0, nodes: 0, shadows: 0 }, change)
+}
+
+fn judge_whole(book: &[u8], claims: Option<&[u8]>, lengths: Lengths, doubt: &mut Option<String>) -> Result<(Outcome, Change), Refusal> {
+    let fits = lengths.parentheses >= 2560 && lengths.marks >= 1280 && lengths.shadows >= 8192 && lengths.places >= 2048;
+    if !fits || claims.is_some_and(|claims| lengths.answers < claims.len() / 6) {
+        return Err((1, 0));
+    }
+    let (facts, pieces) = read_book(book)?;
+    let claims = claims.map(|claims| read_claims(claims, pieces)).transpose()?;
+    if let Some(last) = contradiction(pieces, &facts, doubt) {
+        return Ok(refused((14, last as u32), Change::Index(cleared())));
+    }
+    let (index, nodes, shadows) = build(pieces, &facts);
+    let outcome = Outcome { number: 0, place: 0, pieces: pieces as u32, nodes: nodes as u32, shadows: shadows as u32 };
+    let change = match claims {
+        Some(claims) => Change::IndexAndAnswers(index, answer(pieces, &facts, &claims, doubt)),
+        None => Change::Index(index),
+    };
+    Ok((outcome, change))
+}
+
+/// What the call that answers claims, or without claims the one that writes the index alone, must return and do.
+pub fn judge(book: &[u8], claims: Option<&[u8]>, lengths: Lengths) -> Expected {
+    let mut doubt = None;
+    let (outcome, change) = judge_whole(book, claims, lengths, &mut doubt).unwrap_or_else(|refusal| refused(refusal, Change::Nothing));
+    Expected { outcome, change, doubt }
+}

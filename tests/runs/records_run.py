@@ -1,0 +1,139 @@
+"""What records_run must print: document 01's rows 2 to 13 on books and claims that meet each of them.
+
+Every row is a condition on a whole record, taken from the table; a book's outcome is the least (place, row) that refuses.
+"""
+import itertools
+import struct
+
+FACTS = {1, 2, 3, 4}
+
+
+def pack(kind, a, b, byte1=0):
+    return struct.pack("<BBHH", kind, byte1, a, b)
+
+
+def split(data):
+    return [data[i : i + 6] for i in range(0, len(data) // 6 * 6, 6)]
+
+
+def named(kind, a, b):
+    return {a, b} if kind in FACTS else {a}
+
+
+def record_rows(record, seen):
+    """The numbers of all rows that refuse a record, given the records before it."""
+    kind, byte1, a, b = struct.unpack("<BBHH", record)
+    tests = {
+        5: not 1 <= kind <= 5,
+        6: byte1 != 0,
+        7: any(piece > 2047 for piece in named(kind, a, b)),
+        8: kind == 1 and not b < a,
+        9: record in seen,
+    }
+    return [row for row, refuses in tests.items() if refuses]
+
+
+def claim_rows(claim, pieces):
+    kind, byte1, a, b = struct.unpack("<BBHH", claim)
+    tests = {12: kind not in FACTS or byte1 != 0, 13: max(a, b) not in range(pieces)}
+    return [row for row, refuses in tests.items() if refuses]
+
+
+def book(data):
+    lengths = {2: not data, 3: len(data) % 6 != 0, 4: len(data) // 6 > 8192}
+    for row in sorted(lengths):
+        if lengths[row]:
+            return f"{row} 0"
+    seen, pieces = set(), set()
+    refusals = []
+    for place, record in enumerate(split(data)):
+        refusals += [(place, row) for row in record_rows(record, seen)]
+        kind, _, a, b = struct.unpack("<BBHH", record)
+        pieces |= named(kind, a, b)
+        seen.add(record)
+    if refusals:
+        place, row = min(refusals)
+        return f"{row} {place}"
+    return f"0 {max(pieces) + 1}"
+
+
+def claims(data, pieces):
+    lengths = {10: len(data) % 6 != 0, 11: len(data) // 6 > 4096}
+    for row in sorted(lengths):
+        if lengths[row]:
+            return f"{row} 0"
+    refusals = [(place, row) for place, claim in enumerate(split(data)) for row in claim_rows(claim, pieces)]
+    if refusals:
+        place, row = min(refusals)
+        return f"{row} {place}"
+    return "0 0"
+
+
+SAMPLES = [
+    pack(1, 3, 1),
+    pack(2, 3, 4),
+    pack(2, 4, 3),
+    pack(5, 2047, 65535),
+    pack(4, 0, 2047),
+    pack(1, 3, 3),
+    pack(1, 0, 0),
+    pack(1, 2048, 2048),
+    pack(3, 0, 2048),
+    pack(1, 2048, 2048, 1),
+    pack(0, 2048, 2048, 1),
+    pack(6, 1, 0),
+]
+
+
+def sampled(count):
+    """All runs of so many samples, the first record changing fastest."""
+    for run in itertools.product(SAMPLES, repeat=count):
+        yield b"".join(reversed(run))
+
+
+def varied(first, second):
+    for at in range(6):
+        for value in range(256):
+            changed = bytearray(first + second)
+            changed[6 + at] = value
+            yield bytes(changed)
+
+
+def lines():
+    three = SAMPLES[0] + SAMPLES[1] + SAMPLES[2]
+    for length in range(19):
+        yield book(three[:length])
+        yield claims(three[:length], 6)
+    for count in (1, 2, 3):
+        yield from map(book, sampled(count))
+    for kind in (1, 5):
+        yield from map(book, varied(pack(1, 5, 2), pack(kind, 300, 7)))
+    for pieces in (1, 5, 2048):
+        for run in sampled(2):
+            yield claims(run, pieces)
+    for run in varied(pack(4, 1, 299), pack(2, 256, 7)):
+        yield claims(run, 300)
+
+    trays = [pack(5, i % 2048, i) for i in range(8193)]
+    full = b"".join(trays)
+    for length in (49152, 49158, 49151, 49157):
+        yield book(full[:length])
+    trays[8191] = pack(5, 0, 0)
+    yield book(b"".join(trays[:8192]))
+    yield book(b"".join(trays))
+    trays[8191] = pack(5, 2046, 8190)
+    yield book(b"".join(trays[:8192]))
+    trays[8191] = pack(5, 2047, 65535)
+    yield book(b"".join(trays[:8192]))
+    trays[0] = pack(0, 0, 0)
+    yield book(b"".join(trays[:8192]))
+    yield book(b"".join(trays))
+
+    asked = [pack(1, 0, 0)] * 4097
+    for length in (24576, 24582, 24581):
+        yield claims(b"".join(asked)[:length], 1)
+    asked[4095] = pack(1, 0, 1)
+    yield claims(b"".join(asked[:4096]), 1)
+    yield claims(b"".join(asked[:4096]), 2)
+    asked[4094] = pack(5, 0, 0)
+    yield claims(b"".join(asked[:4096]), 1)
