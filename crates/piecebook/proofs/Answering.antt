@@ -18,6 +18,7 @@ use Rattle.records.specs.Record.{recordAt, records}
 use Rattle.records.specs.Pieces.{stated}
 use Rattle.records.specs.Facts.{saying}
 use Rattle.records.specs.Check.{claimsCheck}
+use Rattle.records.specs.declared.Record.{Record}
 use Rattle.records.specs.declared.ClaimsCheck.the-variants as claims
 use Rattle.records.proofs.Accepted.{AcceptedClaims, accepted-claims, says-left, says-right}
 use Rattle.closure.specs.Bounded.{Bounded}
@@ -64,6 +65,12 @@ module _ (cs d u p t q : List ℕ) where
           let w = asked cs n i f (rw e at h) in
           rw e (getD-set-same answers i v 0 l ∙ A .is n fs B C (w .a) (w .b))
       pick n fs B C f j k h (no e) = getD-set-other answers i j v 0 e ∙ S .each n fs B C f j (omega arith) h
+
+  -- the same, of the record that was read and the byte that was written
+  pub standing-read :
+      (answers : List ℕ) (i v w : ℕ) (r : Record) → r ≡ recordAt cs i → v ≡ w → i < length answers → Standing cs d u p t q answers i
+      → Answered d u p t q (r .kind) (r .a) (r .b) w → Standing cs d u p t q (set answers i v) (i + 1)
+  standing-read answers i v w r e f l S A = rw f (standing-more answers i w l S (rw e at A))
 
   pub standing-all : (answers : List ℕ) (i : ℕ) → i ≡ records cs → length answers ≡ records cs → Standing cs d u p t q answers i → Answers cs d u p t q answers
   standing-all answers i e z S = record {

@@ -13,6 +13,7 @@ use Rattle.records.specs.Record.{records}
 use Rattle.records.specs.Refusal.{refusalNumber}
 use Rattle.containment.specs.Parts as on
 use Rattle.piecebook.specs.Lent.{Lent, lent, front}
+use Rattle.piecebook.specs.Judging.{Fitting}
 use Rattle.piecebook.specs.Call.{answersTo, indexed, cleared, left}
 use Rattle.piecebook.specs.declared.Outcome.{Outcome}
 use Rattle.piecebook.specs.declared.Outcome.the-variants.{Accepted, Refused}
@@ -40,10 +41,6 @@ pub packed-long : (k : ℕ) (bs : List Bool) → length (on.packed k bs) ≡ k
 unfolding on.packed
 packed-long k bs = tab-length _ 0 k
 
-pub padded-long : (k : ℕ) (xs : List ℕ) → length (on.padded k xs) ≡ k
-unfolding on.padded
-padded-long k xs = tab-length _ 0 k
-
 pub answers-long : (s : List ℕ) (n : ℕ) (cs : List ℕ) → length (answersTo s n cs) ≡ records cs
 unfolding answersTo
 answers-long s n cs = tab-length _ 0 (records cs)
@@ -68,16 +65,16 @@ pub same-lent : {a a′ b b′ c c′ d d′ e e′ : List ℕ} → a ≡ a′ �
 same-lent p q r s t = rw (p, q, r, s, t)
 
 -- what is left in the parts, put back, is what is left in the buffers
-pub left-back : (s cs : List ℕ) (l : Lent) (r : Outcome) → Long cs l → put-back (records cs) l (left s cs (cut (records cs) l) r) ≡ left s cs l r
+pub left-back : (s cs : List ℕ) (l : Lent) (r : Outcome) → Long cs l → Fitting s r → put-back (records cs) l (left s cs (cut (records cs) l) r) ≡ left s cs l r
 unfolding left indexed cleared
-left-back s cs l (Accepted n nodes shadows) L =
+left-back s cs l (Accepted n nodes shadows) L F =
     same-lent
     (front-part 2560 _ (l .parens) (L .parens) (packed-long 2560 _))
     (front-part 1280 _ (l .marks) (L .marks) (packed-long 1280 _))
-    (front-part 8192 _ (l .shadows) (L .shadows) (padded-long 8192 _))
-    (front-part 2048 _ (l .places) (L .places) (padded-long 2048 _))
+    (front-part 8192 _ (l .shadows) (L .shadows) (F .0))
+    (front-part 2048 _ (l .places) (L .places) (F .1))
     (front-part (records cs) _ (l .answers) (L .answers) (answers-long s n cs))
-left-back s cs l (Refused x i) L = pick (eqb (refusalNumber x) 14)
+left-back s cs l (Refused x i) L F = pick (eqb (refusalNumber x) 14)
   where
     pick :
         (b : Bool) → put-back (records cs) l (elim b [ true ↦ cleared (cut (records cs) l) | false ↦ cut (records cs) l ]) ≡ elim b [ true ↦ cleared l | false ↦ l ]

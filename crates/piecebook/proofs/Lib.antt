@@ -3,3 +3,4 @@ pub mod Kept
 pub mod Buffers
 pub mod Judges
 pub mod Answering
+pub mod Calls

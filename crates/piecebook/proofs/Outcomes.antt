@@ -31,7 +31,7 @@ use Rattle.piecebook.specs.declared.Outcome.the-variants.{Accepted, Refu
 
 -- ---- no row but the last gives number 14
 
-abbrev Other : Refusal → Type 0
+abbrev pub Other : Refusal → Type 0
 Other r = refusalNumber r ≡ 14 → ⊥
 
 abbrev Others : Finding → Type 0
@@ -71,21 +71,21 @@ module _ {A : Type 0} (Q : A → Type 0) (refused : Refusal → ℕ → A) (q : 
   scanned accepted p find h i zero = p
   scanned accepted p find h i (suc n) = judged i _ (scanned accepted p find h (suc i) n) (find i) (h i)
 
-abbrev BookOther : BookCheck → Type 0
+abbrev pub BookOther : BookCheck → Type 0
 BookOther (book.Accepted n) = Unit {0}
 BookOther (book.Refused r i) = Other r
 
-book-other : (s : List ℕ) → BookOther (bookCheck s)
+pub book-other : (s : List ℕ) → BookOther (bookCheck s)
 unfolding bookCheck
 book-other s =
     judged BookOther book.Refused (λ r i o. o) 0 _ (scanned BookOther book.Refused (λ r i o. o) _ tt (recordFinding s) (record-other s) 0 (records s)) _
     (row-other (emptyBook s) EmptyBook _ (omega arith) (row-other (ragged s) BookLength _ (omega arith) (row-other (moreThan 8192 s) TooManyRecords _ (omega arith) fit-other)))
 
-abbrev ClaimsOther : ClaimsCheck → Type 0
+abbrev pub ClaimsOther : ClaimsCheck → Type 0
 ClaimsOther claims.Accepted = Unit {0}
 ClaimsOther (claims.Refused r i) = Other r
 
-claims-other : (n : ℕ) (cs : List ℕ) → ClaimsOther (claimsCheck n cs)
+pub claims-other : (n : ℕ) (cs : List ℕ) → ClaimsOther (claimsCheck n cs)
 unfolding claimsCheck
 claims-other n cs =
     judged ClaimsOther claims.Refused (λ r i o. o) 0 _ (scanned ClaimsOther claims.Refused (λ r i o. o) _ tt _ (λ i. claim-other n (claimAt cs i)) 0 (records cs)) _

@@ -22,6 +22,7 @@ use Rattle.records.specs.declared.ClaimsCheck.the-variants as claims
 use Rattle.containment.specs.Pairs.{joined}
 use Rattle.containment.specs.Stored.{partIn}
 use Rattle.containment.specs.Index.{parenthesesOf, visitsOf}
+use Rattle.parentheses.specs.Padded.{padded}
 use Rattle.containment.specs.Parts as on
 use Rattle.piecebook.specs.Lent.{Lent, shortLent, front}
 use Rattle.piecebook.specs.declared.Outcome.{Outcome}
@@ -65,8 +66,8 @@ unfoldable pub indexed : List ℕ → List ℕ → ℕ → Lent → Lent
 indexed s cs n l = record {
   parens = front (on.packed 2560 (parenthesesOf n (edges n s))) (l .parens);
   marks = front (on.packed 1280 (on.marks (visitsOf n (edges n s)))) (l .marks);
-  shadows = front (on.padded 8192 (on.shadowList (visitsOf n (edges n s)))) (l .shadows);
-  places = front (on.padded 2048 (on.placeList n (visitsOf n (edges n s)))) (l .places);
+  shadows = front (padded 0 8192 (on.shadowList (visitsOf n (edges n s)))) (l .shadows);
+  places = front (padded 0 2048 (on.placeList n (visitsOf n (edges n s)))) (l .places);
   answers = front (answersTo s n cs) (l .answers);
 }
 

@@ -14,10 +14,15 @@ use Rattle.records.specs.Check.{bookCheck, claimsCheck}
 use Rattle.records.specs.declared.BookCheck.the-variants as book
 use Rattle.records.specs.declared.ClaimsCheck.the-variants as claims
 use Rattle.closure.specs.Bounded.{Bounded}
-use Rattle.closure.specs.Closed.{Holds, Closed, partBit, towardBit, edgeBit}
+use Rattle.closure.specs.Stored.{edgeBit}
+use Rattle.closure.specs.Closed.{Holds, Closed, partBit, towardBit}
 use Rattle.piecebook.specs.Lent.{Lent}
-use Rattle.piecebook.specs.Call.{claimed, byRuns, left}
+use Rattle.parentheses.specs.Padded.{padded}
+use Rattle.containment.specs.Index.{visitsOf}
+use Rattle.containment.specs.Parts as on
+use Rattle.piecebook.specs.Call.{edges, claimed, byRuns, left}
 use Rattle.piecebook.specs.declared.Outcome.{Outcome}
+use Rattle.piecebook.specs.declared.Outcome.the-variants.{Accepted, Refused}
 
 -- five matrices, claims on n pieces, and room for their answers
 pub record Closing (cs d u p t q : List ℕ) (room : ℕ) : Type 0 where
@@ -63,7 +68,14 @@ pub record Exact (s : List ℕ) (n : ℕ) (cs : List ℕ) (l : Lent) : Type 0 wh
   pub places-long : length (l .places) ≡ 2048
   pub answers-long : length (l .answers) ≡ records cs
 
+-- the shadow list and the place list fit into document 01's lengths
+abbrev pub Fitting : List ℕ → Outcome → Type 0
+Fitting s (Accepted n nodes shadows) =
+    (length (padded 0 8192 (on.shadowList (visitsOf n (edges n s)))) ≡ 8192) × (length (padded 0 2048 (on.placeList n (visitsOf n (edges n s)))) ≡ 2048)
+Fitting s (Refused r i) = Unit {0}
+
 -- row 14's outcome, and what it leaves in them
 pub record Judged (s : List ℕ) (n : ℕ) (cs : List ℕ) (l : Lent) (r : Outcome) (l′ : Lent) : Type 0 where
   pub outcome-is : r ≡ byRuns s n
   pub left-is : l′ ≡ left s cs l r
+  pub fitting : Fitting s r

@@ -55,7 +55,15 @@ fn answer_each(
 }
 
 // Answers the claims on a book that is not contradictory: e are its edges, d and t its first two matrices.
-fn answer_all(book: &[u8], n: usize, claims: &[u8], e: &[u64], d: &[u64], t: &[u64], answers: &mut [u8])
+fn answer_all(
+    book: &[u8],
+    n: usize,
+    claims: &[u8],
+    e: &[u64],
+    d: &[u64],
+    t: &[u64],
+    answers: &mut [u8],
+)
     requires { ⌜ Answerable (now book) n (now claims) (now e) (now d) (now t) (length (now answers)) ⌝ }
     ensures { λ _. ⌜ now (answers .exit) ≡ answersTo (now (book .entry)) n (now (claims .entry)) ⌝ }
 {
@@ -97,7 +105,17 @@ fn judge(
     closure::edges(book, n, &mut e);
     closure::meeting(book, n, &e, &mut t);
     if closure::clashes(book, &d, &t) {
-        let place = closure::contradiction(book, n, &mut e, &mut d, &mut t, parens, marks, shadows, places);
+        let place = closure::contradiction(
+            book,
+            n,
+            &mut e,
+            &mut d,
+            &mut t,
+            parens,
+            marks,
+            shadows,
+            places,
+        );
         clear_index(parens, marks, shadows, places);
         return Outcome::Refused(Refusal::Contradiction, place);
     }
@@ -106,7 +124,14 @@ fn judge(
 }
 
 // Row 1.
-fn short(parens: usize, marks: usize, shadows: usize, places: usize, answers: usize, claims: usize) -> bool
+fn short(
+    parens: usize,
+    marks: usize,
+    shadows: usize,
+    places: usize,
+    answers: usize,
+    claims: usize,
+) -> bool
     ensures { λ r. ⌜ r ≡ (ltb parens 2560 || (ltb marks 1280 || (ltb shadows 8192 || (ltb places 2048 || ltb answers claims)))) ⌝ }
 {
     if parens < 2560 {
@@ -139,7 +164,14 @@ pub fn answer_claims(
     ensures demand3 { λ r. ⌜ Demand3 (now (book .entry)) (now (claims .entry)) (now (answers .exit)) r ⌝ }
 {
     let asked = claims.len() / 6;
-    if short(parens.len(), marks.len(), shadows.len(), places.len(), answers.len(), asked) {
+    if short(
+        parens.len(),
+        marks.len(),
+        shadows.len(),
+        places.len(),
+        answers.len(),
+        asked,
+    ) {
         return Outcome::Refused(Refusal::ShortBuffer, 0);
     }
     let checked = records::check_book(book);
@@ -165,11 +197,25 @@ pub fn answer_claims(
 }
 
 // Writes the index alone: the call with no claims and no answers.
-pub fn write_index(book: &[u8], parens: &mut [u8], marks: &mut [u8], shadows: &mut [u16], places: &mut [u16]) -> Outcome
+pub fn write_index(
+    book: &[u8],
+    parens: &mut [u8],
+    marks: &mut [u8],
+    shadows: &mut [u16],
+    places: &mut [u16],
+) -> Outcome
     ensures determined { λ r. ⌜ Determined (now (book .entry)) [] (lent (now (parens .entry)) (now (marks .entry)) (now (shadows .entry)) (now (places .entry)) []) r (lent (now (parens .exit)) (now (marks .exit)) (now (shadows .exit)) (now (places .exit)) []) ⌝ }
     ensures demand3 { λ r. ⌜ Demand3 (now (book .entry)) [] [] r ⌝ }
 {
     let claims = [0u8; 1];
     let mut answers = [0u8; 1];
-    answer_claims(book, &claims[..0], parens, marks, shadows, places, &mut answers[..0])
+    answer_claims(
+        book,
+        &claims[..0],
+        parens,
+        marks,
+        shadows,
+        places,
+        &mut answers[..0],
+    )
 }
