@@ -3,3 +3,4 @@ pub mod Lent
 pub mod Call
 pub mod Demands
 pub mod Judging
+pub mod Exported

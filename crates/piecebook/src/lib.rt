@@ -8,6 +8,7 @@ ghost use Rattle.closure.specs.Answers.{answerByte};
 ghost use Rattle.piecebook.specs.Lent.{lent};
 ghost use Rattle.piecebook.specs.Call.{answersTo, Determined};
 ghost use Rattle.piecebook.specs.Demands.{Demand2, Demand3};
+ghost use Rattle.piecebook.specs.Exported.{Reported, Exported};
 ghost use Rattle.piecebook.specs.Judging.{Closing, Answers, Answerable, Cleared, Exact, Judged};
 use closure::Answer;
 use records::BookCheck;
@@ -218,4 +219,71 @@ pub fn write_index(
         places,
         &mut answers[..0],
     )
+}
+
+// The outcome as include/piecebook.h has it.
+#[repr(C)]
+pub struct PiecebookResult {
+    pub number: usize,
+    pub place: usize,
+    pub pieces: usize,
+    pub nodes: usize,
+    pub shadows: usize,
+}
+
+fn wide(x: u8) -> usize
+    ensures { λ r. ⌜ r ≡ x ⌝ }
+{
+    x as usize
+}
+
+fn result_of(outcome: Outcome) -> PiecebookResult
+    ensures { λ r. ⌜ Reported outcome r ⌝ }
+{
+    match outcome {
+        Outcome::Accepted(pieces, nodes, shadows) => PiecebookResult {
+            number: 0,
+            place: 0,
+            pieces,
+            nodes,
+            shadows,
+        },
+        Outcome::Refused(refusal, place) => PiecebookResult {
+            number: wide(records::refusal_number(refusal)),
+            place,
+            pieces: 0,
+            nodes: 0,
+            shadows: 0,
+        },
+    }
+}
+
+#[no_mangle]
+pub extern "C" fn piecebook_answer(
+    book: &[u8],
+    claims: &[u8],
+    parens: &mut [u8],
+    marks: &mut [u8],
+    shadows: &mut [u16],
+    places: &mut [u16],
+    answers: &mut [u8],
+) -> PiecebookResult
+    ensures { λ r. ⌜ Exported (now (book .entry)) (now (claims .entry)) (lent (now (parens .entry)) (now (marks .entry)) (now (shadows .entry)) (now (places .entry)) (now (answers .entry))) r (lent (now (parens .exit)) (now (marks .exit)) (now (shadows .exit)) (now (places .exit)) (now (answers .exit))) ⌝ }
+{
+    let outcome = answer_claims(book, claims, parens, marks, shadows, places, answers);
+    result_of(outcome)
+}
+
+#[no_mangle]
+pub extern "C" fn piecebook_index(
+    book: &[u8],
+    parens: &mut [u8],
+    marks: &mut [u8],
+    shadows: &mut [u16],
+    places: &mut [u16],
+) -> PiecebookResult
+    ensures { λ r. ⌜ Exported (now (book .entry)) [] (lent (now (parens .entry)) (now (marks .entry)) (now (shadows .entry)) (now (places .entry)) []) r (lent (now (parens .exit)) (now (marks .exit)) (now (shadows .exit)) (now (places .exit)) []) ⌝ }
+{
+    let outcome = write_index(book, parens, marks, shadows, places);
+    result_of(outcome)
 }

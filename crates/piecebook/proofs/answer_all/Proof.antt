@@ -6,10 +6,6 @@ use Rattle.piecebook.proofs.Judges.{bounded, ordered}
 use borrow.Author.Needs.{needs}
 use Rattle.piecebook.proofs.answer_all.Statement.{statement}
 use Rattle.piecebook.proofs.answer_all.Tie as tie
-use Rattle.piecebook.proofs.answer_all.Reads as reads
-use Rattle.piecebook.proofs.answer_all.Lts as lts
-use Rattle.closure.proofs.complete.Reads as complete-reads
-use Rattle.piecebook.proofs.answer_each.Reads as answer-each-reads
 
 slice-aggregate-complete : tie.Need-slice-aggregate-complete
 slice-aggregate-complete c = search needs

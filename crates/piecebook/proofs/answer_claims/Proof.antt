@@ -9,12 +9,6 @@ use Rattle.piecebook.proofs.Calls.{long, short-refused, book-refused, c
 use borrow.Author.Needs.{needs}
 use Rattle.piecebook.proofs.answer_claims.Statement.{statement}
 use Rattle.piecebook.proofs.answer_claims.Tie as tie
-use Rattle.piecebook.proofs.answer_claims.Reads as reads
-use Rattle.piecebook.proofs.answer_claims.Lts as lts
-use Rattle.piecebook.proofs.judge.Reads as judge-reads
-use Rattle.piecebook.proofs.short.Reads as short-reads
-use Rattle.records.proofs.check_book.Reads as check-book-reads
-use Rattle.records.proofs.check_claims.Reads as check-claims-reads
 
 short-requires : tie.Need-short-requires
 short-requires c κs = search needs

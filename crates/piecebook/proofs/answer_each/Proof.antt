@@ -6,11 +6,6 @@ use lib.ListN.{length, length-set}
 use Rattle.piecebook.proofs.Answering.{Standing, Asked, asked, standing-none, standing-read, standing-all}
 use Rattle.piecebook.proofs.answer_each.Statement.{statement}
 use Rattle.piecebook.proofs.answer_each.Tie as tie
-use Rattle.piecebook.proofs.answer_each.Reads as reads
-use Rattle.piecebook.proofs.answer_each.Lts as lts
-use Rattle.closure.proofs.answer_to.Reads as answer-to-reads
-use Rattle.piecebook.proofs.byte_of.Reads as byte-of-reads
-use Rattle.records.proofs.record_at.Reads as record-at-reads
 
 abbrev Inv-loop : tie.InvT-loop
 Inv-loop claims d u p t q answers₀ n i₀ answers i = (i ≤ length claims / 6) × (length answers ≡ length answers₀) × Standing claims d u p t q answers i

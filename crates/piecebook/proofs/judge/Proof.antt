@@ -8,15 +8,6 @@ use Rattle.piecebook.proofs.Judges.{bounded, ordered, roomy-at, cleared
 use borrow.Author.Needs.{needs}
 use Rattle.piecebook.proofs.judge.Statement.{statement}
 use Rattle.piecebook.proofs.judge.Tie as tie
-use Rattle.piecebook.proofs.judge.Reads as reads
-use Rattle.piecebook.proofs.judge.Lts as lts
-use Rattle.closure.proofs.clashes.Reads as clashes-reads
-use Rattle.closure.proofs.contained.Reads as contained-reads
-use Rattle.closure.proofs.contradiction.Reads as contradiction-reads
-use Rattle.closure.proofs.edges.Reads as edges-reads
-use Rattle.closure.proofs.meeting.Reads as meeting-reads
-use Rattle.piecebook.proofs.answer_all.Reads as answer-all-reads
-use Rattle.piecebook.proofs.clear_index.Reads as clear-index-reads
 
 slice-aggregate-contained : tie.Need-slice-aggregate-contained
 slice-aggregate-contained c = search needs

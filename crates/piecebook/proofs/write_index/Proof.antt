@@ -3,9 +3,6 @@ use Rattle.piecebook.proofs.Calls.{alone}
 use borrow.Author.Needs.{needs}
 use Rattle.piecebook.proofs.write_index.Statement.{statement}
 use Rattle.piecebook.proofs.write_index.Tie as tie
-use Rattle.piecebook.proofs.write_index.Reads as reads
-use Rattle.piecebook.proofs.write_index.Lts as lts
-use Rattle.piecebook.proofs.answer_claims.Reads as answer-claims-reads
 
 array-share-prefix-claims : tie.Need-array-share-prefix-claims
 array-share-prefix-claims c = search needs
