@@ -51,7 +51,7 @@ fn set_place(places: &mut [u16], g: DatasetId, t: TreeId)
     places[i] = narrow(k);
 }
 
-fn clear(list: &mut [u16])
+pub fn clear(list: &mut [u16])
     ensures { λ _. ⌜ now (list .exit) ≡ replicate (length (now (list .entry))) 0 ⌝ }
 {
     let mut done: usize = 0;

@@ -1,0 +1,128 @@
+-- The shortest contradictory run of a book by halving. Assumes nothing.
+use Prim.Native.Nat.{ℕ, zero, suc, _+_, _*_, _/_, _<_, _≤_}
+use mathlib.Core.Path.{_≡_, refl, sym, ap, _∙_, subst}
+use mathlib.Core.Bool.{Bool, true, false, false≢true}
+use mathlib.Core.List.{List, [], _∷_, List·Memᴰ}
+use native.Mathlib.Decide.{ℕ-discrete}
+use native.Mathlib.Omega.{arith}
+use lib.ListN.{length, take}
+use lib.Seq.{take-length, length-take-le}
+use Rattle.lists.specs.Any.{any}
+use Rattle.lists.proofs.Bools.{not-true}
+use Rattle.rules.specs.Fact.{Fact, PART}
+use Rattle.rules.specs.Follows.{storing, clash}
+use Rattle.rules.specs.Entries.{Entry, fact, none, factsOf, shortestClash}
+use Rattle.rules.proofs.More.{Among}
+use Rattle.rules.proofs.Runs.{run-among, clash-grows, shortest-at}
+use Rattle.records.specs.Record.{records}
+use Rattle.records.specs.Facts.{entries, facts}
+use Rattle.records.proofs.Runs.{entries-length, run-entries}
+use Rattle.closure.specs.Bounded.{Bounded}
+use Rattle.closure.specs.Ordered.{Ordered, Roomy}
+
+-- ---- what a run from the start keeps of the whole
+
+module _ (s : List ℕ) (k : ℕ) (fits : 6 * k ≤ length s) where
+  run-facts : facts (take (6 * k) s) ≡ factsOf (take k (entries s))
+  run-facts = ap factsOf (run-entries s k fits)
+
+  run-of : Among (facts (take (6 * k) s)) (facts s)
+  run-of f m = run-among (entries s) k (rw entries-length (omega arith)) f (rw run-facts at m)
+
+  pub run-bounded : {n : ℕ} → Bounded n (facts s) → Bounded n (facts (take (6 * k) s))
+  run-bounded B = record { some = B .some; fits = B .fits; within = λ f m. B .within f (run-of f m) }
+
+  pub run-ordered : Ordered (facts s) → Ordered (facts (take (6 * k) s))
+  run-ordered O = record { lower = λ p c m. O .lower p c (run-of (PART p c) m) }
+
+  pub run-roomy : {n b mb sc pc : ℕ} → Roomy n (length s / 6) b mb sc pc → Roomy n (length (take (6 * k) s) / 6) b mb sc pc
+  run-roomy R =
+      let e = length-take-le (6 * k) s fits in
+      record {
+        few = omega (arith, R .few);
+        parens = omega (arith, R .parens);
+        marks = omega (arith, R .marks);
+        shadows = omega (arith, R .shadows);
+        places = R .places;
+      }
+
+-- the same lengths
+pub roomy-same :
+    {n k b mb sc pc b′ mb′ sc′ pc′ : ℕ} → b′ ≡ b → mb′ ≡ mb → sc′ ≡ sc → pc′ ≡ pc → Roomy n k b mb sc pc → Roomy n k b′ mb′ sc′ pc′
+roomy-same e f g h R =
+    record {
+      few = R .few;
+      parens = omega (arith, R .parens);
+      marks = omega (arith, R .marks);
+      shadows = omega (arith, R .shadows);
+      places = omega (arith, R .places);
+    }
+
+-- no more facts than records
+facts-few : (es : List Entry) → length (factsOf es) ≤ length es
+unfolding factsOf
+facts-few [] = omega arith
+facts-few (fact f ∷ es) = omega (arith, facts-few es)
+facts-few (none ∷ es) = omega (arith, facts-few es)
+
+pub facts-roomy : (s : List ℕ) (n b mb sc pc : ℕ) → Roomy n (length s / 6) b mb sc pc → Roomy n (length (facts s)) b mb sc pc
+facts-roomy s n b mb sc pc R =
+    let e = facts-few (entries s) in
+    let z = entries-length s in
+    record {
+      few = omega (arith, R .few);
+      parens = omega (arith, R .parens);
+      marks = omega (arith, R .marks);
+      shadows = omega (arith, R .shadows);
+      places = R .places;
+    }
+
+-- ---- the halving
+
+-- the run of `high` records is contradictory and that of `low` is not
+pub record Halving (n : ℕ) (s : List ℕ) (low high : ℕ) : Type 0 where
+  pub order : low < high
+  pub upto : high ≤ length s / 6
+  pub free : clash n (factsOf (take low (entries s))) ≡ false
+  pub hit : clash n (factsOf (take high (entries s))) ≡ true
+
+nothing-clashes : (n : ℕ) → clash n [] ≡ false
+unfolding clash storing any
+nothing-clashes n = refl
+
+module _ (n : ℕ) (s : List ℕ) where
+  whole : clash n (facts s) ≡ true → clash n (factsOf (take (length s / 6) (entries s))) ≡ true
+  whole e = ap (λ (k : ℕ). clash n (factsOf (take k (entries s)))) (sym (entries-length s)) ∙ ap (λ (es : List Entry). clash n (factsOf es)) (take-length (entries s)) ∙ e
+
+  pub halving-start : clash n (facts s) ≡ true → Halving n s 0 (length s / 6)
+  unfolding factsOf
+  halving-start e =
+      record {
+        order =
+            elim (ℕ-discrete (length s / 6) 0) [
+              | yes z ↦ absurd (false≢true (sym (nothing-clashes n) ∙ ap (λ (k : ℕ). clash n (factsOf (take k (entries s)))) (sym z) ∙ whole e))
+              | no z ↦ omega arith
+            ];
+        upto = omega arith;
+        free = nothing-clashes n;
+        hit = whole e;
+      }
+
+  module _ (low high mid : ℕ) (H : Halving n s low high) (v : Bool) (is : v ≡ clash n (facts (take (6 * mid) s))) where
+    told : mid ≤ length s / 6 → clash n (factsOf (take mid (entries s))) ≡ v
+    told l = sym (is ∙ ap (clash n) (run-facts s mid (omega arith)))
+
+    pub halving-high : low < mid → mid < high → v ≡ true → Halving n s low mid
+    halving-high l h e = record { order = l; upto = omega (arith, H .upto); free = H .free; hit = told (omega (arith, H .upto)) ∙ e }
+
+    pub halving-low : low < mid → mid < high → v ≡ false → Halving n s mid high
+    halving-low l h e = record { order = h; upto = H .upto; free = told (omega (arith, H .upto)) ∙ e; hit = H .hit }
+
+  pub halving-done : (low high : ℕ) → Bounded n (facts s) → high ≤ low + 1 → Halving n s low high → low + 1 ≡ shortestClash n (entries s)
+  halving-done low high B l H =
+      let e : high ≡ low + 1 = omega (arith, H .order) in
+      let z = entries-length s in
+      sym
+      (shortest-at n (entries s) (B .within) (B .some) high (omega (arith, H .upto)) (H .hit)
+      (λ j k. not-true _ (λ t. false≢true (sym (H .free) ∙ clash-grows n (entries s) (B .within) (B .some) j low (omega arith) (omega (arith, H .upto)) t)))
+      ∙ e)

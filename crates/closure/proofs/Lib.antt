@@ -1,0 +1,10 @@
+pub mod StoredBits
+pub mod Runs
+pub mod Grows
+pub mod Storing
+pub mod Products
+pub mod Holding
+pub mod Answering
+pub mod Parts
+pub mod Steps
+pub mod Halving

@@ -1,0 +1,53 @@
+use native.Mathlib.Omega.{arith}
+use borrow.Author.Needs.{needs}
+use lib.ListN.{length}
+use Rattle.closure.proofs.Holding.{whole-holds}
+use Rattle.closure.proofs.Steps.{edges-rise, wholes-reached}
+use Rattle.closure.proofs.complete.Statement.{statement}
+use Rattle.closure.proofs.complete.Tie as tie
+
+parting-requires : tie.Need-parting-requires
+parting-requires c κs = search needs
+
+outing-requires : tie.Need-outing-requires
+outing-requires c κs = search needs
+
+clear-requires : tie.Need-clear-requires
+clear-requires c κs = search needs
+
+diagonal-requires : tie.Need-diagonal-requires
+diagonal-requires c κs = search needs
+
+join-against-requires : tie.Need-join-against-requires
+join-against-requires c κs = (search needs, search needs, search needs, edges-rise _ _ (c .before .before .before .before .before .before .before .before .before .before .before .before .before .before .before .before .before .before .before .before .before .before .before .before .before .before .pre .0) _ (c .before .before .before .before .before .before .before .before .before .before .before .before .before .before .before .before .before .before .before .before .before .before .before .before .before .before .pre .2) (c .before .before .before .before .before .before .before .before .before .before .before .before .before .before .before .before .before .before .before .before .before .before .before .before .before .before .pre .1))
+
+same-length : tie.Need-same-length
+same-length c = search needs
+
+same-length-2 : tie.Need-same-length-2
+same-length-2 c = search needs
+
+same-length-3 : tie.Need-same-length-3
+same-length-3 c = search needs
+
+returns : tie.Need-returns
+returns c =
+    let P = c .before .before .before .before .before .before .before .before .before .before .before .before .before .before .before .before .before .before .before .before .before .before .before .before .before .before .before .before .before .pre in (
+      whole-holds _ _ (length (c .before .before .before .before .before .before .before .before .before .before .before .before .before .before .before .before .outing .last .1 .1 .1 .1 .0)) (c .before .before .before .before .before .before .before .before .before .before .clear .ensures) (search needs) (c .before .before .before .before .before .before .diagonal .ensures) (c .before .before .join-against .ensures _ (wholes-reached _ _ (P .0) _ (P .2))),
+      c .before .before .before .before .before .before .before .before .before .before .before .before .before .before .before .before .before .before .before .before .before .before .parting .ensures,
+      c .before .before .before .before .before .before .before .before .before .before .before .before .before .before .before .before .outing .ensures,
+    )
+
+pub complete-spec : {M : Type 1} → statement M
+complete-spec =
+    tie.close
+    (tie.spec
+    parting-requires
+    outing-requires
+    clear-requires
+    diagonal-requires
+    join-against-requires
+    same-length
+    same-length-2
+    same-length-3
+    returns)

@@ -1,0 +1,23 @@
+use native.Mathlib.Omega.{arith}
+use borrow.Author.Needs.{needs}
+use Rattle.closure.proofs.Holding.{toward-holds}
+use Rattle.closure.proofs.Steps.{edges-rise, parts-reached}
+use Rattle.closure.proofs.meeting.Statement.{statement}
+use Rattle.closure.proofs.meeting.Tie as tie
+
+meets-requires : tie.Need-meets-requires
+meets-requires c κs = search needs
+
+join-along-requires : tie.Need-join-along-requires
+join-along-requires c κs = (search needs, search needs, search needs, edges-rise _ _ (c .before .before .before .before .before .before .before .before .pre .0) _ (c .before .before .before .before .before .before .before .before .pre .2) (c .before .before .before .before .before .before .before .before .pre .1))
+
+same-length : tie.Need-same-length
+same-length c = search needs
+
+returns : tie.Need-returns
+returns c =
+    let P = c .before .before .before .before .before .before .before .before .before .before .before .pre in
+    toward-holds _ _ (P .0 .within) (search needs) (c .before .before .before .before .before .before .meets .ensures) (c .before .before .join-along .ensures _ (parts-reached _ _ (P .0) _ (P .2)))
+
+pub meeting-spec : {M : Type 1} → statement M
+meeting-spec = tie.close (tie.spec meets-requires join-along-requires same-length returns)

@@ -1,0 +1,23 @@
+use native.Mathlib.Omega.{arith}
+use borrow.Author.Needs.{needs}
+use Rattle.closure.proofs.Holding.{below-2048, away-holds}
+use Rattle.closure.proofs.Steps.{edges-rise, wholes-reached}
+use Rattle.closure.proofs.parting.Statement.{statement}
+use Rattle.closure.proofs.parting.Tie as tie
+
+store-requires : tie.Need-store-requires
+store-requires c κs = (search needs, search needs, search needs, below-2048 (c .before .before .before .before .pre .0))
+
+join-against-requires : tie.Need-join-against-requires
+join-against-requires c κs = (search needs, search needs, search needs, edges-rise _ _ (c .before .before .before .before .before .before .before .before .pre .0) _ (c .before .before .before .before .before .before .before .before .pre .2) (c .before .before .before .before .before .before .before .before .pre .1))
+
+same-length : tie.Need-same-length
+same-length c = search needs
+
+returns : tie.Need-returns
+returns c =
+    let P = c .before .before .before .before .before .before .before .before .before .before .before .pre in
+    away-holds _ _ (P .0 .within) (search needs) (c .before .before .before .before .before .before .store .ensures) (c .before .before .join-against .ensures _ (wholes-reached _ _ (P .0) _ (P .2)))
+
+pub parting-spec : {M : Type 1} → statement M
+parting-spec = tie.close (tie.spec store-requires join-against-requires same-length returns)

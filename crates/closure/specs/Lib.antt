@@ -1,0 +1,7 @@
+pub mod Stored
+pub mod Closed
+pub mod Bounded
+pub mod Ordered
+pub mod Opposed
+pub mod Tells
+pub mod Answers

@@ -1,0 +1,318 @@
+// Every answer from one closure: containment and the stored facts as bit matrices, their products, and what those say of claims.
+ghost use mathlib.Core.Path.{_≡_};
+ghost use mathlib.Core.Bool.{true, false, _&&_, _||_};
+ghost use Prim.Native.Nat.{ℕ, _+_, _*_, _/_, _<_, _≤_};
+ghost use lib.Dec.{eqb, ltb};
+ghost use lib.ListN.{length};
+ghost use Rattle.relation.specs.Matrix.{bitOf};
+ghost use Rattle.rules.specs.Fact.{AllWithin};
+ghost use Rattle.rules.specs.Follows.{clash};
+ghost use Rattle.rules.specs.Entries.{shortestClash};
+ghost use Rattle.records.specs.Facts.{entries, facts};
+ghost use Rattle.containment.specs.Pairs.{joined};
+ghost use Rattle.containment.specs.Index.{Indexed};
+ghost use Rattle.closure.specs.Stored.{storedBit, meetBit, edgeBit};
+ghost use Rattle.closure.specs.Closed.{Grown, Holds, partBit, wholeBit, towardBit, awayBit, outBit, Closed};
+ghost use Rattle.closure.specs.Bounded.{Bounded};
+ghost use Rattle.containment.specs.Stored.{partIn};
+ghost use Rattle.closure.specs.Ordered.{Ordered, Roomy};
+ghost use Rattle.closure.specs.Opposed.{opposed};
+ghost use Rattle.closure.specs.Tells.{Derived, Answered, Clashing};
+ghost use Rattle.closure.specs.Answers.{answerByte};
+use records::Record;
+
+// What a book says of a claim.
+pub enum Answer {
+    Follows,
+    Denied,
+    Open,
+}
+
+// Sets bit i of row r, if so told.
+fn insert_where(on: bool, m: &mut [u64], r: usize, i: usize)
+    requires { ⌜ (length (now m) ≡ 65536) × (r < 2048) × (i < 2048) ⌝ }
+    ensures { λ _. ⌜ Grown (now (m .entry)) (now (m .exit)) (λ x y. on && (eqb r x && eqb i y)) ⌝ }
+{
+    if !on {
+        return;
+    }
+    relation::insert(m, r, i);
+}
+
+// Sets the bits of one record of that kind.
+fn store_record(m: &mut [u64], r: Record, kind: u8, straight: bool, swapped: bool)
+    requires { ⌜ (length (now m) ≡ 65536) × (r .kind ≡ kind → (r .a < 2048) × (r .b < 2048)) ⌝ }
+    ensures { λ _. ⌜ Grown (now (m .entry)) (now (m .exit)) (λ x y. eqb (r .kind) kind && ((straight && (eqb (r .a) x && eqb (r .b) y)) || (swapped && (eqb (r .a) y && eqb (r .b) x)))) ⌝ }
+{
+    if r.kind != kind {
+        return;
+    }
+    insert_where(straight, m, r.a, r.b);
+    insert_where(swapped, m, r.b, r.a);
+}
+
+// The stored facts of one kind as a matrix: bit b of row a where `straight`, bit a of row b where `swapped`.
+pub fn store(run: &[u8], kind: u8, straight: bool, swapped: bool, m: &mut [u64])
+    requires { ⌜ (length (now m) ≡ 65536) × (1 ≤ kind) × (kind ≤ 4) × AllWithin 2048 (facts (now run)) ⌝ }
+    ensures { λ _. ⌜ Holds (now (m .exit)) (storedBit (facts (now (run .entry))) kind straight swapped) ⌝ }
+{
+    relation::clear(m);
+    let n = run.len() / 6;
+    let mut i: usize = 0;
+    while i < n {
+        let r = records::record_at(run, i);
+        store_record(m, r, kind, straight, swapped);
+        i += 1;
+    }
+}
+
+// Sets the first n bits of the diagonal.
+pub fn diagonal(n: usize, m: &mut [u64])
+    requires { ⌜ (length (now m) ≡ 65536) × (n ≤ 2048) ⌝ }
+    ensures { λ _. ⌜ Grown (now (m .entry)) (now (m .exit)) (λ x y. eqb x y && ltb x n) ⌝ }
+{
+    let mut i: usize = 0;
+    while i < n {
+        relation::insert(m, i, i);
+        i += 1;
+    }
+}
+
+// Every piece but 0 as a part of piece 0.
+fn crown(n: usize, e: &mut [u64])
+    requires { ⌜ (length (now e) ≡ 65536) × (n ≤ 2048) × (0 < n) ⌝ }
+    ensures { λ _. ⌜ Grown (now (e .entry)) (now (e .exit)) (λ x y. eqb x 0 && (ltb 0 y && ltb y n)) ⌝ }
+{
+    let mut p: usize = 1;
+    while p < n {
+        relation::insert(e, 0, p);
+        p += 1;
+    }
+}
+
+// The steps of containment, along which rows are joined: the same as a product with D or U, at the cost of a row for each step.
+pub fn edges(run: &[u8], n: usize, e: &mut [u64])
+    requires { ⌜ Bounded n (facts (now run)) × (length (now e) ≡ 65536) ⌝ }
+    ensures { λ _. ⌜ Holds (now (e .exit)) (edgeBit n (facts (now (run .entry)))) ⌝ }
+{
+    store(run, 1, false, true, e);
+    crown(n, e);
+}
+
+// M: the stored MEETS, and each piece with itself.
+fn meets(run: &[u8], n: usize, m: &mut [u64])
+    requires { ⌜ Bounded n (facts (now run)) × (length (now m) ≡ 65536) ⌝ }
+    ensures { λ _. ⌜ Holds (now (m .exit)) (meetBit n (facts (now (run .entry)))) ⌝ }
+{
+    store(run, 3, true, true, m);
+    diagonal(n, m);
+}
+
+// T = D·M.
+pub fn meeting(run: &[u8], n: usize, e: &[u64], t: &mut [u64])
+    requires { ⌜ Bounded n (facts (now run)) × Ordered (facts (now run)) × Holds (now e) (edgeBit n (facts (now run))) × (length (now t) ≡ 65536) ⌝ }
+    ensures { λ _. ⌜ Holds (now (t .exit)) (towardBit n (facts (now (run .entry)))) ⌝ }
+{
+    meets(run, n, t);
+    relation::join_along(e, n, t);
+}
+
+// P = U·A.
+fn parting(run: &[u8], n: usize, e: &[u64], p: &mut [u64])
+    requires { ⌜ Bounded n (facts (now run)) × Ordered (facts (now run)) × Holds (now e) (edgeBit n (facts (now run))) × (length (now p) ≡ 65536) ⌝ }
+    ensures { λ _. ⌜ Holds (now (p .exit)) (awayBit n (facts (now (run .entry)))) ⌝ }
+{
+    store(run, 2, true, true, p);
+    relation::join_against(e, n, p);
+}
+
+// Q = D·N ∪ T·P, as D·(N ∪ M·P): M has few bits. m is scratch.
+fn outing(run: &[u8], n: usize, e: &[u64], p: &[u64], m: &mut [u64], q: &mut [u64])
+    requires { ⌜ Bounded n (facts (now run)) × Ordered (facts (now run)) × Holds (now e) (edgeBit n (facts (now run))) × Holds (now p) (awayBit n (facts (now run))) × (length (now m) ≡ 65536) × (length (now q) ≡ 65536) ⌝ }
+    ensures { λ _. ⌜ Holds (now (q .exit)) (outBit n (facts (now (run .entry)))) ⌝ }
+{
+    meets(run, n, m);
+    store(run, 4, true, false, q);
+    relation::product(q, m, p, n);
+    relation::join_along(e, n, q);
+}
+
+// U, P and Q.
+pub fn complete(run: &[u8], n: usize, e: &[u64], u: &mut [u64], p: &mut [u64], q: &mut [u64])
+    requires { ⌜ Bounded n (facts (now run)) × Ordered (facts (now run)) × Holds (now e) (edgeBit n (facts (now run))) × (length (now u) ≡ 65536) × (length (now p) ≡ 65536) × (length (now q) ≡ 65536) ⌝ }
+    ensures { λ _. ⌜ Holds (now (u .exit)) (wholeBit n (facts (now (run .entry)))) × Holds (now (p .exit)) (awayBit n (facts (now (run .entry)))) × Holds (now (q .exit)) (outBit n (facts (now (run .entry)))) ⌝ }
+{
+    parting(run, n, e, p);
+    outing(run, n, e, p, u, q);
+    relation::clear(u);
+    diagonal(n, u);
+    relation::join_against(e, n, u);
+}
+
+// Whether the closure contradicts a record.
+fn opposes(r: Record, d: &[u64], t: &[u64]) -> bool
+    requires { ⌜ (length (now d) ≡ 65536) × (length (now t) ≡ 65536) × (1 ≤ r .kind → r .kind ≤ 4 → (r .a < 2048) × (r .b < 2048)) ⌝ }
+    ensures { λ b. ⌜ b ≡ opposed (now (d .entry)) (now (t .entry)) r ⌝ }
+{
+    if r.kind == 2 {
+        return relation::meet(t, r.a, d, r.b);
+    }
+    if r.kind == 4 {
+        return relation::test(d, r.b, r.a);
+    }
+    false
+}
+
+// Whether the run is contradictory, where d and t are those of its facts: only stored facts are looked at.
+pub fn clashes(run: &[u8], d: &[u64], t: &[u64]) -> bool
+    requires { ⌜ (length (now d) ≡ 65536) × (length (now t) ≡ 65536) × AllWithin 2048 (facts (now run)) ⌝ }
+    ensures { λ b. ⌜ Clashing (facts (now (run .entry))) (now (d .entry)) (now (t .entry)) b ⌝ }
+{
+    let n = run.len() / 6;
+    let mut i: usize = 0;
+    while i < n {
+        let r = records::record_at(run, i);
+        if opposes(r, d, t) {
+            return true;
+        }
+        i += 1;
+    }
+    false
+}
+
+// Whether the fact of a kind about a and b has a derivation from the facts whose closure is lent.
+pub fn derived(
+    kind: u8,
+    a: usize,
+    b: usize,
+    d: &[u64],
+    u: &[u64],
+    p: &[u64],
+    t: &[u64],
+    q: &[u64],
+) -> bool
+    requires { ⌜ (a < 2048) × (b < 2048) × (length (now d) ≡ 65536) × (length (now u) ≡ 65536) × (length (now p) ≡ 65536) × (length (now t) ≡ 65536) × (length (now q) ≡ 65536) ⌝ }
+    ensures { λ r. ⌜ Derived (now (d .entry)) (now (u .entry)) (now (p .entry)) (now (t .entry)) (now (q .entry)) kind a b r ⌝ }
+{
+    if kind == 1 {
+        return relation::test(d, b, a);
+    }
+    if kind == 2 {
+        return relation::meet(p, a, u, b);
+    }
+    if kind == 3 {
+        return relation::meet(t, a, d, b);
+    }
+    relation::meet(q, a, u, b)
+}
+
+// The answer to a claim of a kind 1 to 4. The kinds of opposite claims add up to 5.
+pub fn answer_to(
+    kind: u8,
+    a: usize,
+    b: usize,
+    d: &[u64],
+    u: &[u64],
+    p: &[u64],
+    t: &[u64],
+    q: &[u64],
+) -> Answer
+    requires { ⌜ (1 ≤ kind) × (kind ≤ 4) × (a < 2048) × (b < 2048) × (length (now d) ≡ 65536) × (length (now u) ≡ 65536) × (length (now p) ≡ 65536) × (length (now t) ≡ 65536) × (length (now q) ≡ 65536) ⌝ }
+    ensures { λ r. ⌜ Answered (now (d .entry)) (now (u .entry)) (now (p .entry)) (now (t .entry)) (now (q .entry)) kind a b (answerByte r) ⌝ }
+{
+    if derived(kind, a, b, d, u, p, t, q) {
+        return Answer::Follows;
+    }
+    if derived(5 - kind, a, b, d, u, p, t, q) {
+        return Answer::Denied;
+    }
+    Answer::Open
+}
+
+// The index of the run's PARTs in the lent parts. x is scratch.
+pub fn index_of(
+    run: &[u8],
+    n: usize,
+    x: &mut [u64],
+    parens: &mut [u8],
+    marks: &mut [u8],
+    shadows: &mut [u16],
+    places: &mut [u16],
+) -> containment::Counts
+    requires { ⌜ Bounded n (facts (now run)) × Ordered (facts (now run)) × Roomy n (length (now run) / 6) (length (now parens)) (length (now marks)) (length (now shadows)) (length (now places)) × (length (now x) ≡ 65536) ⌝ }
+    ensures { λ r. ⌜ Indexed n (joined n (partIn (facts (now (run .entry))))) (now (parens .exit)) (now (marks .exit)) (now (shadows .exit)) (now (places .exit)) (r .nodes) (r .shadows) ⌝ }
+{
+    store(run, 1, false, true, x);
+    containment::build(n, x, parens, marks, shadows, places)
+}
+
+// The same, and D read off the index.
+pub fn contained(
+    run: &[u8],
+    n: usize,
+    x: &mut [u64],
+    parens: &mut [u8],
+    marks: &mut [u8],
+    shadows: &mut [u16],
+    places: &mut [u16],
+    d: &mut [u64],
+) -> containment::Counts
+    requires { ⌜ Bounded n (facts (now run)) × Ordered (facts (now run)) × Roomy n (length (now run) / 6) (length (now parens)) (length (now marks)) (length (now shadows)) (length (now places)) × (length (now x) ≡ 65536) × (length (now d) ≡ 65536) ⌝ }
+    ensures { λ r. ⌜ Indexed n (joined n (partIn (facts (now (run .entry))))) (now (parens .exit)) (now (marks .exit)) (now (shadows .exit)) (now (places .exit)) (r .nodes) (r .shadows) × Holds (now (d .exit)) (partBit n (facts (now (run .entry)))) ⌝ }
+{
+    let counts = index_of(run, n, x, parens, marks, shadows, places);
+    let nodes = counts.nodes;
+    containment::contents::contents(n, nodes, parens, marks, shadows, places, d);
+    counts
+}
+
+// Whether the run is contradictory. All that is lent is scratch.
+fn run_clashes(
+    run: &[u8],
+    n: usize,
+    e: &mut [u64],
+    d: &mut [u64],
+    t: &mut [u64],
+    parens: &mut [u8],
+    marks: &mut [u8],
+    shadows: &mut [u16],
+    places: &mut [u16],
+) -> bool
+    requires { ⌜ Bounded n (facts (now run)) × Ordered (facts (now run)) × Roomy n (length (now run) / 6) (length (now parens)) (length (now marks)) (length (now shadows)) (length (now places)) × (length (now e) ≡ 65536) × (length (now d) ≡ 65536) × (length (now t) ≡ 65536) ⌝ }
+    ensures { λ b. ⌜ b ≡ clash n (facts (now (run .entry))) ⌝ }
+{
+    contained(run, n, e, parens, marks, shadows, places, d);
+    edges(run, n, e);
+    meeting(run, n, e, t);
+    clashes(run, d, t)
+}
+
+// The place of the contradiction in a contradictory book: the last record of the shortest contradictory run from the start, found by halving, since
+// contradiction only grows with the run. All that is lent is scratch.
+pub fn contradiction(
+    book: &[u8],
+    n: usize,
+    e: &mut [u64],
+    d: &mut [u64],
+    t: &mut [u64],
+    parens: &mut [u8],
+    marks: &mut [u8],
+    shadows: &mut [u16],
+    places: &mut [u16],
+) -> usize
+    requires { ⌜ Bounded n (facts (now book)) × Ordered (facts (now book)) × Roomy n (length (now book) / 6) (length (now parens)) (length (now marks)) (length (now shadows)) (length (now places)) × (length (now e) ≡ 65536) × (length (now d) ≡ 65536) × (length (now t) ≡ 65536) × (clash n (facts (now book)) ≡ true) ⌝ }
+    ensures { λ r. ⌜ r + 1 ≡ shortestClash n (entries (now (book .entry))) ⌝ }
+{
+    let mut low: usize = 0;
+    let mut high = book.len() / 6;
+    while low + 1 < high {
+        let mid = (low + high) / 2;
+        let end = 6 * mid;
+        if run_clashes(&book[..end], n, e, d, t, parens, marks, shadows, places) {
+            high = mid;
+            continue;
+        }
+        low = mid;
+    }
+    low
+}
