@@ -3,5 +3,6 @@ pub mod Closed
 pub mod Bounded
 pub mod Ordered
 pub mod Opposed
+pub mod Opened
 pub mod Tells
 pub mod Answers

@@ -17,6 +17,7 @@ ghost use Rattle.closure.specs.Bounded.{Bounded};
 ghost use Rattle.containment.specs.Stored.{partIn};
 ghost use Rattle.closure.specs.Ordered.{Ordered, Roomy};
 ghost use Rattle.closure.specs.Opposed.{opposed};
+ghost use Rattle.closure.specs.Opened.{Opened};
 ghost use Rattle.closure.specs.Tells.{Derived, Answered, Clashing};
 ghost use Rattle.closure.specs.Answers.{answerByte};
 use records::Record;
@@ -266,8 +267,15 @@ pub fn contained(
     counts
 }
 
-// Whether the run is contradictory. All that is lent is scratch.
-fn run_clashes(
+// What the first half of a closure finds.
+pub struct Begun {
+    pub nodes: usize,
+    pub shadows: usize,
+    pub clash: bool,
+}
+
+// The first half of a closure: the index, the steps, D and T of the run, and whether it is contradictory.
+pub fn begin(
     run: &[u8],
     n: usize,
     e: &mut [u64],
@@ -277,14 +285,19 @@ fn run_clashes(
     marks: &mut [u8],
     shadows: &mut [u16],
     places: &mut [u16],
-) -> bool
+) -> Begun
     requires { ⌜ Bounded n (facts (now run)) × Ordered (facts (now run)) × Roomy n (length (now run) / 6) (length (now parens)) (length (now marks)) (length (now shadows)) (length (now places)) × (length (now e) ≡ 65536) × (length (now d) ≡ 65536) × (length (now t) ≡ 65536) ⌝ }
-    ensures { λ b. ⌜ b ≡ clash n (facts (now (run .entry))) ⌝ }
+    ensures { λ r. ⌜ Opened n (facts (now (run .entry))) (now (parens .exit)) (now (marks .exit)) (now (shadows .exit)) (now (places .exit)) (r .nodes) (r .shadows) (now (e .exit)) (now (d .exit)) (now (t .exit)) (r .clash) ⌝ }
 {
-    contained(run, n, e, parens, marks, shadows, places, d);
+    let counts = contained(run, n, e, parens, marks, shadows, places, d);
     edges(run, n, e);
     meeting(run, n, e, t);
-    clashes(run, d, t)
+    let clash = clashes(run, d, t);
+    Begun {
+        nodes: counts.nodes,
+        shadows: counts.shadows,
+        clash,
+    }
 }
 
 // The place of the contradiction in a contradictory book: the last record of the shortest contradictory run from the start, found by halving, since
@@ -308,7 +321,8 @@ pub fn contradiction(
     while low + 1 < high {
         let mid = (low + high) / 2;
         let end = 6 * mid;
-        if run_clashes(&book[..end], n, e, d, t, parens, marks, shadows, places) {
+        let begun = begin(&book[..end], n, e, d, t, parens, marks, shadows, places);
+        if begun.clash {
             high = mid;
             continue;
         }

@@ -9,12 +9,12 @@ use Rattle.closure.proofs.contradiction.Statement.{statement}
 use Rattle.closure.proofs.contradiction.Tie as tie
 
 abbrev Inv-loop : tie.InvT-loop
-Inv-loop book n x₀ d₀ t₀ parens₀ marks₀ shadows₀ places₀ low₀ high₀ x d t parens marks shadows places low high =
-    (length x ≡ length x₀) × (length d ≡ length d₀) × (length t ≡ length t₀) × (length parens ≡ length parens₀) × (length marks ≡ length marks₀)
+Inv-loop book n e₀ d₀ t₀ parens₀ marks₀ shadows₀ places₀ low₀ high₀ e d t parens marks shadows places low high =
+    (length e ≡ length e₀) × (length d ≡ length d₀) × (length t ≡ length t₀) × (length parens ≡ length parens₀) × (length marks ≡ length marks₀)
     × (length shadows ≡ length shadows₀) × (length places ≡ length places₀) × Halving n book low high
 
 abbrev μ-loop : tie.MeasureT-loop
-μ-loop book n x₀ d₀ t₀ parens₀ marks₀ shadows₀ places₀ low₀ high₀ x d t parens marks shadows places low high = high - low
+μ-loop book n e₀ d₀ t₀ parens₀ marks₀ shadows₀ places₀ low₀ high₀ e d t parens marks shadows places low high = high - low
 
 loop-holds : tie.Need-loop-holds Inv-loop μ-loop
 loop-holds c = (refl, refl, refl, refl, refl, refl, refl, halving-start _ _ (c .before .before .before .before .before .before .before .before .pre .6))
@@ -28,14 +28,14 @@ add-mid c = search needs
 mul-end : tie.Need-mul-end Inv-loop μ-loop
 mul-end c = search needs
 
-slice-aggregate-run-clashes : tie.Need-slice-aggregate-run-clashes Inv-loop μ-loop
-slice-aggregate-run-clashes c =
+slice-aggregate-begin : tie.Need-slice-aggregate-begin Inv-loop μ-loop
+slice-aggregate-begin c =
     let L = c .before .before .loop in
     let up = L .inv .7 .upto in
     sym (length-take-le (6 * ((L .low + L .high) / 2)) (c .before .before .before .before .before .before .before .before .before .before .before .args .book .now) (omega arith))
 
-run-clashes-requires : tie.Need-run-clashes-requires Inv-loop μ-loop
-run-clashes-requires c κs =
+begin-requires : tie.Need-begin-requires Inv-loop μ-loop
+begin-requires c κs =
     let L = c .before .before .before .before .before .before .before .before .before .loop in
     let S = c .before .before .before .before .before .before .before .before .before .before .before .before .before .before .before .before .before .before in
     let s = S .args .book .now in
@@ -64,7 +64,7 @@ loop-again c =
       search needs,
       search needs,
       search needs,
-      halving-high _ _ (L .low) (L .high) mid (L .inv .7) _ (c .before .before .before .before .before .before .before .before .before .before .before .before .before .before .before .run-clashes .ensures) (omega arith) (omega arith) (c .if1 .taken),
+      halving-high _ _ (L .low) (L .high) mid (L .inv .7) _ (c .before .before .before .before .before .before .before .before .before .before .before .before .before .before .before .begin .ensures .is) (omega arith) (omega arith) (c .if1 .taken),
     )
 
 loop-less-2 : tie.Need-loop-less-2 Inv-loop μ-loop
@@ -81,7 +81,7 @@ loop-again-2 c =
       search needs,
       search needs,
       search needs,
-      halving-low _ _ (L .low) (L .high) mid (L .inv .7) _ (c .before .before .before .before .before .before .before .before .before .before .before .before .before .before .before .run-clashes .ensures) (omega arith) (omega arith) (c .if1 .left),
+      halving-low _ _ (L .low) (L .high) mid (L .inv .7) _ (c .before .before .before .before .before .before .before .before .before .before .before .before .before .before .before .begin .ensures .is) (omega arith) (omega arith) (c .if1 .left),
     )
 
 same-length : tie.Need-same-length Inv-loop μ-loop
@@ -120,8 +120,8 @@ contradiction-spec =
     add-loop
     add-mid
     mul-end
-    slice-aggregate-run-clashes
-    run-clashes-requires
+    slice-aggregate-begin
+    begin-requires
     loop-less
     loop-again
     loop-less-2

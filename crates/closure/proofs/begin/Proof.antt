@@ -1,8 +1,8 @@
 use native.Mathlib.Omega.{arith}
 use borrow.Author.Needs.{needs}
 use Rattle.closure.proofs.Holding.{below-2048}
-use Rattle.closure.proofs.run_clashes.Statement.{statement}
-use Rattle.closure.proofs.run_clashes.Tie as tie
+use Rattle.closure.proofs.begin.Statement.{statement}
+use Rattle.closure.proofs.begin.Tie as tie
 
 contained-requires : tie.Need-contained-requires
 contained-requires c κs = search needs
@@ -38,10 +38,19 @@ same-length-7 : tie.Need-same-length-7
 same-length-7 c = search needs
 
 returns : tie.Need-returns
-returns c = c .clashes .ensures .is _ (c .before .before .before .before .before .before .before .before .before .before .before .before .before .before .before .before .before .before .before .before .before .before .before .before .before .before .before .before .before .before .before .before .before .before .before .before .before .before .before .pre .0) (c .before .before .before .before .before .before .before .before .before .before .before .before .before .before .before .before .before .before .before .before .before .before .before .before .contained .ensures .1) (c .before .before .before .before .before .meeting .ensures)
+returns c =
+    let D = c .before .before .before .before .before .before .before .before .before .before .before .before .before .before .before .before .before .before .before .before .before .before .before .before .contained .ensures in
+    let T = c .before .before .before .before .before .meeting .ensures in
+    record {
+      index = D .0;
+      steps = c .before .before .before .before .before .before .before .before .before .before .edges .ensures;
+      parts = D .1;
+      toward = T;
+      is = c .clashes .ensures .is _ (c .before .before .before .before .before .before .before .before .before .before .before .before .before .before .before .before .before .before .before .before .before .before .before .before .before .before .before .before .before .before .before .before .before .before .before .before .before .before .before .pre .0) (D .1) T;
+    }
 
-pub run-clashes-spec : {M : Type 1} → statement M
-run-clashes-spec =
+pub begin-spec : {M : Type 1} → statement M
+begin-spec =
     tie.close
     (tie.spec
     contained-requires
