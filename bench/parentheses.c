@@ -1,5 +1,6 @@
-// Rank and matching on the bits of a tree of 10,240 nodes, deep, flat and bushy: our functions beside the same loops in plain C, on
-// the same bits; and what passing eight bytes at a time would give, in C.
+// Rank and matching on the bits of a tree of 10,240 nodes, deep, flat and bushy: our functions beside plain C, on the same bits. The
+// search for a closing parenthesis is there three times in C: a byte at a time; eight at a time where the depth is above 64; and by our
+// own loops.
 #include <stdint.h>
 #include <stdio.h>
 #include <stdlib.h>
@@ -91,6 +92,51 @@ __attribute__((noinline)) static size_t c_find_close_eight(const uint8_t *s, siz
   return end;
 }
 
+static inline size_t c_run(size_t n, size_t left) {
+  size_t m = n >> 3 ? n >> 3 : 1;
+  return left < m ? left : m;
+}
+
+static inline size_t c_passable(const uint8_t *s, size_t len, size_t i, size_t depth) {
+  if (depth > 64) return c_run(depth - 1, len - i);
+  size_t most = c_run(128, len - i), m = 0, floor = depth;
+  while (m < most) {
+    size_t margin = lowest[s[i + m]] + 8;
+    if (floor + margin <= 8) return m;
+    floor = floor + margin - 8;
+    m++;
+  }
+  return m;
+}
+
+// Our loops.
+__attribute__((noinline)) static size_t c_find_close_runs(const uint8_t *s, size_t len, size_t open) {
+  if (len > BYTES || open >= len * 8 || !(s[open >> 3] >> (open & 7) & 1)) return 0;
+  size_t end = len << 3, depth = 1, p = open + 1, next = p >> 3;
+  if (next == len) return end;
+  for (; p >> 3 == next; p++) {
+    size_t one = s[p >> 3] >> (p & 7) & 1;
+    depth = depth + one - (1 - one);
+    if (depth == 0) return p;
+  }
+  while (p < end) {
+    if ((p & 7) == 0) {
+      size_t i = p >> 3, m = c_passable(s, len, i, depth), n = 0;
+      if (m > 0) {
+        for (size_t j = i; j < i + m; j++) n += ones[s[j]];
+        depth = depth + n - (8 * m - n);
+        p += 8 * m;
+        continue;
+      }
+    }
+    size_t one = s[p >> 3] >> (p & 7) & 1;
+    depth = depth + one - (1 - one);
+    if (depth == 0) return p;
+    p++;
+  }
+  return end;
+}
+
 static uint64_t state = 1;
 static int coin(void) {
   state = (state * 1103515245 + 12345) % 2147483648u;
@@ -112,25 +158,26 @@ typedef size_t (*question)(const uint8_t *, size_t, size_t);
 static size_t asked[NODES];
 static size_t sum;
 
-// ns a call, the best of nine runs over every node
-static double ns(question q) {
-  double best = 1e18;
-  for (int run = 0; run < 9; run++) {
-    double t = now();
-    for (size_t i = 0; i < NODES; i++) sum += q(bytes, BYTES, asked[i]);
-    t = (now() - t) / NODES;
-    if (t < best) best = t;
-  }
-  return best;
+// ns a call over every node
+static double run(question q) {
+  double t = now();
+  for (size_t i = 0; i < NODES; i++) sum += q(bytes, BYTES, asked[i]);
+  return (now() - t) / NODES;
 }
 
+// the best of 25 runs of each, taken in turn
 static void report(const char *shape, const char *what, question ours, question c) {
+  double x = 1e18, y = 1e18;
   for (size_t i = 0; i < NODES; i++)
     if (ours(bytes, BYTES, asked[i]) != c(bytes, BYTES, asked[i])) {
       printf("parentheses %s %s: DIFFERENT at %zu\n", shape, what, asked[i]);
       exit(1);
     }
-  double x = ns(ours), y = ns(c);
+  for (int i = 0; i < 25; i++) {
+    double t = run(ours), u = run(c);
+    if (t < x) x = t;
+    if (u < y) y = u;
+  }
   printf("parentheses %s %s: ours %.1f ns, C %.1f ns, ratio %.2f\n", shape, what, x, y, x / y);
 }
 
@@ -143,8 +190,9 @@ int main(void) {
     for (size_t k = 0; k < BITS; k++)
       if (bytes[k >> 3] >> (k & 7) & 1) asked[n++] = k;
     report(names[shape], "ones_before", parentheses_ones_before, c_ones_before);
-    report(names[shape], "find_close", parentheses_find_close, c_find_close);
-    report(names[shape], "find_close, C by eight bytes", parentheses_find_close, c_find_close_eight);
+    report(names[shape], "find_close, C by bytes", parentheses_find_close, c_find_close);
+    report(names[shape], "find_close, C by eights", parentheses_find_close, c_find_close_eight);
+    report(names[shape], "find_close, C by our loops", parentheses_find_close, c_find_close_runs);
   }
   return sum == 1;
 }

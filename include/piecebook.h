@@ -21,11 +21,11 @@ enum { PIECEBOOK_FOLLOWS = 1, PIECEBOOK_DENIED = 2, PIECEBOOK_OPEN = 3 };
 
 /* number is 0 for an accepted book, or the number of the refusal, 1 to 14, whose record or claim is place; the counts are 0 for a refusal. */
 typedef struct {
-    uint32_t number;
-    uint32_t place;
-    uint32_t pieces;
-    uint32_t nodes;
-    uint32_t shadows;
+    size_t number;
+    size_t place;
+    size_t pieces;
+    size_t nodes;
+    size_t shadows;
 } piecebook_result;
 
 /* Answers the claims, one byte each at the front of answers, and writes the index; what is unused of the four parts, up to the lengths above, is

@@ -265,7 +265,7 @@ fn many(count: usize) -> Vec<Bytes> {
 }
 
 /// Books with the number and the place that document 01 gives them.
-fn edges() -> Vec<(&'static str, Vec<Bytes>, Vec<Bytes>, (u32, u32))> {
+fn edges() -> Vec<(&'static str, Vec<Bytes>, Vec<Bytes>, (usize, usize))> {
     let session = || {
         let bytes: &[u8] = include_bytes!("../../examples/book.rec");
         bytes.chunks(6).map(|r| r.try_into().unwrap()).collect::<Vec<Bytes>>()

@@ -7,11 +7,11 @@
 #[repr(C)]
 #[derive(Clone, Copy, Debug, PartialEq, Eq)]
 pub struct Outcome {
-    pub number: u32,
-    pub place: u32,
-    pub pieces: u32,
-    pub nodes: u32,
-    pub shadows: u32,
+    pub number: usize,
+    pub place: usize,
+    pub pieces: usize,
+    pub nodes: usize,
+    pub shadows: usize,
 }
 
 /// The least lengths of the four parts of an index; shorter ones are refused by number 1.

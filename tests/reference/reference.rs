@@ -37,7 +37,7 @@ pub struct Expected {
     pub doubt: Option<String>,
 }
 
-type Refusal = (u32, u32);
+type Refusal = (usize, usize);
 
 struct Record {
     kind: u8,
@@ -89,7 +89,7 @@ fn read_book(book: &[u8]) -> Result<(Vec<Option<Fact>>, usize), Refusal> {
             (9, !seen.insert(bytes)),
         ];
         if let Some(&(number, _)) = rows.iter().find(|row| row.1) {
-            return Err((number, i as u32));
+            return Err((number, i as usize));
         }
         largest = largest.max(a);
         if b_is_piece {
@@ -110,9 +110,9 @@ fn read_claims(claims: &[u8], pieces: usize) -> Result<Vec<Fact>, Refusal> {
     }
     let mut facts = Vec::new();
     for (i, record) in records(claims).enumerate() {
-        let claim = fact(&record).filter(|_| record.second == 0).ok_or((12, i as u32))?;
+        let claim = fact(&record).filter(|_| record.second == 0).ok_or((12, i as usize))?;
         if claim.a.max(claim.b) >= pieces {
-            return Err((13, i as u32));
+            return Err((13, i as usize));
         }
         facts.push(claim);
     }
@@ -280,10 +280,10 @@ fn judge_whole(book: &[u8], claims: Option<&[u8]>, lengths: Lengths, doubt: &mut
     let (facts, pieces) = read_book(book)?;
     let claims = claims.map(|claims| read_claims(claims, pieces)).transpose()?;
     if let Some(last) = contradiction(pieces, &facts, doubt) {
-        return Ok(refused((14, last as u32), Change::Index(cleared())));
+        return Ok(refused((14, last as usize), Change::Index(cleared())));
     }
     let (index, nodes, shadows) = build(pieces, &facts);
-    let outcome = Outcome { number: 0, place: 0, pieces: pieces as u32, nodes: nodes as u32, shadows: shadows as u32 };
+    let outcome = Outcome { number: 0, place: 0, pieces: pieces as usize, nodes: nodes as usize, shadows: shadows as usize };
     let change = match claims {
         Some(claims) => Change::IndexAndAnswers(index, answer(pieces, &facts, &claims, doubt)),
         None => Change::Index(index),

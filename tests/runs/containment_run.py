@@ -1,5 +1,6 @@
 """What containment_run prints, from document 01: the index of the printed session's book and of generated books. Parts are kept as sets,
-met first by a breadth-first queue; the tree is a dictionary of children and is written depth first with a stack of text."""
+met first by a breadth-first queue; the tree is a dictionary of children and is written depth first with a stack of text. What a piece
+contains is found by a search of the pairs alone, anew from each piece, with no index."""
 from collections import deque
 
 LENGTHS = (2560, 1280, 8192, 2048)
@@ -42,6 +43,34 @@ def index(pieces, pairs):
         marks.append("0")
         todo.extend((part, piece) for part in reversed(parts[piece]))
     return "".join(parens), "".join(marks), [place[p] for p in pointed], [place[p] for p in range(pieces)]
+
+
+def contents(pieces, pairs):
+    """For each piece, the set of pieces that paths of pairs lead to it from, itself included."""
+    parts = {piece: set() for piece in range(pieces)}
+    held = {part for part, _ in pairs}
+    for part, container in pairs:
+        parts[container].add(part)
+    parts[0].update(piece for piece in range(1, pieces) if piece not in held)
+    found = []
+    for piece in range(pieces):
+        seen, todo = {piece}, [piece]
+        while todo:
+            more = parts[todo.pop()] - seen
+            seen |= more
+            todo.extend(more)
+        found.append(seen)
+    return found
+
+
+def words(pieces, pairs):
+    """2,048 rows of 32 words of 64 bits: bit g of row h for a piece g that h contains."""
+    rows = contents(pieces, pairs)
+    for piece in range(2048):
+        row = sum(1 << g for g in rows[piece]) if piece < pieces else 0
+        for _ in range(32):
+            yield row % 2**64
+            row //= 2**64
 
 
 def packed(bits, length):
@@ -118,10 +147,14 @@ BOOKS = [
 
 
 def lines():
-    parts, nodes, shadows = lent(6, [(1, 0), (2, 0), (3, 1), (4, 1), (4, 2), (5, 4)])
+    session = [(1, 0), (2, 0), (3, 1), (4, 1), (4, 2), (5, 4)]
+    parts, nodes, shadows = lent(6, session)
     yield f"session 6 {nodes} {shadows}"
     for name, part, shown in zip(("parentheses", "marks", "shadow list", "place list"), parts, (3, 2, 2, 7)):
         yield " ".join([name] + [str(x) for x in part[:shown]])
+    yield " ".join(["rows"] + [str(word) for word in list(words(6, session))[: 6 * 32 : 32]])
     for name, shape, pieces, count in BOOKS:
-        parts, nodes, shadows = lent(pieces, shape(pieces, count))
+        pairs = shape(pieces, count)
+        parts, nodes, shadows = lent(pieces, pairs)
+        parts.append([word % MODULUS for word in words(pieces, pairs)])
         yield " ".join([name, str(pieces), str(nodes), str(shadows)] + [str(checksum(part)) for part in parts])

@@ -1,13 +1,13 @@
--- What is visited below a piece: its parts in the book, theirs, and so on; each part of a node that is visited is visited too.
-use mathlib.Core.Path.{_≡_, refl, sym, ap, _∙_}
+-- What is visited below a piece: its parts in the book, theirs, and so on; each part of a node that is visited is visited too. Assumes nothing.
+use mathlib.Core.Path.{_≡_, refl, ap}
 use mathlib.Core.Logic.{_⊎_, inl, inr}
-use mathlib.Core.Bool.{Bool, true, false, not}
+use mathlib.Core.Bool.{Bool, true, false}
 use mathlib.Core.List.{List, [], _∷_, _++_, List·Memᴰ·head as here, List·Memᴰ·tail as there, List·Memᴰ·cases-cons, List·Memᴰ·not-nil, List·Memᴰ·append-cases, Memᴰ·append-left, Memᴰ·append-right}
-use Prim.Native.Nat.{ℕ, zero, suc, _+_, _*_, _-_, _≤_, _<_}
+use Prim.Native.Nat.{ℕ, zero, suc, _+_, _-_, _≤_}
 use native.Mathlib.Omega.{arith}
 use lib.Dec.{eqb}
 use Rattle.containment.specs.Breadth.{parent}
-use Rattle.containment.specs.Tree.{Visit, node, shadow, Forest, end, tree, hang, under, visits}
+use Rattle.containment.specs.Tree.{Visit, node, shadow, Forest, hang, under, visits}
 use Rattle.containment.proofs.Numbers.{_∈_, which}
 use Rattle.containment.specs.Pairs.{parts, Book, Within, self, step}
 use Rattle.containment.proofs.Nodes.{hang-node, hang-shadow, parts-mem, mem-parts}

@@ -1,5 +1,5 @@
 -- How many nodes and shadows a book can have. Assumes nothing.
-use mathlib.Core.Path.{_≡_, refl, sym, ap, _∙_}
+use mathlib.Core.Path.{_≡_, refl, sym, ap}
 use mathlib.Core.Logic.{_⊎_, inl, inr}
 use mathlib.Core.Bool.{Bool, true, false, not, _&&_, _||_, true≢false}
 use mathlib.Core.List.{List, [], _∷_}
@@ -8,16 +8,16 @@ use native.Mathlib.Decide.{decLt}
 use native.Mathlib.Omega.{arith}
 use lib.Dec.{eqb, ltb}
 use lib.ListN.{length}
-use borrow.Author.Tests.{eq-eqb, eqb-true, eqb-false, ne-eqb}
+use borrow.Author.Tests.{eq-eqb, eqb-false, ne-eqb}
 use Rattle.lists.specs.Any.{any, anyBelow}
 use Rattle.lists.specs.Tab.{tab}
-use Rattle.lists.proofs.Bools.{or-either, left-or, right-or}
+use Rattle.lists.proofs.Bools.{left-or}
+use Rattle.parentheses.specs.Rank.{num}
 use Rattle.containment.specs.Numbers.{range, keep, sum}
 use Rattle.containment.specs.Pairs.{parts, pairs, joined, Book}
 use Rattle.containment.specs.Tree.{whole, visits}
 use Rattle.containment.specs.Parts.{shadows}
-use Rattle.containment.proofs.Numbers.{_∈_, which, keep-yes, keep-no, keep-lengths, range-length, range-mem}
-use Rattle.containment.proofs.Nodes.{hit}
+use Rattle.containment.proofs.Numbers.{which, keep-yes, keep-no, keep-lengths, range-length, range-mem}
 use Rattle.containment.proofs.Sizes.{sum-add, sum-at, sum-none, visit-count, shadow-count}
 
 -- ---- lists
@@ -62,7 +62,7 @@ module _ (n : ℕ) (fact : ℕ → ℕ → Bool) where
   join c p = eqb c 0 && (ltb 0 p && (ltb p n && not (anyBelow (fact p) n)))
 
   -- at most n - 1 of them, all in 0
-  joins : (c : ℕ) → length (keep (join c) (range 0 n)) ≤ hit (eqb c 0) * (n - 1)
+  joins : (c : ℕ) → length (keep (join c) (range 0 n)) ≤ num (eqb c 0) * (n - 1)
   unfolding join
   joins zero = at n
     where
@@ -76,9 +76,9 @@ module _ (n : ℕ) (fact : ℕ → ℕ → Bool) where
   joined-pairs pos =
       omega (
         arith,
-        sum-le (λ c. length (keep (λ p. joined n fact p c) (range 0 n))) (λ c. length (keep (λ p. fact p c) (range 0 n)) + hit (eqb c 0) * (n - 1)) (range 0 n)
+        sum-le (λ c. length (keep (λ p. joined n fact p c) (range 0 n))) (λ c. length (keep (λ p. fact p c) (range 0 n)) + num (eqb c 0) * (n - 1)) (range 0 n)
             (λ c. omega (arith, keep-or (λ p. joined n fact p c) (λ p. fact p c) (join c) (range 0 n) (λ p e. unfold join in e), joins c)),
-        sum-add (λ c. length (keep (λ p. fact p c) (range 0 n))) (λ c. hit (eqb c 0) * (n - 1)) (range 0 n),
+        sum-add (λ c. length (keep (λ p. fact p c) (range 0 n))) (λ c. num (eqb c 0) * (n - 1)) (range 0 n),
         sum-at (λ c. n - 1) 0 0 n (omega arith) (omega arith),
       )
 
@@ -90,38 +90,43 @@ module _ (n : ℕ) (fact : ℕ → ℕ → Bool) where
     pub shadows-bound : length (shadows (visits (whole n (joined n fact)))) ≤ pairs n fact
     shadows-bound = omega (arith, shadow-count n (joined n fact) B, joined-pairs (B .some), B .some)
 
+    -- document 01's limits
+    pub limits : n ≤ 2048 → pairs n fact ≤ 8192
+        → (length (visits (whole n (joined n fact))) ≤ 10240) × (length (shadows (visits (whole n (joined n fact)))) ≤ 8192)
+    limits a b = (omega (arith, nodes-bound), omega (arith, shadows-bound))
+
 -- ---- pairs from a list
 
-keep-sum : (f : ℕ → Bool) (xs : List ℕ) → length (keep f xs) ≡ sum (λ x. hit (f x)) xs
+keep-sum : (f : ℕ → Bool) (xs : List ℕ) → length (keep f xs) ≡ sum (λ x. num (f x)) xs
 unfolding keep sum
 keep-sum f [] = refl
 keep-sum f (x ∷ xs) = go (which (f x)) (keep-sum f xs)
   where
-    go : (f x ≡ true) ⊎ (f x ≡ false) → length (keep f xs) ≡ sum (λ x. hit (f x)) xs → length (keep f (x ∷ xs)) ≡ hit (f x) + sum (λ x. hit (f x)) xs
+    go : (f x ≡ true) ⊎ (f x ≡ false) → length (keep f xs) ≡ sum (λ x. num (f x)) xs → length (keep f (x ∷ xs)) ≡ num (f x) + sum (λ x. num (f x)) xs
     go (inl e) r = rw (keep-yes f x xs e, e) (omega arith)
     go (inr e) r = rw (keep-no f x xs e, e) (omega arith)
 
 -- a number is in a run at most once
-one-at-most : (q n : ℕ) → sum (λ p. hit (eqb p q)) (range 0 n) ≤ 1
+one-at-most : (q n : ℕ) → sum (λ p. num (eqb p q)) (range 0 n) ≤ 1
 one-at-most q n = go (decLt q n)
   where
-    go : Dec (q < n) → sum (λ p. hit (eqb p q)) (range 0 n) ≤ 1
-    go (yes l) = omega (arith, sum-at (λ p. 1) q 0 n (omega arith) (omega arith), sum-le (λ p. hit (eqb p q)) (λ p. hit (eqb p q) * 1) (range 0 n) (λ p. omega arith))
-    go (no l) = omega (arith, sum-none (λ p. hit (eqb p q)) (range 0 n) (λ x m. let b = range-mem 0 n m in ap hit (ne-eqb x q (λ w. omega arith))))
+    go : Dec (q < n) → sum (λ p. num (eqb p q)) (range 0 n) ≤ 1
+    go (yes l) = omega (arith, sum-at (λ p. 1) q 0 n (omega arith) (omega arith), sum-le (λ p. num (eqb p q)) (λ p. num (eqb p q) * 1) (range 0 n) (λ p. omega arith))
+    go (no l) = omega (arith, sum-none (λ p. num (eqb p q)) (range 0 n) (λ x m. let b = range-mem 0 n m in ap num (ne-eqb x q (λ w. omega arith))))
 
 -- a test that only one part and container pass
 single : (n part container : ℕ) (f : ℕ → ℕ → Bool) → ((p c : ℕ) → f p c ≡ true → (p ≡ part) × (c ≡ container))
     → sum (λ c. length (keep (λ p. f p c) (range 0 n))) (range 0 n) ≤ 1
-single n part container f h = omega (arith, one-at-most container n, sum-le (λ c. length (keep (λ p. f p c) (range 0 n))) (λ c. hit (eqb c container)) (range 0 n) at)
+single n part container f h = omega (arith, one-at-most container n, sum-le (λ c. length (keep (λ p. f p c) (range 0 n))) (λ c. num (eqb c container)) (range 0 n) at)
   where
-    at : (c : ℕ) → length (keep (λ p. f p c) (range 0 n)) ≤ hit (eqb c container)
+    at : (c : ℕ) → length (keep (λ p. f p c) (range 0 n)) ≤ num (eqb c container)
     at c = go (which (eqb c container))
       where
         no : eqb c container ≡ false → (p : ℕ) → (f p c ≡ true) ⊎ (f p c ≡ false) → f p c ≡ false
         no e p (inl t) = absurd (eqb-false c container e (h p c t .1))
         no e p (inr t) = t
 
-        go : (eqb c container ≡ true) ⊎ (eqb c container ≡ false) → length (keep (λ p. f p c) (range 0 n)) ≤ hit (eqb c container)
+        go : (eqb c container ≡ true) ⊎ (eqb c container ≡ false) → length (keep (λ p. f p c) (range 0 n)) ≤ num (eqb c container)
         go (inl e) = rw e (omega (
           arith,
           keep-or (λ p. f p c) (λ p. eqb p part) (λ p. false) (range 0 n) (λ p t. left-or false (eq-eqb p part (h p c t .0))),

@@ -1,4 +1,4 @@
--- Containment read off the index is containment in the book: THE THEOREM is `inside-within` with `within-inside`.
+-- Containment read off the index is containment in the book: THE THEOREM is `contains`. Assumes nothing.
 use mathlib.Core.Path.{_≡_, refl, sym, ap, _∙_}
 use mathlib.Core.Logic.{_⊎_, inl, inr, _↔_}
 use mathlib.Core.Bool.{Bool, true, false, true≢false}
@@ -7,10 +7,9 @@ use Prim.Native.Nat.{ℕ, zero, suc, _+_, _-_, _≤_, _<_}
 use native.Mathlib.Omega.{arith}
 use native.Mathlib.Nat.{zero-add}
 use native.Mathlib.Numerals.{one-add}
-use lib.Dec.{eqb}
 use lib.ListN.{length, getD, length-append, length-map, List·getD-map, List·getD-append}
 use lib.Seq.{getD-append-add, getD-append-seam}
-use borrow.Author.Tests.{eq-eqb, eqb-true}
+use borrow.Author.Tests.{eq-eqb}
 use Rattle.containment.specs.Tree.{Visit, node, shadow, under, whole, visits}
 use Rattle.containment.specs.Parts.{parens, isNode, isShadow, place, marks, shadows, shadowList}
 use Rattle.containment.proofs.Numbers.{_∈_, which}
@@ -19,7 +18,7 @@ use Rattle.parentheses.specs.Subtree.{after}
 use Rattle.parentheses.proofs.Ranks.{rank-zero}
 use Rattle.parentheses.proofs.Trees.{rank-cons}
 use Rattle.containment.specs.Pairs.{Book, Within, self, step}
-use Rattle.containment.proofs.Nodes.{hit, times, times-append, once}
+use Rattle.containment.proofs.Nodes.{times, once}
 use Rattle.containment.proofs.Below.{piece, within-trans, within-le, Seen, under-mem, part-seen, node-part-seen}
 use Rattle.containment.specs.Inside.{Inside, below, through}
 use Rattle.containment.proofs.Places.{Stand, stand, stand-place, stand-after}
@@ -104,7 +103,7 @@ module _ (n : ℕ) (edge : ℕ → ℕ → Bool) where
 
       -- the places of h's range hold the tree of h, and nothing else
       module _ (h : ℕ) (l : h < n) (S : Stand n edge h) where
-        range-tree : (s : ℕ) → place W h ≤ s → s < after P (place W h) → at W s ∈ node h ∷ visits (under n edge (S .deep) h)
+        pub range-tree : (s : ℕ) → place W h ≤ s → s < after P (place W h) → at W s ∈ node h ∷ visits (under n edge (S .deep) h)
         range-tree s a b =
             Memᴰ·cast
             (ap (λ (vs : List Visit). at vs s) (S .visited) ∙ ap (λ (j : ℕ). at (S .before ++ (U ++ S .beyond)) j) there-is ∙ getD-append-add (S .before) (U ++ S .beyond) i (node 0))
@@ -130,7 +129,7 @@ module _ (n : ℕ) (edge : ℕ → ℕ → Bool) where
               length-append (visits (under n edge (S .deep) h)) (S .beyond),
             )
 
-        tree-range : {v : Visit} → v ∈ node h ∷ visits (under n edge (S .deep) h)
+        pub tree-range : {v : Visit} → v ∈ node h ∷ visits (under n edge (S .deep) h)
             → (s : ℕ) × (place W h ≤ s) × (s < after P (place W h)) × (at W s ≡ v) × (s < length W)
         tree-range {v} m = go (mem-run U (S .beyond) m)
           where

@@ -1,18 +1,18 @@
 -- Containment in the index of a list of facts is what `rules` derives: PART. Assumes nothing.
-use mathlib.Core.Path.{_≡_, refl, sym, ap, _∙_, fun-ext}
+use mathlib.Core.Path.{_≡_, refl, sym, fun-ext}
 use mathlib.Core.Logic.{_⊎_, inl, inr, _↔_}
-use mathlib.Core.Bool.{Bool, true, false, not, _&&_, _||_, true≢false}
+use mathlib.Core.Bool.{true, false, not, _&&_}
 use mathlib.Core.List.{List, List·Memᴰ}
 use Prim.Native.Nat.{ℕ, zero, suc, _+_, _*_, _/_, _≤_, _<_}
 use native.Mathlib.Decide.{decLt}
 use native.Mathlib.Omega.{arith}
 use lib.Dec.{eqb, ltb}
 use lib.ListN.{length, getD, List·getD-eq-default}
-use borrow.Author.Tests.{eqb-true, eq-eqb, lt-ltb, le-ltb}
+use borrow.Author.Tests.{eqb-true, lt-ltb, le-ltb}
 use Rattle.lists.specs.Any.{anyBelow}
 use Rattle.lists.proofs.Bools.{and-both, both-and, or-either, left-or, eqb-self, not-true}
 use Rattle.parentheses.specs.Bits.{bits}
-use Rattle.relation.specs.Matrix.{bit, bitOf}
+use Rattle.relation.specs.Matrix.{bitOf}
 use Rattle.relation.proofs.Laws.{bit-zero}
 use Rattle.rules.specs.Fact.{Fact, PART, AllWithin, kind, left, right, factOf}
 use Rattle.rules.specs.Derives.{Derives}
@@ -96,12 +96,16 @@ module _ (n : ℕ) (fs : List Fact) (some : 0 < n) (all : AllWithin n fs) (lower
       pair-path g c e (within-path (omega arith) w)
 
   -- THE THEOREM: what the lent index says of two pieces is what is derived
-  pub inside-derived : (parens marks shadows places : List ℕ) (nodes shadowed : ℕ)
-      → Room n (joined n (partIn fs)) (length parens) (length marks) (length shadows) (length places) → Indexed n (joined n (partIn fs)) parens marks shadows places nodes shadowed
-      → (h g : ℕ) → h < n → g < n → Inside (bits parens) (bits marks) shadows (getD places h 0) (getD places g 0) ↔ Derives n fs (PART g h)
-  inside-derived parens marks shadows places nodes shadowed R I h g lh lg =
-      let e = contains-lent n (joined n (partIn fs)) book parens marks shadows places nodes shadowed R I h g lh lg in
-      (λ i. path-derives (within-path lg (e .0 i)), λ d. e .1 (path-within (derives-shape all (PART g h) some d)))
+  module _ (parens marks shadows places : List ℕ) (nodes shadowed : ℕ)
+      (R : Room n (joined n (partIn fs)) (length parens) (length marks) (length shadows) (length places)) (I : Indexed n (joined n (partIn fs)) parens marks shadows places nodes shadowed)
+      (h g : ℕ) (lh : h < n) (lg : g < n) where
+    pub inside-path : Inside (bits parens) (bits marks) shadows (getD places h 0) (getD places g 0) ↔ Path n fs g h
+    inside-path =
+        let e = contains-lent n (joined n (partIn fs)) book parens marks shadows places nodes shadowed R I h g lh lg in
+        (λ i. within-path lg (e .0 i), λ w. e .1 (path-within w))
+
+    pub inside-derived : Inside (bits parens) (bits marks) shadows (getD places h 0) (getD places g 0) ↔ Derives n fs (PART g h)
+    inside-derived = (λ i. path-derives (inside-path .0 i), λ d. inside-path .1 (derives-shape all (PART g h) some d))
 
   -- ## A matrix of the facts
 

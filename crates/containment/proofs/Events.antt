@@ -1,24 +1,22 @@
 -- The depth-first walk with no stack: it stands at a node c and looks at the pieces from p on. What is still to be written from there,
--- and how one step changes it. A loop over (c, p) writes the index by these steps.
+-- and how one step changes it. A loop over (c, p) writes the index by these steps. Assumes nothing.
 use mathlib.Core.Path.{_≡_, refl, sym, ap, _∙_}
 use mathlib.Core.Logic.{_⊎_, inl, inr}
 use mathlib.Core.Bool.{Bool, true, false}
 use mathlib.Core.List.{List, [], _∷_, _++_, append-assoc, List·Memᴰ·head as here, List·Memᴰ·tail as there}
 use Prim.Native.Nat.{ℕ, zero, suc, _+_, _-_, _≤_, _<_}
 use native.Mathlib.Omega.{arith}
-use native.Mathlib.Nat.{eq-or-lt-of-le}
 use native.Mathlib.Decide.{decLt}
 use lib.Dec.{eqb}
 use Rattle.lists.specs.Tab.{tab}
 use Rattle.parentheses.specs.Forest.{enc}
 use Rattle.containment.specs.Parts.{shape}
-use lib.ListN.{length}
-use borrow.Author.Tests.{eq-eqb, ne-eqb, eqb-true}
+use borrow.Author.Tests.{eq-eqb, ne-eqb}
 use Rattle.containment.specs.Numbers.{range, keep}
 use Rattle.containment.specs.Breadth.{parent}
 use Rattle.containment.specs.Tree.{Visit, node, shadow, Forest, end, tree, hang, under, whole, visits}
 use Rattle.containment.specs.Parts.{parens}
-use Rattle.containment.proofs.Numbers.{_∈_, which, keep-yes, keep-no, keep-mem}
+use Rattle.containment.proofs.Numbers.{_∈_, which, keep-yes, keep-no}
 use Rattle.containment.specs.Pairs.{parts, Book}
 use Rattle.containment.proofs.Reached.{parent-edge}
 use Rattle.containment.proofs.Nexts.{Next}

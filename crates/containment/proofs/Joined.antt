@@ -1,8 +1,8 @@
--- A set of facts whose containers are lower than their parts, with the joins to piece 0, is a book.
-use mathlib.Core.Path.{_≡_, refl, sym, ap, _∙_}
+-- A set of facts whose containers are lower than their parts, with the joins to piece 0, is a book. Assumes nothing.
+use mathlib.Core.Path.{_≡_, refl}
 use mathlib.Core.Logic.{_⊎_, inl, inr}
-use mathlib.Core.Bool.{Bool, true, false, not, _&&_, _||_, true≢false}
-use Prim.Native.Nat.{ℕ, zero, suc, _≤_, _<_}
+use mathlib.Core.Bool.{Bool, true, false, not, _&&_}
+use Prim.Native.Nat.{ℕ, _<_}
 use native.Mathlib.Omega.{arith}
 use lib.Dec.{eqb, ltb}
 use borrow.Author.Tests.{eqb-true, eq-eqb, ltb-true, lt-ltb}

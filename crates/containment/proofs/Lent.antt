@@ -1,9 +1,9 @@
 -- What the index in lent parts says: the zeros after its parts change nothing. Assumes nothing.
-use mathlib.Core.Path.{_≡_, refl, sym, ap, _∙_}
+use mathlib.Core.Path.{_≡_, sym, ap, _∙_}
 use mathlib.Core.Logic.{_↔_}
-use mathlib.Core.Bool.{Bool, true, false}
-use mathlib.Core.List.{List, _++_}
-use Prim.Native.Nat.{ℕ, suc, _+_, _*_, _-_, _≤_, _<_}
+use mathlib.Core.Bool.{Bool, false}
+use mathlib.Core.List.{List}
+use Prim.Native.Nat.{ℕ, suc, _+_, _*_, _-_, _<_}
 use native.Mathlib.Omega.{arith}
 use lib.ListN.{length, getD, replicate, length-map}
 use Rattle.lists.proofs.Tabs.{tab-at}
@@ -17,7 +17,7 @@ use Rattle.containment.specs.Parts.{place, placeList, shadowList}
 use Rattle.containment.specs.Index.{parenthesesOf, visitsOf, Room, Indexed}
 use Rattle.containment.specs.Inside.{Inside}
 use Rattle.containment.proofs.Packing.{packed-is, padded-at}
-use Rattle.containment.proofs.Places.{Stand, stand, stand-after}
+use Rattle.containment.proofs.Places.{stand, stand-after}
 use Rattle.containment.proofs.Contains.{contains}
 
 module _

@@ -1,10 +1,10 @@
+pub mod Session
 pub mod Numbers
 pub mod Reached
 pub mod Joined
 pub mod Nodes
 pub mod Below
 pub mod Sizes
-pub mod Session
 pub mod Ranges
 pub mod Places
 pub mod Contains
@@ -23,6 +23,8 @@ mod Resolution
 mod Joins
 pub mod Pieces
 mod Buildings
-pub mod Derived
 pub mod Ends
 pub mod Table
+pub mod Derived
+pub mod Loads
+pub mod Built

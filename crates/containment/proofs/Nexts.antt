@@ -1,5 +1,5 @@
 -- The next part of a container, by the next set bit of its row. Assumes nothing.
-use mathlib.Core.Path.{_≡_, refl, sym, ap, _∙_}
+use mathlib.Core.Path.{_≡_}
 use mathlib.Core.Bool.{Bool, true, false, and-false}
 use mathlib.Core.List.{List}
 use Prim.Native.Nat.{ℕ, _-_, _≤_, _<_}
@@ -8,7 +8,7 @@ use lib.Dec.{ltb}
 use borrow.Author.Tests.{lt-ltb}
 use Rattle.lists.specs.First.{first}
 use Rattle.relation.specs.Matrix.{bitOf}
-use Rattle.relation.proofs.Seeks.{Sought, sought-next}
+use Rattle.relation.proofs.Seeks.{sought-next}
 use Rattle.containment.specs.Matrix.{pairOf}
 
 -- r is the first part of c from p on, or at least n where there is none

@@ -1,33 +1,29 @@
--- Every piece of a book occurs exactly once as a node of its tree.
+-- Every piece of a book occurs exactly once as a node of its tree. Assumes nothing.
 use mathlib.Core.Path.{_≡_, refl, sym, ap, _∙_}
 use mathlib.Core.Logic.{_⊎_, inl, inr}
-use mathlib.Core.Bool.{Bool, true, false, not}
-use mathlib.Core.List.{List, [], _∷_, _++_, List·Memᴰ·head as here, List·Memᴰ·tail as there, List·Memᴰ·cases-cons, List·Memᴰ·not-nil}
+use mathlib.Core.Bool.{Bool, true, false}
+use mathlib.Core.List.{List, [], _∷_, _++_, List·Memᴰ·head as here, List·Memᴰ·tail as there}
 use Prim.Native.Nat.{ℕ, zero, suc, _+_, _*_, _-_, _≤_, _<_}
 use native.Mathlib.Omega.{arith}
 use native.Mathlib.Nat.{eq-or-lt-of-le}
 use lib.Dec.{eqb}
 use Rattle.lists.specs.Tab.{tab}
-use lib.ListN.{length, length-append}
-use borrow.Author.Tests.{eqb-true, eqb-false, eq-eqb, ne-eqb}
+use borrow.Author.Tests.{eqb-true, eq-eqb, ne-eqb}
+use Rattle.parentheses.specs.Rank.{num}
 use Rattle.containment.specs.Numbers.{range, keep}
 use Rattle.containment.specs.Breadth.{parent}
 use Rattle.containment.specs.Tree.{Visit, node, shadow, Forest, end, tree, hang, under, whole, visits}
 use Rattle.containment.specs.Parts.{isNode}
-use Rattle.containment.proofs.Numbers.{_∈_, which, keep-yes, keep-no, keep-mem, mem-keep, range-mem, mem-range}
+use Rattle.containment.proofs.Numbers.{_∈_, which, keep-yes, keep-no, keep-mem, mem-keep, mem-range}
 use Rattle.containment.specs.Pairs.{parts, Book}
 use Rattle.containment.proofs.Reached.{parent-edge}
 
 -- ## Counting
 
-abbrev pub hit : Bool → ℕ
-hit true = 1
-hit false = 0
-
 -- how often the node of p is visited
 unfoldable pub times : ℕ → List Visit → ℕ
 times p [] = 0
-times p (v ∷ vs) = hit (isNode p v) + times p vs
+times p (v ∷ vs) = num (isNode p v) + times p vs
 
 pub times-append : (p : ℕ) (xs ys : List Visit) → times p (xs ++ ys) ≡ times p xs + times p ys
 unfolding times
@@ -37,7 +33,7 @@ times-append p (x ∷ xs) ys = omega (arith, times-append p xs ys)
 -- how often p is in a list of numbers
 unfoldable pub count : ℕ → List ℕ → ℕ
 count p [] = 0
-count p (x ∷ xs) = hit (eqb p x) + count p xs
+count p (x ∷ xs) = num (eqb p x) + count p xs
 
 pub count-above : (p k m : ℕ) (f : ℕ → Bool) → p < k → count p (keep f (range k m)) ≡ 0
 unfolding count range tab keep
@@ -48,13 +44,13 @@ count-above p k (suc m) f h = go (which (f k)) (count-above p (suc k) m f (omega
     go (inl e) r = rw (keep-yes f k (range (suc k) m) e, ne-eqb p k (λ q. omega arith)) (omega arith)
     go (inr e) r = rw (keep-no f k (range (suc k) m) e) r
 
-pub count-keep : (p k m : ℕ) (f : ℕ → Bool) → k ≤ p → p < k + m → count p (keep f (range k m)) ≡ hit (f p)
+pub count-keep : (p k m : ℕ) (f : ℕ → Bool) → k ≤ p → p < k + m → count p (keep f (range k m)) ≡ num (f p)
 unfolding count range tab keep
 count-keep p k zero f a b = absurd (omega arith)
 count-keep p k (suc m) f a b = go (which (f k)) (eq-or-lt-of-le a) (λ (h : k < p). count-keep p (suc k) m f h (omega arith))
   where
-    go : (f k ≡ true) ⊎ (f k ≡ false) → (k ≡ p) ⊎ (k < p) → (k < p → count p (keep f (range (suc k) m)) ≡ hit (f p))
-        → count p (keep f (k ∷ range (suc k) m)) ≡ hit (f p)
+    go : (f k ≡ true) ⊎ (f k ≡ false) → (k ≡ p) ⊎ (k < p) → (k < p → count p (keep f (range (suc k) m)) ≡ num (f p))
+        → count p (keep f (k ∷ range (suc k) m)) ≡ num (f p)
     go (inl e) (inl q) r = rw (keep-yes f k (range (suc k) m) e, ← q, eq-eqb k k refl, e, count-above k (suc k) m f (omega arith))
     go (inr e) (inl q) r = rw (keep-no f k (range (suc k) m) e, ← q, e) (count-above k (suc k) m f (omega arith))
     go (inl e) (inr h) r = rw (keep-yes f k (range (suc k) m) e, ne-eqb p k (λ q. omega arith)) (omega (arith, r h))
@@ -74,8 +70,8 @@ module _ (n : ℕ) (edge : ℕ → ℕ → Bool) where
 
   -- a node of p stands wherever a node of its parent has p for a part: counted over the parts of c
   times-hang : (p : ℕ) (below : ℕ → Forest) (c : ℕ) (qs : List ℕ)
-      → ((q : ℕ) → q ∈ qs → times p (visits (below q)) ≡ hit (eqb (parent n edge p) q) + times (parent n edge p) (visits (below q)))
-      → times p (visits (hang n edge below c qs)) ≡ hit (eqb (parent n edge p) c) * count p qs + times (parent n edge p) (visits (hang n edge below c qs))
+      → ((q : ℕ) → q ∈ qs → times p (visits (below q)) ≡ num (eqb (parent n edge p) q) + times (parent n edge p) (visits (below q)))
+      → times p (visits (hang n edge below c qs)) ≡ num (eqb (parent n edge p) c) * count p qs + times (parent n edge p) (visits (hang n edge below c qs))
   unfolding hang visits times count isNode
   times-hang p below c [] h = omega arith
   times-hang p below c (q ∷ qs) h = go (which (eqb (parent n edge q) c)) (times-hang p below c qs (λ x m. h x (there m))) (which (eqb p q))
@@ -90,9 +86,9 @@ module _ (n : ℕ) (edge : ℕ → ℕ → Bool) where
       same s = ap (λ x. eqb (parent n edge x) c) (eqb-true p q s)
 
       go : (eqb (parent n edge q) c ≡ true) ⊎ (eqb (parent n edge q) c ≡ false)
-          → times p (visits rest) ≡ hit (eqb (parent n edge p) c) * count p qs + times (parent n edge p) (visits rest)
+          → times p (visits rest) ≡ num (eqb (parent n edge p) c) * count p qs + times (parent n edge p) (visits rest)
           → (eqb p q ≡ true) ⊎ (eqb p q ≡ false)
-          → times p (visits (hang n edge below c (q ∷ qs))) ≡ hit (eqb (parent n edge p) c) * count p (q ∷ qs) + times (parent n edge p) (visits (hang n edge below c (q ∷ qs)))
+          → times p (visits (hang n edge below c (q ∷ qs))) ≡ num (eqb (parent n edge p) c) * count p (q ∷ qs) + times (parent n edge p) (visits (hang n edge below c (q ∷ qs)))
       go (inl e) r (inl s) =
           let t : eqb (parent n edge p) c ≡ true = same s ∙ e in
           rw (hang-node below c q qs e, s, t) (omega (arith, sums p, sums (parent n edge p), h q (here refl), rw t at r))
@@ -114,7 +110,7 @@ module _ (n : ℕ) (edge : ℕ → ℕ → Bool) where
 
     module _ (p : ℕ) (pos : 0 < p) (l : p < n) where
       times-under : (k c : ℕ) → n ≤ c + k
-          → times p (visits (under n edge k c)) ≡ hit (eqb (parent n edge p) c) + times (parent n edge p) (visits (under n edge k c))
+          → times p (visits (under n edge k c)) ≡ num (eqb (parent n edge p) c) + times (parent n edge p) (visits (under n edge k c))
       unfolding under times visits parts
       times-under zero c h =
           let lt = B .lower p (parent n edge p) (parent-edge n edge B p pos l) in
@@ -122,15 +118,15 @@ module _ (n : ℕ) (edge : ℕ → ℕ → Bool) where
       times-under (suc k) c h =
           go (which (eqb (parent n edge p) c)) (times-hang p (under n edge k) c (parts n edge c) (λ q m. times-under k q (omega (arith, B .lower q c (parts-mem c m)))))
         where
-          once : count p (parts n edge c) ≡ hit (edge p c)
+          once : count p (parts n edge c) ≡ num (edge p c)
           once = count-keep p 0 n (λ p. edge p c) (omega arith) (omega arith)
 
           F : Forest
           F = hang n edge (under n edge k) c (parts n edge c)
 
           go : (eqb (parent n edge p) c ≡ true) ⊎ (eqb (parent n edge p) c ≡ false)
-              → times p (visits F) ≡ hit (eqb (parent n edge p) c) * count p (parts n edge c) + times (parent n edge p) (visits F)
-              → times p (visits F) ≡ hit (eqb (parent n edge p) c) + times (parent n edge p) (visits F)
+              → times p (visits F) ≡ num (eqb (parent n edge p) c) * count p (parts n edge c) + times (parent n edge p) (visits F)
+              → times p (visits F) ≡ num (eqb (parent n edge p) c) + times (parent n edge p) (visits F)
           go (inl e) r =
               let o : edge p c ≡ true = ap (edge p) (sym (eqb-true (parent n edge p) c e)) ∙ parent-edge n edge B p pos l in
               rw e (omega (arith, rw (e, once, o) at r))
@@ -160,7 +156,7 @@ module _ (n : ℕ) (edge : ℕ → ℕ → Bool) where
 
     -- ## Each piece is a node once
 
-    times-whole : (p : ℕ) → times p (visits (whole n edge)) ≡ hit (eqb p 0) + times p (visits (under n edge n 0))
+    times-whole : (p : ℕ) → times p (visits (whole n edge)) ≡ num (eqb p 0) + times p (visits (under n edge n 0))
     unfolding whole visits times isNode
     times-whole p = omega (arith, times-append p (visits (under n edge n 0)) [])
 
@@ -172,7 +168,7 @@ module _ (n : ℕ) (edge : ℕ → ℕ → Bool) where
         let lt = B .lower (suc p) (parent n edge (suc p)) e in
         let u = times-under (suc p) (omega arith) l n 0 (omega arith) in
         let i = once-below k (parent n edge (suc p)) (omega arith) (omega arith) in
-        omega (arith, times-whole (suc p), times-whole (parent n edge (suc p)), ap hit (ne-eqb (suc p) 0 (λ q. omega arith)))
+        omega (arith, times-whole (suc p), times-whole (parent n edge (suc p)), ap num (ne-eqb (suc p) 0 (λ q. omega arith)))
 
     pub once : (p : ℕ) → p < n → times p (visits (whole n edge)) ≡ 1
     once p l = once-below (suc p) p (omega arith) l

@@ -10,7 +10,6 @@ use lib.Dec.{eqb}
 use lib.ListN.{length, getD, take, drop, replicate, getD-replicate, length-take, List·getD-append, List·getD-eq-default}
 use lib.Pow.{shr-shr, pow-mono}
 use lib.Seq.{ext-getD, getD-take, getD-drop, getD-append-add}
-use Rattle.lists.specs.Tab.{tab}
 use Rattle.lists.proofs.Tabs.{tab-at, tab-length}
 use Rattle.parentheses.specs.Bits.{bits, bitOf, digit}
 use Rattle.parentheses.specs.Rank.{num}

@@ -1,25 +1,25 @@
--- Where the tree of a piece stands in the whole: its visits are a run of places that starts at its node's, and its bits a balanced run.
+-- Where the tree of a piece stands in the whole: its visits are a run of places that starts at its node's, and its bits a balanced run. Assumes nothing.
 use mathlib.Core.Path.{_≡_, refl, sym, ap, _∙_}
 use mathlib.Core.Logic.{_⊎_, inl, inr}
 use mathlib.Core.Bool.{Bool, true, false}
-use mathlib.Core.List.{List, [], _∷_, _++_, append-assoc, List·Memᴰ·head as here, List·Memᴰ·tail as there, List·Memᴰ·cases-cons, List·Memᴰ·not-nil}
+use mathlib.Core.List.{List, [], _∷_, _++_, append-assoc, List·Memᴰ·cases-cons, List·Memᴰ·not-nil}
 use Prim.Native.Nat.{ℕ, zero, suc, _+_, _≤_, _<_}
 use native.Mathlib.Omega.{arith}
 use lib.Dec.{eqb}
 use Rattle.parentheses.specs.Forest.{enc}
 use Rattle.containment.specs.Parts.{shape}
-use lib.ListN.{length, getD, length-append}
+use lib.ListN.{length, length-append}
 use borrow.Author.Tests.{eq-eqb}
 use Rattle.containment.specs.Breadth.{parent}
-use Rattle.containment.specs.Tree.{Visit, node, shadow, Forest, end, tree, hang, under, whole, visits}
+use Rattle.containment.specs.Tree.{Visit, node, Forest, hang, under, whole, visits}
 use Rattle.containment.specs.Parts.{parens, isNode, place}
 use Rattle.containment.proofs.Numbers.{_∈_, which}
-use Rattle.parentheses.specs.Rank.{rank}
+use Rattle.parentheses.specs.Rank.{num, rank}
 use Rattle.parentheses.specs.Subtree.{after}
 use Rattle.parentheses.proofs.Trees.{rank-cons, ones, ones-append}
 use Rattle.containment.specs.Pairs.{parts, Book}
 use Rattle.containment.proofs.Reached.{parent-edge}
-use Rattle.containment.proofs.Nodes.{hit, times, times-append, hang-node, hang-shadow, parts-mem, mem-parts, once}
+use Rattle.containment.proofs.Nodes.{times, times-append, hang-node, hang-shadow, mem-parts, once}
 use Rattle.containment.proofs.Ranges.{ones-parens, after-at}
 
 -- ## Lists
@@ -170,7 +170,7 @@ module _ (n : ℕ) (edge : ℕ → ℕ → Bool) where
           one = sym (once n edge B h l) ∙ ap (times h) (S .visited) ∙ times-append h (S .before) (node h ∷ (visits (under n edge (S .deep) h) ++ S .beyond))
 
           none : times h (S .before) ≡ 0
-          none = unfold times isNode in omega (arith, one, ap hit (eq-eqb h h refl))
+          none = unfold times isNode in omega (arith, one, ap num (eq-eqb h h refl))
 
       -- THE RANGE, from the bits alone, whatever follows them: as many places as its tree has visits
       pub stand-after : (Z : List Bool) → after (parens (whole n edge) ++ Z) (place (visits (whole n edge)) h) ≡ place (visits (whole n edge)) h + suc (length (visits (under n edge (S .deep) h)))

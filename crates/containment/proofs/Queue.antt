@@ -1,19 +1,19 @@
--- What the code of the breadth-first walk works on: parents, with 2048 for a piece that is not met yet, and the queue in a list with a head and a tail.
+-- What the code of the breadth-first walk works on: parents, with 2048 for a piece that is not met yet, and the queue in a list with a head and a tail. Assumes nothing.
 use mathlib.Core.Path.{_≡_, refl, sym, ap, _∙_}
 use mathlib.Core.Logic.{_⊎_, inl, inr}
 use mathlib.Core.Bool.{Bool, true, false, not, _&&_, true≢false, and-false}
-use mathlib.Core.List.{List, [], _∷_, _++_, append-assoc, append-nil, List·Memᴰ·head as here, List·Memᴰ·tail as there, List·Memᴰ·cases-cons, List·Memᴰ·not-nil, List·Memᴰ·append-cases}
-use Prim.Native.Nat.{ℕ, zero, suc, _+_, _*_, _-_, _≤_, _<_}
+use mathlib.Core.List.{List, [], _∷_, _++_, append-assoc, append-nil, List·Memᴰ·head as here, List·Memᴰ·tail as there}
+use Prim.Native.Nat.{ℕ, zero, suc, _+_, _-_, _≤_, _<_}
 use native.Mathlib.Omega.{arith}
 use native.Mathlib.Numerals.{add-one}
 use native.Mathlib.Decide.{ℕ-discrete, decLt}
 use lib.Dec.{eqb, ltb}
 use Rattle.lists.specs.Tab.{tab}
-use lib.ListN.{length, getD, take, drop, set, length-set, length-append}
+use lib.ListN.{length, getD, take, set, length-set}
 use lib.Seq.{take-suc-set, getD-set-same, getD-set-other}
-use borrow.Author.Tests.{eqb-true, eqb-false, eq-eqb, ne-eqb, ltb-true, ltb-false, lt-ltb, le-ltb}
+use borrow.Author.Tests.{eq-eqb, ne-eqb, lt-ltb, le-ltb}
 use Rattle.containment.specs.Numbers.{range, keep}
-use Rattle.containment.proofs.Numbers.{same-test, _∈_, which, keep-yes, keep-no, keep-mem, mem-keep, keep-lengths, range-mem}
+use Rattle.containment.proofs.Numbers.{same-test, _∈_, which, keep-yes, keep-no, keep-lengths, range-mem}
 use Rattle.containment.specs.Steps.{fresh, unmet, Spread}
 use Rattle.containment.proofs.Nexts.{Next}
 

@@ -1,13 +1,13 @@
 -- In the parentheses of a forest, the range of a node is as many places as its tree has visits. Assumes nothing.
-use mathlib.Core.Path.{_≡_, refl, ap, _∙_}
+use mathlib.Core.Path.{_≡_, refl, _∙_}
 use mathlib.Core.Bool.{Bool, true, false}
 use mathlib.Core.List.{List, _∷_, _++_}
-use Prim.Native.Nat.{ℕ, suc, _+_}
+use Prim.Native.Nat.{suc, _+_}
 use native.Mathlib.Omega.{arith}
 use lib.ListN.{length, length-append}
 use Rattle.parentheses.specs.Forest.{enc, size}
 use Rattle.parentheses.specs.Subtree.{after}
-use Rattle.parentheses.proofs.Trees.{ones, ones-enc, dyck-enc, Dyck, after-is}
+use Rattle.parentheses.proofs.Trees.{ones, ones-enc, dyck-enc, after-is}
 use Rattle.containment.specs.Tree.{Forest, end, tree, visits}
 use Rattle.containment.specs.Parts.{shape, parens}
 

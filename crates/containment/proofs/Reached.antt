@@ -1,5 +1,5 @@
--- The breadth-first walk meets every piece, so that each piece but 0 has a parent, which is a container of it.
-use mathlib.Core.Path.{_≡_, refl, sym, ap, _∙_}
+-- The breadth-first walk meets every piece, so that each piece but 0 has a parent, which is a container of it. Assumes nothing.
+use mathlib.Core.Path.{_≡_, refl, ap}
 use mathlib.Core.Logic.{_⊎_, inl, inr}
 use mathlib.Core.Bool.{Bool, true, false, not}
 use mathlib.Core.List.{List, [], _∷_, _++_, List·Memᴰ·head as here, List·Memᴰ·tail as there, List·Memᴰ·cases-cons, List·Memᴰ·not-nil, Memᴰ·append-left, Memᴰ·append-right}
@@ -7,7 +7,7 @@ use Prim.Native.Nat.{ℕ, zero, suc, _+_, _-_, _≤_, _<_}
 use native.Mathlib.Omega.{arith}
 use lib.ListN.{length, length-append}
 use Rattle.containment.specs.Pairs.{Book}
-use Rattle.containment.specs.Numbers.{range, keep, find}
+use Rattle.containment.specs.Numbers.{range, keep}
 use Rattle.containment.specs.Breadth.{breadth, order, parent}
 use Rattle.containment.proofs.Numbers.{_∈_, which, mem-keep, keep-lengths, mem-range, range-length, find-mem}
 

@@ -1,16 +1,15 @@
--- The breadth-first walk, round by round: the state between two rounds, and that in the end every piece has its parent.
+-- The breadth-first walk, round by round: the state between two rounds, and that in the end every piece has its parent. Assumes nothing.
 use mathlib.Core.Path.{_≡_, refl, sym, ap, _∙_}
 use mathlib.Core.Logic.{_⊎_, inl, inr}
 use mathlib.Core.Bool.{Bool, true, false, not, true≢false}
 use mathlib.Core.List.{List, [], _∷_, _++_, append-assoc, append-nil, List·Memᴰ·head as here, List·Memᴰ·tail as there, List·Memᴰ·cases-cons, List·Memᴰ·not-nil, List·Memᴰ·append-cases, List·Memᴰ·eq-of-singleton, Memᴰ·append-right}
-use Prim.Native.Nat.{ℕ, zero, suc, _+_, _-_, _≤_, _<_, min}
+use Prim.Native.Nat.{ℕ, zero, suc, _+_, _-_, _≤_, _<_}
 use native.Mathlib.Omega.{arith}
 use native.Mathlib.Numerals.{add-one}
-use Rattle.lists.specs.Tab.{tab}
-use lib.ListN.{length, getD, take, drop, set, length-append, length-take, drop-of-length-le}
+use lib.ListN.{length, getD, take, drop, set, length-take, drop-of-length-le}
 use native.Mathlib.Decide.{ℕ-discrete}
 use borrow.Author.Tests.{eq-eqb}
-use lib.Seq.{getD-set-same, getD-set-other, take-suc, drop-cons, getD-take, take-take, take-append-le, drop-append-le, length-take-le, drop-length}
+use lib.Seq.{getD-set-same, getD-set-other, take-suc, drop-cons, getD-take, take-take, take-append-le, drop-append-le, length-take-le}
 use Rattle.containment.specs.Numbers.{range, keep, find}
 use Rattle.containment.specs.Breadth.{breadth, order, parent}
 use Rattle.containment.proofs.Numbers.{_∈_, which, keep-yes, keep-lengths, find-mem, range-mem, range-length, keep-mem}

@@ -1,7 +1,7 @@
--- How many nodes and shadows the tree of a book has: one visit for each edge, and one for piece 0; n of them are nodes.
+-- How many nodes and shadows the tree of a book has: one visit for each edge, and one for piece 0; n of them are nodes. Assumes nothing.
 use mathlib.Core.Path.{_≡_, refl, sym, ap, _∙_}
 use mathlib.Core.Logic.{_⊎_, inl, inr}
-use mathlib.Core.Bool.{Bool, true, false, not}
+use mathlib.Core.Bool.{Bool, true, false}
 use mathlib.Core.List.{List, [], _∷_, _++_, List·Memᴰ·head as here, List·Memᴰ·tail as there, List·Memᴰ·cases-cons, List·Memᴰ·not-nil, List·Memᴰ·append-cases}
 use Prim.Native.Nat.{ℕ, zero, suc, _+_, _*_, _-_, _≤_, _<_}
 use native.Mathlib.Omega.{arith}
@@ -9,14 +9,15 @@ use native.Mathlib.Nat.{eq-or-lt-of-le}
 use lib.Dec.{eqb}
 use Rattle.lists.specs.Tab.{tab}
 use lib.ListN.{length, length-append}
-use borrow.Author.Tests.{eqb-true, eqb-false, eq-eqb, ne-eqb}
-use Rattle.containment.specs.Numbers.{sum, range, keep}
+use borrow.Author.Tests.{eq-eqb, ne-eqb}
+use Rattle.parentheses.specs.Rank.{num}
+use Rattle.containment.specs.Numbers.{sum, range}
 use Rattle.containment.specs.Breadth.{parent}
-use Rattle.containment.specs.Tree.{Visit, node, shadow, Forest, end, tree, hang, under, whole, visits}
+use Rattle.containment.specs.Tree.{Visit, node, shadow, Forest, hang, under, whole, visits}
 use Rattle.containment.specs.Parts.{isNode, shadows}
-use Rattle.containment.proofs.Numbers.{_∈_, which, keep-mem, range-mem}
+use Rattle.containment.proofs.Numbers.{_∈_, which, range-mem}
 use Rattle.containment.specs.Pairs.{parts, pairs, Book}
-use Rattle.containment.proofs.Nodes.{hit, times, hang-node, hang-shadow, parts-mem, once}
+use Rattle.containment.proofs.Nodes.{times, hang-node, hang-shadow, parts-mem, once}
 use Rattle.containment.proofs.Below.{piece, under-mem}
 
 -- ## Sums
@@ -49,17 +50,17 @@ sum-none f [] h = refl
 sum-none f (x ∷ xs) h = omega (arith, h x (here refl), sum-none f xs (λ y m. h y (there m)))
 
 -- the sum of what is g q at q alone
-pub sum-at : (g : ℕ → ℕ) (q k m : ℕ) → k ≤ q → q < k + m → sum (λ p. hit (eqb p q) * g p) (range k m) ≡ g q
+pub sum-at : (g : ℕ → ℕ) (q k m : ℕ) → k ≤ q → q < k + m → sum (λ p. num (eqb p q) * g p) (range k m) ≡ g q
 unfolding sum range tab
 sum-at g q k zero a b = absurd (omega arith)
 sum-at g q k (suc m) a b = go (eq-or-lt-of-le a) (λ (h : k < q). sum-at g q (suc k) m h (omega arith))
   where
-    go : (k ≡ q) ⊎ (k < q) → (k < q → sum (λ p. hit (eqb p q) * g p) (range (suc k) m) ≡ g q)
-        → hit (eqb k q) * g k + sum (λ p. hit (eqb p q) * g p) (range (suc k) m) ≡ g q
+    go : (k ≡ q) ⊎ (k < q) → (k < q → sum (λ p. num (eqb p q) * g p) (range (suc k) m) ≡ g q)
+        → num (eqb k q) * g k + sum (λ p. num (eqb p q) * g p) (range (suc k) m) ≡ g q
     go (inl e) r = rw (eq-eqb k q e) (omega (
       arith,
       ap g e,
-      sum-none (λ p. hit (eqb p q) * g p) (range (suc k) m)
+      sum-none (λ p. num (eqb p q) * g p) (range (suc k) m)
           (λ x h. let b = range-mem (suc k) m h in rw (ne-eqb x q (λ w. omega arith)) (omega arith)),
     ))
     go (inr h) r = rw (ne-eqb k q (λ w. omega arith)) (omega (arith, r h))
@@ -73,8 +74,8 @@ total-sum g n (node q ∷ vs) h =
       arith,
       total-sum g n vs (λ v m. h v (there m)),
       sum-at g q 0 n (omega arith) (omega (arith, h (node q) (here refl))),
-      sum-add (λ p. hit (eqb p q) * g p) (λ p. times p vs * g p) (range 0 n),
-      sum-eq (λ p. (hit (eqb p q) + times p vs) * g p) (λ p. hit (eqb p q) * g p + times p vs * g p) (range 0 n) (λ x m. omega arith),
+      sum-add (λ p. num (eqb p q) * g p) (λ p. times p vs * g p) (range 0 n),
+      sum-eq (λ p. (num (eqb p q) + times p vs) * g p) (λ p. num (eqb p q) * g p + times p vs * g p) (range 0 n) (λ x m. omega arith),
     )
 total-sum g n (shadow q ∷ vs) h =
     total-sum g n vs (λ v m. h v (there m)) ∙ sum-eq (λ p. times p vs * g p) (λ p. (0 + times p vs) * g p) (range 0 n) (λ x m. omega arith)

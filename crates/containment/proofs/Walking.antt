@@ -1,8 +1,8 @@
 -- The four parts while the tree is walked: at the node c, whose parts below `from` are done. Assumes nothing.
-use mathlib.Core.Path.{_≡_, refl, sym, ap, _∙_}
-use mathlib.Core.Bool.{Bool, true, false}
-use mathlib.Core.List.{List, [], _∷_, _++_}
-use Prim.Native.Nat.{ℕ, zero, suc, _+_, _*_, _≤_, _<_}
+use mathlib.Core.Path.{_≡_, sym, ap, _∙_}
+use mathlib.Core.Bool.{Bool}
+use mathlib.Core.List.{List, [], _∷_}
+use Prim.Native.Nat.{ℕ, _+_, _*_, _≤_, _<_}
 use native.Mathlib.Omega.{arith}
 use native.Mathlib.Numerals.{add-one}
 use native.Mathlib.Decide.{ℕ-discrete, decLt}
@@ -12,17 +12,17 @@ use Rattle.containment.specs.Pairs.{Book}
 use Rattle.containment.specs.Breadth.{parent}
 use Rattle.containment.specs.Tree.{Visit, node, shadow, whole, visits}
 use Rattle.containment.specs.Parts.{parens, shadows, place}
-use Rattle.containment.specs.Index.{parenthesesOf, visitsOf, Room}
+use Rattle.containment.specs.Index.{parenthesesOf, visitsOf}
 use Rattle.containment.specs.Matrix.{pairOf}
 use Rattle.containment.specs.Steps.{Walkable, Walked, Zero}
 use Rattle.containment.proofs.Reached.{parent-edge}
-use Rattle.containment.proofs.Nodes.{times, once}
+use Rattle.containment.proofs.Nodes.{once}
 use Rattle.containment.proofs.Sizes.{node-or-shadow}
 use Rattle.containment.proofs.Ranges.{parens-length}
 use Rattle.containment.proofs.Contains.{node-at, place-small}
 use Rattle.containment.proofs.Nexts.{Next}
-use Rattle.containment.proofs.Events.{Event, enter, leave, events, rest, parens-events, visits-events, step-next, step-shadow, step-node, step-leave, step-end, start}
-use Rattle.containment.proofs.Written.{Written, Put, Done, Holds, written-start, written-leave, written-node, written-shadow, written-end, bit-room, shadow-room}
+use Rattle.containment.proofs.Events.{enter, leave, events, rest, parens-events, visits-events, step-next, step-shadow, step-node, step-leave, step-end, start}
+use Rattle.containment.proofs.Written.{Written, Put, Done, written-start, written-leave, written-node, written-shadow, written-end, bit-room, shadow-room}
 
 -- what is left to do
 unfoldable pub left : ℕ → (ℕ → ℕ → Bool) → ℕ → ℕ → ℕ

@@ -1,19 +1,19 @@
--- The four parts while they are being written, event by event. P and U are the parentheses and the visits that are to be written.
+-- The four parts while they are being written, event by event. P and U are the parentheses and the visits that are to be written. Assumes nothing.
 use mathlib.Core.Path.{_≡_, refl, sym, ap, _∙_}
-use mathlib.Core.Logic.{_⊎_, inl, inr, _≢_}
+use mathlib.Core.Logic.{_≢_}
 use mathlib.Core.Bool.{Bool, true, false, true≢false}
-use mathlib.Core.List.{List, [], _∷_, _++_, map, append-nil}
+use mathlib.Core.List.{List, [], _∷_, _++_, append-nil}
 use Prim.Native.Nat.{ℕ, zero, suc, _+_, _*_, _-_, _/_, _%_, _^_, _≤_, _<_}
 use native.Mathlib.Omega.{arith}
 use native.Mathlib.Numerals.{add-one}
 use native.Mathlib.Decide.{ℕ-discrete, decLt}
 use native.Mathlib.Nat.{zero-div}
-use lib.ListN.{length, getD, take, drop, set, length-append, length-set, length-take, length-map, List·getD-append, List·getD-eq-default, take-append-drop, length-drop}
+use lib.ListN.{length, getD, take, drop, set, length-append, length-set, length-map, List·getD-eq-default, take-append-drop, length-drop}
 use lib.Seq.{take-all, getD-set-same, getD-set-other, getD-append-seam, length-take-le}
 use Rattle.parentheses.specs.Bits.{bits, bitOf, digit}
 use Rattle.parentheses.proofs.Packed.{bits-length, bits-at}
 use Rattle.containment.specs.Tree.{Visit, node, shadow}
-use Rattle.containment.specs.Parts.{isShadow, isNode, place, marks, shadows}
+use Rattle.containment.specs.Parts.{isShadow, marks, shadows}
 use Rattle.containment.proofs.Events.{Event, enter, leave, eventBits, eventVisits}
 use Rattle.containment.proofs.Nodes.{times}
 use Rattle.containment.proofs.Contains.{place-only}

@@ -8,5 +8,6 @@ pub mod Inside
 pub mod Filling
 pub mod Matrix
 pub mod Steps
-pub mod Stored
 pub mod Contents
+pub mod Stored
+pub mod Loaded

@@ -51,13 +51,13 @@ fn set_place(places: &mut [u16], g: DatasetId, t: TreeId)
     places[i] = narrow(k);
 }
 
-fn clear(list: &mut [u16])
+pub fn clear(list: &mut [u16])
     ensures { λ _. ⌜ now (list .exit) ≡ replicate (length (now (list .entry))) 0 ⌝ }
 {
-    let mut i: usize = 0;
-    while i < list.len() {
-        list[i] = 0;
-        i += 1;
+    let mut done: usize = 0;
+    while done < list.len() {
+        list[done] = 0;
+        done += 1;
     }
 }
 
@@ -216,7 +216,8 @@ fn resolve(shadows: &mut [u16], places: &[u16], m: usize)
 {
     let mut j: usize = 0;
     while j < m {
-        let t = place_of(places, DatasetId(wide(shadows[j])));
+        let g = wide(shadows[j]);
+        let t = place_of(places, DatasetId(g));
         let k = t.0;
         shadows[j] = narrow(k);
         j += 1;

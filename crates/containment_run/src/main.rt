@@ -1,9 +1,10 @@
-// Prints the index of the printed session's book, and for generated books the counts and a checksum of each part over its whole lent
-// length, zeros included. tests/runs/containment_run.py works the same lines out in another way.
+// Prints the index of the printed session's book and the rows of what its pieces contain, and for generated books the counts, a
+// checksum of each part over its whole lent length, zeros included, and one of all rows. tests/runs/containment_run.py works the same lines out in another way.
 ghost use mathlib.Core.Path.{_≡_};
 ghost use Prim.Native.Nat.{_*_, _<_, _≤_};
 ghost use lib.ListN.{length};
-ghost use Rattle.containment_run.specs.Loaded.{Loaded};
+ghost use Rattle.containment.specs.Contents.{Stored};
+ghost use Rattle.containment.specs.Loaded.{Loaded};
 
 // The shapes of the generated books.
 const DEEP: u8 = 0;
@@ -18,18 +19,19 @@ const RANDOM: u8 = 4;
 
 fn main() {
     let mut edges = [0u64; 65536];
-    session(&mut edges);
-    book(b"alone", FLAT, 1, 0, &mut edges);
-    book(b"joined", FLAT, 2048, 0, &mut edges);
-    book(b"deep", DEEP, 2048, 2047, &mut edges);
-    book(b"flat", FLAT, 2048, 2047, &mut edges);
-    book(b"bushy", BUSHY, 2048, 8188, &mut edges);
-    book(b"ladder", LADDER, 2001, 4000, &mut edges);
-    book(b"random", RANDOM, 7, 12, &mut edges);
-    book(b"random", RANDOM, 50, 100, &mut edges);
-    book(b"random", RANDOM, 300, 1000, &mut edges);
-    book(b"random", RANDOM, 2048, 3000, &mut edges);
-    book(b"random", RANDOM, 2048, 8192, &mut edges);
+    let mut rows = [0u64; 65536];
+    session(&mut edges, &mut rows);
+    book(b"alone", FLAT, 1, 0, &mut edges, &mut rows);
+    book(b"joined", FLAT, 2048, 0, &mut edges, &mut rows);
+    book(b"deep", DEEP, 2048, 2047, &mut edges, &mut rows);
+    book(b"flat", FLAT, 2048, 2047, &mut edges, &mut rows);
+    book(b"bushy", BUSHY, 2048, 8188, &mut edges, &mut rows);
+    book(b"ladder", LADDER, 2001, 4000, &mut edges, &mut rows);
+    book(b"random", RANDOM, 7, 12, &mut edges, &mut rows);
+    book(b"random", RANDOM, 50, 100, &mut edges, &mut rows);
+    book(b"random", RANDOM, 300, 1000, &mut edges, &mut rows);
+    book(b"random", RANDOM, 2048, 3000, &mut edges, &mut rows);
+    book(b"random", RANDOM, 2048, 8192, &mut edges, &mut rows);
 }
 
 fn clear(n: usize, edges: &mut [u64])
@@ -137,6 +139,7 @@ fn index(
     places: &mut [u16],
 ) -> containment::Counts
     requires { ⌜ Loaded n (now edges) k × (length (now parens) ≡ 2560) × (length (now marks) ≡ 1280) × (length (now shadows) ≡ 8192) × (length (now places) ≡ 2048) ⌝ }
+    ensures { λ r. ⌜ (r .nodes ≤ 18432) × Stored n (r .nodes) (now (parens .exit)) (now (marks .exit)) (now (shadows .exit)) (now (places .exit)) ⌝ }
 {
     containment::build(n, edges, parens, marks, shadows, places)
 }
@@ -174,6 +177,16 @@ fn sum_numbers(numbers: &[u16]) -> u64 {
     sum
 }
 
+fn sum_words(words: &[u64]) -> u64 {
+    let mut sum: u64 = 0;
+    let mut i: usize = 0;
+    while i < words.len() {
+        sum = mix(sum, (words[i] % 65521) as usize);
+        i += 1;
+    }
+    sum
+}
+
 fn print(x: u64) {
     io::write_all(1, b" ");
     io::print_decimal(1, x);
@@ -190,17 +203,19 @@ fn print_sums(
     marks: &[u8; 1280],
     shadows: &[u16; 8192],
     places: &[u16; 2048],
+    rows: &[u64],
 ) {
     print(sum_bytes(parens));
     print(sum_bytes(marks));
     print(sum_numbers(shadows));
     print(sum_numbers(places));
+    print(sum_words(rows));
     io::write_all(1, b"\n");
 }
 
 // Prints the counts and checksums of the book of `count` pairs of a shape. The lent parts hold other numbers before.
-fn book(name: &[u8], shape: u8, n: usize, count: usize, edges: &mut [u64])
-    requires { ⌜ (0 < n) × (n ≤ 2048) × (count ≤ 8192) × (length (now edges) ≡ 65536) ⌝ }
+fn book(name: &[u8], shape: u8, n: usize, count: usize, edges: &mut [u64], rows: &mut [u64])
+    requires { ⌜ (0 < n) × (n ≤ 2048) × (count ≤ 8192) × (length (now edges) ≡ 65536) × (length (now rows) ≡ 65536) ⌝ }
 {
     let mut parens = [255u8; 2560];
     let mut marks = [255u8; 1280];
@@ -217,9 +232,11 @@ fn book(name: &[u8], shape: u8, n: usize, count: usize, edges: &mut [u64])
         &mut shadows,
         &mut places,
     );
+    let nodes = counts.nodes;
+    containment::contents::contents(n, nodes, &parens, &marks, &shadows, &places, rows);
     io::write_all(1, name);
     print_counts(n, counts);
-    print_sums(&parens, &marks, &shadows, &places);
+    print_sums(&parens, &marks, &shadows, &places, rows);
 }
 
 // Prints the first bytes, as far as there are any.
@@ -276,8 +293,22 @@ fn session_pairs(edges: &mut [u64]) -> usize
     add(6, edges, e, 5, 4)
 }
 
-fn session(edges: &mut [u64])
-    requires { ⌜ length (now edges) ≡ 65536 ⌝ }
+// Prints the first word of the first six rows.
+fn print_rows(rows: &[u64]) {
+    io::write_all(1, b"rows");
+    let mut i: usize = 0;
+    while i < 6 {
+        if rows.len() <= i * 32 {
+            return;
+        }
+        print(rows[i * 32]);
+        i += 1;
+    }
+    io::write_all(1, b"\n");
+}
+
+fn session(edges: &mut [u64], rows: &mut [u64])
+    requires { ⌜ (length (now edges) ≡ 65536) × (length (now rows) ≡ 65536) ⌝ }
 {
     let mut parens = [255u8; 2560];
     let mut marks = [255u8; 1280];
@@ -293,8 +324,11 @@ fn session(edges: &mut [u64])
         &mut shadows,
         &mut places,
     );
+    let nodes = counts.nodes;
+    containment::contents::contents(6, nodes, &parens, &marks, &shadows, &places, rows);
     io::write_all(1, b"session");
     print_counts(6, counts);
     io::write_all(1, b"\n");
     print_front(&parens, &marks, &shadows, &places);
+    print_rows(rows);
 }

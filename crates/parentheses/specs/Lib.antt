@@ -2,6 +2,7 @@ pub mod Bits
 pub mod Padded
 pub mod Rank
 pub mod Close
+pub mod Search
 pub mod Subtree
 pub mod Enclose
 pub mod Found

@@ -1,28 +1,50 @@
 // Two constant tables with an entry for each byte: how many of its bits are 1, and its lowest running excess.
 ghost use mathlib.Core.Path.{_≡_};
-ghost use Prim.Native.Nat.{_≤_};
+ghost use Prim.Native.Nat.{_+_, _-_, _*_, _^_, _<_, _≤_};
 ghost use lib.IntN.{pos, _+ℤ_};
+ghost use lib.ListN.{length};
+ghost use Rattle.lists.specs.Tab.{tab};
+ghost use Rattle.parentheses.specs.Bits.{bits};
+ghost use Rattle.parentheses.specs.Rank.{rank};
 ghost use Rattle.parentheses.specs.Tables.{onesOf, lowestOf};
 
-// How many bits of b are 1.
-pub fn ones_of(b: u8) -> u8
+// How many bits of b are 1, by the table.
+fn ones_of(table: &[u8; 256], b: u8) -> usize
+    requires { ⌜ now table ≡ tab onesOf 0 256 ⌝ }
     ensures { λ r. ⌜ (r ≡ onesOf b) × (r ≤ 8) ⌝ }
 {
-    ONES[b as usize]
+    table[b as usize] as usize
 }
 
-// The lowest running excess of b: +1 for a 1, -1 for a 0, low bit first, after at least one bit.
-pub fn lowest_of(b: u8) -> i8
+// How many bits of the bytes from one up to before another are 1: the one count that reads the table of ones, fetched once for the run.
+pub fn ones_in(bytes: &[u8], from: usize, to: usize) -> usize
+    requires { ⌜ (from ≤ to) × (to ≤ length (now bytes)) × (8 * to < 2 ^ 64) ⌝ }
+    ensures { λ r. ⌜ (rank (bits (now (bytes .entry))) (8 * from) + r ≡ rank (bits (now (bytes .entry))) (8 * to)) × (r ≤ 8 * (to - from)) ⌝ }
+{
+    let table = ONES;
+    let mut n: usize = 0;
+    let mut i = from;
+    while i < to {
+        n += ones_of(&table, bytes[i]);
+        i += 1;
+    }
+    n
+}
+
+// The lowest running excess of b, by the table: +1 for a 1, -1 for a 0, low bit first, after at least one bit.
+fn lowest_of(table: &[i8; 256], b: u8) -> i8
+    requires { ⌜ now table ≡ tab lowestOf 0 256 ⌝ }
     ensures { λ r. ⌜ r ≡ lowestOf b ⌝ }
 {
-    LOWEST[b as usize]
+    table[b as usize]
 }
 
 // Eight more than the lowest running excess of b, so that it is not negative.
-pub fn margin_of(b: u8) -> usize
+pub fn margin_of(table: &[i8; 256], b: u8) -> usize
+    requires { ⌜ now table ≡ tab lowestOf 0 256 ⌝ }
     ensures { λ r. ⌜ pos r ≡ lowestOf b +ℤ pos 8 ⌝ }
 {
-    (lowest_of(b) + 8) as usize
+    (lowest_of(table, b) + 8) as usize
 }
 
 const ONES: [u8; 256] = [
@@ -284,7 +306,7 @@ const ONES: [u8; 256] = [
     8,
 ];
 
-const LOWEST: [i8; 256] = [
+pub const LOWEST: [i8; 256] = [
     -8,
     -6,
     -6,

@@ -1,15 +1,9 @@
 -- `containment::build` meets its contract.
 -- Assumes nothing.
-use mathlib.Core.Path.{_≡_, refl, sym, _∙_}
 use Rattle.containment.proofs.Buildings.{sized, walkable, indexed}
 use borrow.Author.Needs.{needs}
 use Rattle.containment.proofs.build.Statement.{statement}
 use Rattle.containment.proofs.build.Tie as tie
-use Rattle.containment.proofs.build.Reads as reads
-use Rattle.containment.proofs.build.Lts as lts
-use Rattle.containment.proofs.complete.Reads as complete-reads
-use Rattle.containment.proofs.fill.Reads as fill-reads
-use Rattle.containment.proofs.find_parents.Reads as find-parents-reads
 
 complete-requires : tie.Need-complete-requires
 complete-requires c κs = search needs

@@ -1,24 +1,22 @@
--- `containment::clear` meets its contract: what is before `i` is 0, and the rest is as it was.
+-- `containment::clear` meets its contract: what is before `done` is 0, and the rest is as it was.
 -- Assumes nothing.
 use mathlib.Core.Path.{_≡_, refl, _∙_}
 use mathlib.Core.List.{_++_, append-nil}
-use Prim.Native.Nat.{ℕ, _+_, _-_, _≤_, _<_}
+use Prim.Native.Nat.{_+_, _-_, _≤_}
 use borrow.Author.Fill.{fill-more}
 use native.Mathlib.Omega.{arith}
 use denote.Ref.{now}
-use lib.ListN.{length, set, drop, replicate, length-set}
+use lib.ListN.{length, drop, replicate, length-set}
 use lib.Seq.{drop-length}
 use borrow.Author.Needs.{needs}
 use Rattle.containment.proofs.clear.Statement.{statement}
 use Rattle.containment.proofs.clear.Tie as tie
-use Rattle.containment.proofs.clear.Reads as reads
-use Rattle.containment.proofs.clear.Lts as lts
 
 abbrev Inv-loop : tie.InvT-loop
-Inv-loop list₀ i₀ list i = (i ≤ length list) × (length list ≡ length list₀) × (list ≡ replicate i 0 ++ drop i list₀)
+Inv-loop list₀ done₀ list done = (done ≤ length list) × (length list ≡ length list₀) × (list ≡ replicate done 0 ++ drop done list₀)
 
 abbrev μ-loop : tie.MeasureT-loop
-μ-loop list₀ i₀ list i = length list - i
+μ-loop list₀ done₀ list done = length list - done
 
 loop-holds : tie.Need-loop-holds Inv-loop μ-loop
 loop-holds c = (omega arith, refl, refl)
@@ -29,8 +27,8 @@ mul-list c = search needs
 slice-write-list : tie.Need-slice-write-list Inv-loop μ-loop
 slice-write-list c = search needs
 
-add-i : tie.Need-add-i Inv-loop μ-loop
-add-i c = search needs
+add-done : tie.Need-add-done Inv-loop μ-loop
+add-done c = search needs
 
 loop-less : tie.Need-loop-less Inv-loop μ-loop
 loop-less c = simp length-set (omega arith)
@@ -38,7 +36,7 @@ loop-less c = simp length-set (omega arith)
 loop-again : tie.Need-loop-again Inv-loop μ-loop
 loop-again c =
     let d = now (c .before .before .args .list) in
-    let i = c .before .loop .i in
+    let i = c .before .loop .done in
     (simp length-set (omega arith), simp length-set (omega arith), rw (c .before .loop .inv .2) (fill-more i 0 d (omega arith)))
 
 same-length : tie.Need-same-length Inv-loop μ-loop
@@ -47,7 +45,7 @@ same-length c = search needs
 returns : tie.Need-returns Inv-loop μ-loop
 returns c =
     let d = now (c .before .before .args .list) in
-    let e : c .before .loop .i ≡ length d = omega arith in
+    let e : c .before .loop .done ≡ length d = omega arith in
     c .before .loop .inv .2 ∙ rw (e, drop-length) (append-nil (replicate (length d) 0))
 
 pub clear-spec : {M : Type 1} → statement M
@@ -59,7 +57,7 @@ clear-spec =
     loop-holds
     mul-list
     slice-write-list
-    add-i
+    add-done
     loop-less
     loop-again
     same-length

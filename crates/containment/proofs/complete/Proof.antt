@@ -5,10 +5,6 @@ use Rattle.containment.proofs.Walking.{cleared}
 use borrow.Author.Needs.{needs}
 use Rattle.containment.proofs.complete.Statement.{statement}
 use Rattle.containment.proofs.complete.Tie as tie
-use Rattle.containment.proofs.complete.Reads as reads
-use Rattle.containment.proofs.complete.Lts as lts
-use Rattle.containment.proofs.join.Reads as join-reads
-use Rattle.containment.proofs.mark_held.Reads as mark-held-reads
 
 slice-aggregate-mark-held : tie.Need-slice-aggregate-mark-held
 slice-aggregate-mark-held c = search needs

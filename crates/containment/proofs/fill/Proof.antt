@@ -1,21 +1,14 @@
 -- `containment::fill` meets its contract.
 -- Assumes nothing.
-use mathlib.Core.Path.{_≡_, refl, sym, ap, _∙_}
-use Prim.Native.Nat.{ℕ, _+_, _≤_, _<_}
+use mathlib.Core.Path.{_∙_}
 use native.Mathlib.Omega.{arith}
 use denote.Ref.{now}
-use lib.ListN.{length, getD}
+use lib.ListN.{length}
 use Rattle.containment.proofs.Walking.{resized, cleared}
 use Rattle.containment.proofs.Resolution.{resolvable, index-is}
 use borrow.Author.Needs.{needs}
 use Rattle.containment.proofs.fill.Statement.{statement}
 use Rattle.containment.proofs.fill.Tie as tie
-use Rattle.containment.proofs.fill.Reads as reads
-use Rattle.containment.proofs.fill.Lts as lts
-use Rattle.containment.proofs.clear.Reads as clear-reads
-use Rattle.containment.proofs.resolve.Reads as resolve-reads
-use Rattle.containment.proofs.walk.Reads as walk-reads
-use Rattle.parentheses.proofs.clear.Reads as clear-reads′
 
 clear-requires : tie.Need-clear-requires
 clear-requires c κs = search needs

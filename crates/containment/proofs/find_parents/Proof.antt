@@ -1,21 +1,15 @@
 -- `containment::find_parents` meets its contract: the rounds of the walk, one for each piece of the queue.
 -- Assumes nothing.
-use mathlib.Core.Path.{_≡_, refl, sym, _∙_}
-use Prim.Native.Nat.{ℕ, _+_, _-_, _≤_, _<_}
+use mathlib.Core.Path.{_≡_, refl, _∙_}
+use Prim.Native.Nat.{_-_}
 use native.Mathlib.Omega.{arith}
 use denote.Ref.{now}
 use lib.ListN.{length, set, length-set}
 use lib.Seq.{getD-set-same}
 use Rattle.containment.specs.Matrix.{pairOf}
-use Rattle.containment.specs.Steps.{unmet}
 use Rattle.containment.proofs.Rounds.{Round, round-start, round-next, round-end, head-small, unmet-all}
 use Rattle.containment.proofs.find_parents.Statement.{statement}
 use Rattle.containment.proofs.find_parents.Tie as tie
-use Rattle.containment.proofs.find_parents.Reads as reads
-use Rattle.containment.proofs.find_parents.Lts as lts
-use Rattle.containment.proofs.forget.Reads as forget-reads
-use Rattle.containment.proofs.spread.Reads as spread-reads
-use Rattle.containment.proofs.wide.Reads as wide-reads
 
 abbrev Inv-loop : tie.InvT-loop
 Inv-loop n edges parent₀ order₀ head₀ tail₀ parent order head tail = (length parent ≡ length parent₀) × (length order ≡ length order₀) × Round n (pairOf n edges) parent order head tail

@@ -1,14 +1,12 @@
 -- `containment::forget` meets its contract.
 -- Assumes nothing.
-use mathlib.Core.Path.{_≡_, refl, sym, _∙_}
-use Prim.Native.Nat.{ℕ, _+_, _-_, _≤_, _<_}
+use mathlib.Core.Path.{_≡_, refl, _∙_}
+use Prim.Native.Nat.{ℕ, _-_, _≤_, _<_}
 use native.Mathlib.Omega.{arith}
-use lib.ListN.{length, getD, set, length-set}
+use lib.ListN.{length, getD, length-set}
 use Rattle.containment.proofs.Rounds.{filled}
 use Rattle.containment.proofs.forget.Statement.{statement}
 use Rattle.containment.proofs.forget.Tie as tie
-use Rattle.containment.proofs.forget.Reads as reads
-use Rattle.containment.proofs.forget.Lts as lts
 
 abbrev Inv-loop : tie.InvT-loop
 Inv-loop n parent₀ i₀ parent i = (i ≤ n) × (length parent ≡ length parent₀) × ((q : ℕ) → q < i → getD parent q 0 ≡ 2048)

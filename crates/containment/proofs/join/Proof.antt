@@ -1,7 +1,7 @@
 -- `containment::join` meets its contract: the joins of the pieces below `p` are made.
 -- Assumes nothing.
-use mathlib.Core.Path.{_≡_, refl, sym, _∙_}
-use Prim.Native.Nat.{ℕ, _+_, _-_, _≤_, _<_}
+use mathlib.Core.Path.{_≡_, refl, _∙_}
+use Prim.Native.Nat.{_-_, _≤_}
 use native.Mathlib.Omega.{arith}
 use denote.Ref.{now}
 use lib.ListN.{length}
@@ -9,9 +9,6 @@ use Rattle.containment.proofs.Joins.{Joining, join-start, join-pass, jo
 use borrow.Author.Needs.{needs}
 use Rattle.containment.proofs.join.Statement.{statement}
 use Rattle.containment.proofs.join.Tie as tie
-use Rattle.containment.proofs.join.Reads as reads
-use Rattle.containment.proofs.join.Lts as lts
-use Rattle.relation.proofs.insert.Reads as insert-reads
 
 abbrev Inv-loop : tie.InvT-loop
 Inv-loop n edges₀ held p₀ edges p = (1 ≤ p) × (p ≤ n) × (length edges ≡ length edges₀) × Joining n edges₀ edges p

@@ -1,18 +1,14 @@
 -- `containment::mark_held` meets its contract: the parts of the pieces below `c` are marked.
 -- Assumes nothing.
-use mathlib.Core.Path.{_≡_, refl, sym, _∙_}
-use Prim.Native.Nat.{ℕ, _+_, _-_, _≤_, _<_}
+use mathlib.Core.Path.{_≡_, refl, _∙_}
+use Prim.Native.Nat.{_-_, _≤_}
 use native.Mathlib.Omega.{arith}
-use denote.Ref.{now}
 use lib.ListN.{length}
 use Rattle.containment.specs.Steps.{Held}
 use Rattle.containment.proofs.Joins.{held-start, held-more}
 use borrow.Author.Needs.{needs}
 use Rattle.containment.proofs.mark_held.Statement.{statement}
 use Rattle.containment.proofs.mark_held.Tie as tie
-use Rattle.containment.proofs.mark_held.Reads as reads
-use Rattle.containment.proofs.mark_held.Lts as lts
-use Rattle.containment.proofs.mark_parts.Reads as mark-parts-reads
 
 abbrev Inv-loop : tie.InvT-loop
 Inv-loop n edges held₀ c₀ held c = (c ≤ n) × (length held ≡ length held₀) × Held c edges held

@@ -1,19 +1,15 @@
 -- `containment::mark_parts` meets its contract: the parts below `p` are marked, and `p` is the next one.
 -- Assumes nothing.
-use mathlib.Core.Path.{_≡_, refl, sym, _∙_}
+use mathlib.Core.Path.{_≡_, refl, _∙_}
 use mathlib.Core.Bool.{true}
-use Prim.Native.Nat.{ℕ, _+_, _-_, _≤_, _<_}
+use Prim.Native.Nat.{_+_, _-_, _<_}
 use native.Mathlib.Omega.{arith}
-use denote.Ref.{now}
 use lib.ListN.{length, set, length-set}
 use Rattle.relation.specs.Matrix.{bitOf}
 use Rattle.containment.proofs.Joins.{Marking, mark-start, mark-next, mark-more, mark-done}
 use borrow.Author.Needs.{needs}
 use Rattle.containment.proofs.mark_parts.Statement.{statement}
 use Rattle.containment.proofs.mark_parts.Tie as tie
-use Rattle.containment.proofs.mark_parts.Reads as reads
-use Rattle.containment.proofs.mark_parts.Lts as lts
-use Rattle.relation.proofs.next_bit.Reads as next-bit-reads
 
 abbrev Inv-loop : tie.InvT-loop
 Inv-loop edges c held₀ p₀ held p = (length held ≡ length held₀) × Marking edges c held₀ held p × (p < 2048 → bitOf edges c p ≡ true)

@@ -1,19 +1,12 @@
 -- `containment::resolve` meets its contract: the shadows before `j` have their places.
 -- Assumes nothing.
-use mathlib.Core.Path.{_≡_, refl, sym, ap, _∙_}
-use Prim.Native.Nat.{ℕ, _+_, _-_, _≤_, _<_}
+use mathlib.Core.Path.{_≡_}
+use Prim.Native.Nat.{_-_, _≤_}
 use native.Mathlib.Omega.{arith}
-use denote.Ref.{now}
-use lib.ListN.{length, getD, set}
 use Rattle.containment.specs.Steps.{Resolvable, Resolved}
 use Rattle.containment.proofs.Resolution.{resolve-start, resolve-more}
 use Rattle.containment.proofs.resolve.Statement.{statement}
 use Rattle.containment.proofs.resolve.Tie as tie
-use Rattle.containment.proofs.resolve.Reads as reads
-use Rattle.containment.proofs.resolve.Lts as lts
-use Rattle.containment.proofs.narrow.Reads as narrow-reads
-use Rattle.containment.proofs.place_of.Reads as place-of-reads
-use Rattle.containment.proofs.wide.Reads as wide-reads
 
 abbrev Inv-loop : tie.InvT-loop
 Inv-loop shadows₀ places m j₀ shadows j = Resolvable shadows₀ places m × (j ≤ m) × Resolved shadows₀ places j shadows
@@ -37,7 +30,9 @@ place-of-requires : tie.Need-place-of-requires Inv-loop μ-loop
 place-of-requires c κs = let L = c .before .before .before .loop in omega (arith, c .wide .ensures, L .inv .2 .kept (L .j) (omega arith), L .inv .0 .known (L .j) (omega arith))
 
 narrow-requires : tie.Need-narrow-requires Inv-loop μ-loop
-narrow-requires c κs = omega (arith, c .place-of .ensures, c .before .before .before .before .before .shared-slice-known .given (c .before .wide .result))
+narrow-requires c κs =
+    let j = c .before .before .before .before .loop .j in
+    omega (arith, c .place-of .ensures, c .before .before .before .before .before .shared-slice-known .given (c .before .wide .result), c .before .wide .ensures, c .before .before .slice-known2 .given j)
 
 mul-shadows : tie.Need-mul-shadows Inv-loop μ-loop
 mul-shadows c = omega arith

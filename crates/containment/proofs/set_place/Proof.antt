@@ -1,14 +1,8 @@
 -- `containment::set_place` meets its contract.
 -- Assumes nothing.
-use mathlib.Core.Path.{ap}
-use Prim.Native.Nat.{ℕ}
-use lib.ListN.{set}
 use borrow.Author.Needs.{needs}
 use Rattle.containment.proofs.set_place.Statement.{statement}
 use Rattle.containment.proofs.set_place.Tie as tie
-use Rattle.containment.proofs.set_place.Reads as reads
-use Rattle.containment.proofs.set_place.Lts as lts
-use Rattle.containment.proofs.narrow.Reads as narrow-reads
 
 narrow-requires : tie.Need-narrow-requires
 narrow-requires c κs = search needs

@@ -1,21 +1,16 @@
 -- `containment::spread` meets its contract: the parts of c below `p` are met, and `p` is the next one.
 -- Assumes nothing.
-use mathlib.Core.Path.{_≡_, refl, sym, _∙_}
+use mathlib.Core.Path.{_≡_}
 use mathlib.Core.Bool.{true}
-use Prim.Native.Nat.{ℕ, _+_, _-_, _≤_, _<_}
+use Prim.Native.Nat.{_+_, _-_, _≤_, _<_}
 use native.Mathlib.Omega.{arith}
 use denote.Ref.{now}
-use lib.ListN.{length, set, length-set}
 use Rattle.containment.specs.Matrix.{pairOf}
-use Rattle.containment.proofs.Nexts.{Next, next-part}
+use Rattle.containment.proofs.Nexts.{next-part}
 use Rattle.containment.proofs.Events.{none-low}
 use Rattle.containment.proofs.Queue.{Spreading, spread-start, spread-next, spread-take, spread-met, spread-done}
 use Rattle.containment.proofs.spread.Statement.{statement}
 use Rattle.containment.proofs.spread.Tie as tie
-use Rattle.containment.proofs.spread.Reads as reads
-use Rattle.containment.proofs.spread.Lts as lts
-use Rattle.containment.proofs.narrow.Reads as narrow-reads
-use Rattle.relation.proofs.next_bit.Reads as next-bit-reads
 
 abbrev Inv-loop : tie.InvT-loop
 Inv-loop n c edges parent₀ order₀ tail end₀ p₀ parent order end p = (p ≤ 2048) × Spreading n (pairOf n edges) c parent₀ order₀ tail parent order end p × (p < n → pairOf n edges p c ≡ true)

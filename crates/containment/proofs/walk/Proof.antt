@@ -1,24 +1,14 @@
 -- `containment::walk` meets its contract: each turn enters a part of c or leaves c, and writes what that asks.
 -- Assumes nothing.
-use mathlib.Core.Path.{_≡_, refl, sym, ap, _∙_}
-use Prim.Native.Nat.{ℕ, _+_, _*_, _≤_, _<_}
+use mathlib.Core.Path.{refl, sym, _∙_}
 use native.Mathlib.Omega.{arith}
-use denote.Ref.{now}
-use lib.ListN.{length, getD, set, length-set}
+use lib.ListN.{length}
 use Rattle.containment.specs.Matrix.{pairOf}
 use Rattle.containment.specs.Steps.{Walkable}
-use Rattle.containment.proofs.Nexts.{Next, next-part}
-use Rattle.containment.proofs.Written.{Put}
-use Rattle.containment.proofs.Walking.{left, Walking, Given, given, resized, start-room, walk-start, walk-room, walk-less, place-room, walk-node, mark-room, shadow-less, walk-shadow, leave-room, leave-less, walk-leave, walk-end}
+use Rattle.containment.proofs.Nexts.{next-part}
+use Rattle.containment.proofs.Walking.{left, Walking, given, resized, start-room, walk-start, walk-room, walk-less, place-room, walk-node, mark-room, shadow-less, walk-shadow, leave-room, leave-less, walk-leave, walk-end}
 use Rattle.containment.proofs.walk.Statement.{statement}
 use Rattle.containment.proofs.walk.Tie as tie
-use Rattle.containment.proofs.walk.Reads as reads
-use Rattle.containment.proofs.walk.Lts as lts
-use Rattle.containment.proofs.narrow.Reads as narrow-reads
-use Rattle.containment.proofs.set_place.Reads as set-place-reads
-use Rattle.containment.proofs.wide.Reads as wide-reads
-use Rattle.parentheses.proofs.put.Reads as put-reads
-use Rattle.relation.proofs.next_bit.Reads as next-bit-reads
 
 abbrev Inv-loop : tie.InvT-loop
 Inv-loop n edges parent parens₀ marks₀ shadows₀ places₀ c₀ from₀ at₀ k₀ m₀ parens marks shadows places c from at k m =

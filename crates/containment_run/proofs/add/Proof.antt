@@ -1,13 +1,10 @@
 -- `containment_run::add` meets its contract.
 -- Assumes nothing.
 use native.Mathlib.Omega.{arith}
-use Rattle.containment_run.proofs.Loads.{more}
+use Rattle.containment.proofs.Loads.{more}
 use borrow.Author.Needs.{needs}
 use Rattle.containment_run.proofs.add.Statement.{statement}
 use Rattle.containment_run.proofs.add.Tie as tie
-use Rattle.containment_run.proofs.add.Reads as reads
-use Rattle.containment_run.proofs.add.Lts as lts
-use Rattle.relation.proofs.insert.Reads as insert-reads
 
 returns : tie.Need-returns
 returns c = search needs

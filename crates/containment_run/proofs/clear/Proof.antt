@@ -3,13 +3,10 @@
 use mathlib.Core.Path.{ap, _∙_}
 use Prim.Native.Nat.{ℕ}
 use lib.ListN.{replicate}
-use Rattle.containment_run.proofs.Loads.{none}
+use Rattle.containment.proofs.Loads.{none}
 use borrow.Author.Needs.{needs}
 use Rattle.containment_run.proofs.clear.Statement.{statement}
 use Rattle.containment_run.proofs.clear.Tie as tie
-use Rattle.containment_run.proofs.clear.Reads as reads
-use Rattle.containment_run.proofs.clear.Lts as lts
-use Rattle.relation.proofs.clear.Reads as clear-reads
 
 clear-requires : tie.Need-clear-requires
 clear-requires c κs = search needs

@@ -1,19 +1,13 @@
 -- `containment_run::load` meets its contract: the first j pairs are put in.
 -- Assumes nothing.
 use mathlib.Core.Path.{_≡_, refl, _∙_}
-use Prim.Native.Nat.{ℕ, _-_, _≤_, _<_}
+use Prim.Native.Nat.{_-_, _≤_}
 use native.Mathlib.Omega.{arith}
 use lib.ListN.{length}
-use Rattle.containment_run.specs.Loaded.{Loaded}
+use Rattle.containment.specs.Loaded.{Loaded}
 use borrow.Author.Needs.{needs}
 use Rattle.containment_run.proofs.load.Statement.{statement}
 use Rattle.containment_run.proofs.load.Tie as tie
-use Rattle.containment_run.proofs.load.Reads as reads
-use Rattle.containment_run.proofs.load.Lts as lts
-use Rattle.containment_run.proofs.add.Reads as add-reads
-use Rattle.containment_run.proofs.container.Reads as container-reads
-use Rattle.containment_run.proofs.next.Reads as next-reads
-use Rattle.containment_run.proofs.part.Reads as part-reads
 
 abbrev Inv-loop : tie.InvT-loop
 Inv-loop shape n count edges₀ state₀ k₀ j₀ edges state k j = (length edges ≡ length edges₀) × (j ≤ count) × Loaded n edges k

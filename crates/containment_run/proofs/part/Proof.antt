@@ -6,8 +6,6 @@ use Prim.Native.Nat.{_%_, _/_}
 use borrow.Author.Needs.{needs}
 use Rattle.containment_run.proofs.part.Statement.{statement}
 use Rattle.containment_run.proofs.part.Tie as tie
-use Rattle.containment_run.proofs.part.Reads as reads
-use Rattle.containment_run.proofs.part.Lts as lts
 
 add-result : tie.Need-add-result
 add-result c = search needs

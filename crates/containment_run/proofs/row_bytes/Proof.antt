@@ -1,15 +1,9 @@
 -- `containment_run::row_bytes` meets its contract.
 -- Assumes nothing.
 use Prim.Native.Nat.{_≤_, _-_}
-use lib.ListN.{length}
 use borrow.Author.Needs.{needs}
 use Rattle.containment_run.proofs.row_bytes.Statement.{statement}
 use Rattle.containment_run.proofs.row_bytes.Tie as tie
-use Rattle.containment_run.proofs.row_bytes.Reads as reads
-use Rattle.containment_run.proofs.row_bytes.Lts as lts
-use Rattle.containment_run.proofs.of_byte.Reads as of-byte-reads
-use Rattle.containment_run.proofs.print.Reads as print-reads
-use Rattle.io.proofs.write_all.Reads as write-all-reads
 
 abbrev Inv-loop : tie.InvT-loop
 Inv-loop name bytes count i₀ t5 i = i ≤ count

@@ -1,15 +1,9 @@
 -- `containment_run::row_numbers` meets its contract.
 -- Assumes nothing.
 use Prim.Native.Nat.{_≤_, _-_}
-use lib.ListN.{length}
 use borrow.Author.Needs.{needs}
 use Rattle.containment_run.proofs.row_numbers.Statement.{statement}
 use Rattle.containment_run.proofs.row_numbers.Tie as tie
-use Rattle.containment_run.proofs.row_numbers.Reads as reads
-use Rattle.containment_run.proofs.row_numbers.Lts as lts
-use Rattle.containment_run.proofs.of_number.Reads as of-number-reads
-use Rattle.containment_run.proofs.print.Reads as print-reads
-use Rattle.io.proofs.write_all.Reads as write-all-reads
 
 abbrev Inv-loop : tie.InvT-loop
 Inv-loop name numbers count i₀ t5 i = i ≤ count

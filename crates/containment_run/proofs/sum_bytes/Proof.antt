@@ -5,10 +5,6 @@ use lib.ListN.{length}
 use borrow.Author.Needs.{needs}
 use Rattle.containment_run.proofs.sum_bytes.Statement.{statement}
 use Rattle.containment_run.proofs.sum_bytes.Tie as tie
-use Rattle.containment_run.proofs.sum_bytes.Reads as reads
-use Rattle.containment_run.proofs.sum_bytes.Lts as lts
-use Rattle.containment_run.proofs.mix.Reads as mix-reads
-use Rattle.containment_run.proofs.of_byte.Reads as of-byte-reads
 
 abbrev Inv-loop : tie.InvT-loop
 Inv-loop bytes sum₀ i₀ sum i = i ≤ length bytes

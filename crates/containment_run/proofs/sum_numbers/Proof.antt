@@ -5,10 +5,6 @@ use lib.ListN.{length}
 use borrow.Author.Needs.{needs}
 use Rattle.containment_run.proofs.sum_numbers.Statement.{statement}
 use Rattle.containment_run.proofs.sum_numbers.Tie as tie
-use Rattle.containment_run.proofs.sum_numbers.Reads as reads
-use Rattle.containment_run.proofs.sum_numbers.Lts as lts
-use Rattle.containment_run.proofs.mix.Reads as mix-reads
-use Rattle.containment_run.proofs.of_number.Reads as of-number-reads
 
 abbrev Inv-loop : tie.InvT-loop
 Inv-loop numbers sum₀ i₀ sum i = i ≤ length numbers

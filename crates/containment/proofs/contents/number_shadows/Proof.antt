@@ -64,7 +64,7 @@ mul-pieces : tie.Need-mul-pieces Inv-loop μ-loop
 mul-pieces c = omega (arith, target c)
 
 slice-read-pieces : tie.Need-slice-read-pieces Inv-loop μ-loop
-slice-read-pieces c = target (c .before)
+slice-read-pieces c = omega (arith, target (c .before))
 
 mul-pieces-2 : tie.Need-mul-pieces-2 Inv-loop μ-loop
 mul-pieces-2 c = search needs

@@ -1,11 +1,11 @@
--- A matrix into which k pairs of n pieces have been put, some perhaps twice. Assumes nothing.
+-- A matrix into which a caller has put k pairs of n pieces, some perhaps twice: what is asked of a builder that only counts them. Assumes nothing.
 use mathlib.Core.Path.{_≡_}
 use mathlib.Core.List.{List, List·Memᴰ}
 use Prim.Native.Nat.{ℕ, _<_, _≤_}
 use lib.ListN.{length}
 use Rattle.relation.specs.Matrix.{bitOf}
 use Rattle.rules.specs.Fact.{Fact, PART, AllWithin}
 use Rattle.containment.specs.Stored.{partIn}
 
 pub record Loaded (n : ℕ) (m : List ℕ) (k : ℕ) : Type 0 where
   pub some : 0 < n

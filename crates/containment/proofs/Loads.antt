@@ -1,26 +1,25 @@
--- A matrix while pairs are put into it. Assumes nothing.
+-- A matrix while pairs are put into it, and that document 01's lent lengths then have room for its index. Assumes nothing.
 use mathlib.Core.Path.{_≡_, refl, sym, ap, _∙_}
 use mathlib.Core.Logic.{_⊎_, inl, inr}
-use mathlib.Core.Bool.{Bool, true, false, _&&_, _||_, and-false}
+use mathlib.Core.Bool.{false, _&&_, _||_, and-false}
 use mathlib.Core.List.{List, [], _∷_, List·Memᴰ, List·Memᴰ·cases-cons, List·Memᴰ·not-nil}
-use Prim.Native.Nat.{ℕ, suc, _+_, _≤_, _<_}
+use Prim.Native.Nat.{ℕ, _+_, _≤_, _<_}
 use native.Mathlib.Decide.{ℕ-discrete}
-use native.Mathlib.Numerals.{add-one}
 use native.Mathlib.Omega.{arith}
 use lib.Dec.{eqb}
 use lib.ListN.{length, replicate, length-replicate}
-use borrow.Author.Tests.{eq-eqb, ne-eqb}
+use borrow.Author.Tests.{ne-eqb}
 use Rattle.lists.specs.Any.{any}
 use Rattle.lists.proofs.Bools.{eqb-self}
 use Rattle.relation.specs.Matrix.{bitOf, Inserted}
 use Rattle.relation.proofs.Columns as columns
-use Rattle.rules.specs.Fact.{Fact, PART, AllWithin, Within}
+use Rattle.rules.specs.Fact.{Fact, PART}
 use Rattle.rules.specs.Follows.{storing}
 use Rattle.rules.proofs.Facts.{added-within}
 use Rattle.containment.specs.Matrix.{Buildable}
 use Rattle.containment.specs.Stored.{partIn}
 use Rattle.containment.proofs.Derived.{buildable}
-use Rattle.containment_run.specs.Loaded.{Loaded}
+use Rattle.containment.specs.Loaded.{Loaded}
 
 none-in : (p c : ℕ) → partIn [] p c ≡ false
 unfolding partIn storing any

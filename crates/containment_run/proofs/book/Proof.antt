@@ -1,0 +1,81 @@
+use borrow.Author.Needs.{needs}
+use mathlib.Core.Path.{_∙_}
+use Rattle.containment_run.proofs.book.Statement.{statement}
+use Rattle.containment_run.proofs.book.Tie as tie
+
+clear-requires : tie.Need-clear-requires
+clear-requires c κs = search needs
+
+load-requires : tie.Need-load-requires
+load-requires c κs = search needs
+
+slice-aggregate-index : tie.Need-slice-aggregate-index
+slice-aggregate-index c = search needs
+
+slice-aggregate-index-2 : tie.Need-slice-aggregate-index-2
+slice-aggregate-index-2 c = search needs
+
+slice-aggregate-index-3 : tie.Need-slice-aggregate-index-3
+slice-aggregate-index-3 c = search needs
+
+slice-aggregate-index-4 : tie.Need-slice-aggregate-index-4
+slice-aggregate-index-4 c = search needs
+
+index-requires : tie.Need-index-requires
+index-requires c κs = search needs
+
+slice-aggregate-contents : tie.Need-slice-aggregate-contents
+slice-aggregate-contents c = search needs
+
+slice-aggregate-contents-2 : tie.Need-slice-aggregate-contents-2
+slice-aggregate-contents-2 c = search needs
+
+slice-aggregate-contents-3 : tie.Need-slice-aggregate-contents-3
+slice-aggregate-contents-3 c = search needs
+
+slice-aggregate-contents-4 : tie.Need-slice-aggregate-contents-4
+slice-aggregate-contents-4 c = search needs
+
+contents-requires : tie.Need-contents-requires
+contents-requires c κs = search needs
+
+write-all-requires : tie.Need-write-all-requires
+write-all-requires c κs = search needs
+
+print-counts-requires : tie.Need-print-counts-requires
+print-counts-requires c κs = search needs
+
+print-sums-requires : tie.Need-print-sums-requires
+print-sums-requires c κs = search needs
+
+same-length : tie.Need-same-length
+same-length c = c .before .before .before .before .before .before .before .before .before .before .before .before .before .before .before .before .before .before .before .before .before .before .index .kept .1 .1 .0 ∙ c .before .before .before .before .before .before .before .before .before .before .before .before .before .before .before .before .before .before .before .before .before .before .before .before .before .before .before .before .before .before .load .kept .1 .1 .1 .0 ∙ c .before .before .before .before .before .before .before .before .before .before .before .before .before .before .before .before .before .before .before .before .before .before .before .before .before .before .before .before .before .before .before .before .before .before .clear .kept .1 .0
+
+same-length-2 : tie.Need-same-length-2
+same-length-2 c = search needs
+
+returns : tie.Need-returns
+returns c = search needs
+
+pub book-spec : {M : Type 1} → statement M
+book-spec =
+    tie.close
+    (tie.spec
+    clear-requires
+    load-requires
+    slice-aggregate-index
+    slice-aggregate-index-2
+    slice-aggregate-index-3
+    slice-aggregate-index-4
+    index-requires
+    slice-aggregate-contents
+    slice-aggregate-contents-2
+    slice-aggregate-contents-3
+    slice-aggregate-contents-4
+    contents-requires
+    write-all-requires
+    print-counts-requires
+    print-sums-requires
+    same-length
+    same-length-2
+    returns)

@@ -1,0 +1,42 @@
+use borrow.Author.Needs.{needs}
+use Rattle.piecebook.proofs.Calls.{exported}
+use borrow.Author.Needs.{needs}
+use Rattle.piecebook.proofs.piecebook_answer.Statement.{statement}
+use Rattle.piecebook.proofs.piecebook_answer.Tie as tie
+
+answer-claims-requires : tie.Need-answer-claims-requires
+answer-claims-requires c κs = search needs
+
+result-of-requires : tie.Need-result-of-requires
+result-of-requires c κs = search needs
+
+same-length : tie.Need-same-length
+same-length c = search needs
+
+same-length-2 : tie.Need-same-length-2
+same-length-2 c = search needs
+
+same-length-3 : tie.Need-same-length-3
+same-length-3 c = search needs
+
+same-length-4 : tie.Need-same-length-4
+same-length-4 c = search needs
+
+same-length-5 : tie.Need-same-length-5
+same-length-5 c = search needs
+
+returns : tie.Need-returns
+returns c = exported _ _ _ _ _ _ (c .before .before .before .before .before .before .before .before .before .before .before .answer-claims .ensures .0) (c .result-of .ensures)
+
+pub piecebook-answer-spec : {M : Type 1} → statement M
+piecebook-answer-spec =
+    tie.close
+    (tie.spec
+    answer-claims-requires
+    result-of-requires
+    same-length
+    same-length-2
+    same-length-3
+    same-length-4
+    same-length-5
+    returns)

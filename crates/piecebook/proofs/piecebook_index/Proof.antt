@@ -1,0 +1,38 @@
+use borrow.Author.Needs.{needs}
+use Rattle.piecebook.proofs.Calls.{exported}
+use borrow.Author.Needs.{needs}
+use Rattle.piecebook.proofs.piecebook_index.Statement.{statement}
+use Rattle.piecebook.proofs.piecebook_index.Tie as tie
+
+write-index-requires : tie.Need-write-index-requires
+write-index-requires c κs = search needs
+
+result-of-requires : tie.Need-result-of-requires
+result-of-requires c κs = search needs
+
+same-length : tie.Need-same-length
+same-length c = search needs
+
+same-length-2 : tie.Need-same-length-2
+same-length-2 c = search needs
+
+same-length-3 : tie.Need-same-length-3
+same-length-3 c = search needs
+
+same-length-4 : tie.Need-same-length-4
+same-length-4 c = search needs
+
+returns : tie.Need-returns
+returns c = exported _ _ _ _ _ _ (c .before .before .before .before .before .before .before .before .before .write-index .ensures .0) (c .result-of .ensures)
+
+pub piecebook-index-spec : {M : Type 1} → statement M
+piecebook-index-spec =
+    tie.close
+    (tie.spec
+    write-index-requires
+    result-of-requires
+    same-length
+    same-length-2
+    same-length-3
+    same-length-4
+    returns)

@@ -1,0 +1,19 @@
+"""The printed session of document 01, as it stands there."""
+
+SESSION = """\
+PIECES 6 NODES 7 SHADOWS 1
+0 PART 5 2 FOLLOWS
+1 PART 2 1 DENIED
+2 PART 3 2 OPEN
+3 APART 3 5 FOLLOWS
+4 APART 1 2 DENIED
+5 MEETS 2 3 FOLLOWS
+6 NOTPART 2 4 FOLLOWS
+7 NOTPART 1 3 FOLLOWS
+8 NOTPART 0 1 FOLLOWS
+9 PART 1 2 OPEN
+"""
+
+
+def lines():
+    return SESSION.splitlines()
