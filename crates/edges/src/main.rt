@@ -1,0 +1,184 @@
+// Document 01's edges through the call that answers claims: a line for each book, with number, place and the three counts.
+ghost use mathlib.Core.Path.{_≡_};
+ghost use lib.ListN.{length};
+use libc::STDOUT_FILENO;
+use piecebook::Outcome;
+
+fn print(text: &[u8]) {
+    io::write_all(STDOUT_FILENO, text);
+}
+
+// A name, the number, the place and the counts.
+fn line(name: &[u8], number: u8, place: usize, pieces: usize, nodes: usize, shadows: usize) {
+    print(name);
+    print(b" ");
+    io::print_decimal(STDOUT_FILENO, number as u64);
+    print(b" ");
+    io::print_decimal(STDOUT_FILENO, place as u64);
+    print(b" ");
+    io::print_decimal(STDOUT_FILENO, pieces as u64);
+    print(b" ");
+    io::print_decimal(STDOUT_FILENO, nodes as u64);
+    print(b" ");
+    io::print_decimal(STDOUT_FILENO, shadows as u64);
+    print(b"\n");
+}
+
+fn report(name: &[u8], outcome: Outcome) {
+    match outcome {
+        Outcome::Refused(refusal, place) => line(
+            name,
+            records::refusal_number(refusal),
+            place,
+            0,
+            0,
+            0,
+        ),
+        Outcome::Accepted(pieces, nodes, shadows) => line(name, 0, 0, pieces, nodes, shadows),
+    }
+}
+
+fn ask(name: &[u8], book: &[u8], claims: &[u8]) {
+    let mut parens = [0u8; 2560];
+    let mut marks = [0u8; 1280];
+    let mut shadows = [0u16; 8192];
+    let mut places = [0u16; 2048];
+    let mut answers = [0u8; 4097];
+    let outcome = piecebook::answer_claims(
+        book,
+        claims,
+        &mut parens,
+        &mut marks,
+        &mut shadows,
+        &mut places,
+        &mut answers,
+    );
+    report(name, outcome);
+}
+
+// A place list that is one number short.
+fn ask_short(name: &[u8], book: &[u8]) {
+    let mut parens = [0u8; 2560];
+    let mut marks = [0u8; 1280];
+    let mut shadows = [0u16; 8192];
+    let mut places = [0u16; 2047];
+    let outcome = piecebook::write_index(book, &mut parens, &mut marks, &mut shadows, &mut places);
+    report(name, outcome);
+}
+
+// TRAY records of piece 0, each on another tray.
+fn trays(book: &mut [u8])
+    requires { ⌜ length (now book) ≡ 49158 ⌝ }
+    ensures { λ _. ⌜ length (now (book .exit)) ≡ 49158 ⌝ }
+{
+    let mut i: usize = 0;
+    while i < 8193 {
+        let at = 6 * i;
+        book[at] = 5;
+        book[at + 4] = (i % 256) as u8;
+        book[at + 5] = (i / 256 % 256) as u8;
+        i += 1;
+    }
+}
+
+fn full() {
+    let mut book = [0u8; 49158];
+    trays(&mut book);
+    ask(b"8192-records", &book[..49152], b"");
+    ask(b"8193-records", &book, b"");
+}
+
+// The session's book with MEETS 5 3 added.
+fn contradicted() {
+    let book = [
+        1u8,
+        0,
+        1,
+        0,
+        0,
+        0,
+        1,
+        0,
+        2,
+        0,
+        0,
+        0,
+        1,
+        0,
+        3,
+        0,
+        1,
+        0,
+        1,
+        0,
+        4,
+        0,
+        1,
+        0,
+        1,
+        0,
+        4,
+        0,
+        2,
+        0,
+        1,
+        0,
+        5,
+        0,
+        4,
+        0,
+        2,
+        0,
+        3,
+        0,
+        4,
+        0,
+        3,
+        0,
+        3,
+        0,
+        2,
+        0,
+        4,
+        0,
+        2,
+        0,
+        1,
+        0,
+        3,
+        0,
+        5,
+        0,
+        3,
+        0,
+    ];
+    ask(b"session-and-MEETS-5-3", &book, b"");
+}
+
+fn main() {
+    ask(b"no-bytes", b"", b"");
+    ask(b"ragged", &[5u8, 0, 0, 0, 0], b"");
+    full();
+    ask(b"kind-6", &[6u8, 0, 0, 0, 0, 0], b"");
+    ask(b"byte-1", &[5u8, 1, 0, 0, 0, 0], b"");
+    ask(b"piece-2047", &[2u8, 0, 1, 0, 255, 7], b"");
+    ask(b"piece-2048", &[2u8, 0, 1, 0, 0, 8], b"");
+    ask(b"tray-65535", &[5u8, 0, 0, 0, 255, 255], b"");
+    ask(b"PART-3-3", &[1u8, 0, 3, 0, 3, 0], b"");
+    ask(b"PART-0-0", &[1u8, 0, 0, 0, 0, 0], b"");
+    ask(
+        b"APART-3-4-and-4-3",
+        &[2u8, 0, 3, 0, 4, 0, 2, 0, 4, 0, 3, 0],
+        b"",
+    );
+    ask(b"repeat", &[2u8, 0, 3, 0, 4, 0, 2, 0, 3, 0, 4, 0], b"");
+    ask(b"APART-2-2", &[2u8, 0, 2, 0, 2, 0], b"");
+    ask(b"NOTPART-1-0", &[4u8, 0, 1, 0, 0, 0], b"");
+    ask(b"APART-1-0", &[2u8, 0, 1, 0, 0, 0], b"");
+    ask(b"NOTPART-0-1", &[4u8, 0, 0, 0, 1, 0], b"");
+    contradicted();
+    ask(b"claim-ragged", &[5u8, 0, 0, 0, 0, 0], b"\x01");
+    ask(b"claim-kind", &[5u8, 0, 0, 0, 0, 0], &[5u8, 0, 0, 0, 0, 0]);
+    ask(b"claim-piece", &[5u8, 0, 0, 0, 0, 0], &[1u8, 0, 1, 0, 0, 0]);
+    ask_short(b"places-2047", &[5u8, 0, 0, 0, 0, 0]);
+}
