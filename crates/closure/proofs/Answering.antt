@@ -6,13 +6,13 @@ use mathlib.Core.List.{List}
 use native.Mathlib.Decide.{ℕ-discrete}
 use native.Mathlib.Numerals.{add-one}
 use native.Mathlib.Omega.{arith}
-use borrow.Author.Tests.{eqb-true, eqb-false, eq-eqb, ne-eqb, lt-ltb}
-use lib.Dec.{eqb, ltb}
+use borrow.Author.Tests.{eq-eqb, ne-eqb, lt-ltb}
+use lib.Dec.{eqb}
 use Rattle.lists.specs.Any.{anyBelow}
 use Rattle.lists.proofs.Anys.{below-hit}
 use Rattle.relation.specs.Matrix.{bitOf, common}
 use Rattle.rules.specs.Fact.{Fact, PART, APART, MEETS, NOTPART, factOf, opposite, AllWithin}
-use Rattle.rules.specs.Follows.{storing, follows, clash}
+use Rattle.rules.specs.Follows.{follows, clash}
 use Rattle.rules.specs.Verdict.{judge, verdict}
 use Rattle.rules.proofs.Models.{clash-stored}
 use Rattle.records.specs.Record.{recordAt, records}

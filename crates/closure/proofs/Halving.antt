@@ -1,20 +1,19 @@
 -- The shortest contradictory run of a book by halving. Assumes nothing.
-use Prim.Native.Nat.{ℕ, zero, suc, _+_, _*_, _/_, _<_, _≤_}
-use mathlib.Core.Path.{_≡_, refl, sym, ap, _∙_, subst}
+use Prim.Native.Nat.{ℕ, _+_, _*_, _/_, _<_, _≤_}
+use mathlib.Core.Path.{_≡_, refl, sym, ap, _∙_}
 use mathlib.Core.Bool.{Bool, true, false, false≢true}
-use mathlib.Core.List.{List, [], _∷_, List·Memᴰ}
+use mathlib.Core.List.{List, [], _∷_}
 use native.Mathlib.Decide.{ℕ-discrete}
 use native.Mathlib.Omega.{arith}
 use lib.ListN.{length, take}
 use lib.Seq.{take-length, length-take-le}
 use Rattle.lists.specs.Any.{any}
 use Rattle.lists.proofs.Bools.{not-true}
-use Rattle.rules.specs.Fact.{Fact, PART}
+use Rattle.rules.specs.Fact.{PART}
 use Rattle.rules.specs.Follows.{storing, clash}
 use Rattle.rules.specs.Entries.{Entry, fact, none, factsOf, shortestClash}
 use Rattle.rules.proofs.More.{Among}
 use Rattle.rules.proofs.Runs.{run-among, clash-grows, shortest-at}
-use Rattle.records.specs.Record.{records}
 use Rattle.records.specs.Facts.{entries, facts}
 use Rattle.records.proofs.Runs.{entries-length, run-entries}
 use Rattle.closure.specs.Bounded.{Bounded}

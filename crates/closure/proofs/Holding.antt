@@ -2,7 +2,7 @@
 use Prim.Native.Nat.{ℕ, zero, suc, _<_, _≤_}
 use mathlib.Core.Path.{_≡_, refl, sym, ap, ap₂, _∙_}
 use mathlib.Core.Logic.{_⊎_, inl, inr}
-use mathlib.Core.Bool.{Bool, true, false, _&&_, _||_, or-comm, or-false, and-false}
+use mathlib.Core.Bool.{Bool, true, false, _&&_, _||_, or-comm, and-false}
 use mathlib.Core.List.{List}
 use native.Mathlib.Decide.{decLt}
 use native.Mathlib.Omega.{arith}
@@ -99,14 +99,6 @@ module _ (n : ℕ) (fs : List Fact) where
   whole-row : (g h : ℕ) → n ≤ g → wholeBit n fs g h ≡ false
   unfolding wholeBit partBit
   whole-row g h l = ap (λ (t : Bool). (t && ltb h n) && follows n fs (PART g h)) (le-ltb g n l)
-
-  toward-row : (g y : ℕ) → n ≤ g → towardBit n fs g y ≡ false
-  unfolding towardBit
-  toward-row g y l = any-none _ 2048 (λ x. ap (λ (t : Bool). t && meetBit n fs x y) (part-row g x l))
-
-  part-column : (h g : ℕ) → n ≤ g → partBit n fs h g ≡ false
-  unfolding partBit
-  part-column h g l = ap (λ (t : Bool). (t && ltb h n) && follows n fs (PART g h)) (le-ltb g n l)
 
   stored-row : AllWithin n fs → (k : ℕ) (straight swapped : Bool) (x y : ℕ) → n ≤ x → storedBit fs k straight swapped x y ≡ false
   unfolding storedBit

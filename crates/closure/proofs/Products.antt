@@ -1,20 +1,18 @@
 -- The three products against the rules: what a meeting of two rows says of a claim. Assumes nothing.
 use Prim.Native.Nat.{ℕ, _<_, _≤_}
-use mathlib.Core.Path.{_≡_, refl, sym, ap, _∙_, subst}
-use mathlib.Core.Logic.{_⊎_, inl, inr, _↔_}
-use mathlib.Core.Bool.{Bool, true, false, _&&_, _||_, false≢true}
-use mathlib.Core.List.{List, List·Memᴰ, Memᴰ·cast}
+use mathlib.Core.Path.{_≡_, refl}
+use mathlib.Core.Logic.{_⊎_, inl, inr}
+use mathlib.Core.Bool.{Bool, true, false, _&&_}
+use mathlib.Core.List.{List}
 use native.Mathlib.Omega.{arith}
-use native.Mathlib.Nat.{lt-of-lt-of-le}
 use borrow.Author.Tests.{eqb-true, ltb-true, lt-ltb}
 use lib.Dec.{eqb, ltb}
 use Rattle.lists.specs.Any.{anyBelow}
 use Rattle.lists.proofs.Bools.{and-both, both-and, or-either, left-or, right-or, eqb-self, same-truth}
 use Rattle.lists.proofs.Anys.{below-find, below-hit}
-use Rattle.rules.specs.Fact.{Fact, PART, APART, MEETS, NOTPART, kind, left, right, factOf, AllWithin}
-use Rattle.rules.specs.Follows.{storing, follows}
-use Rattle.rules.proofs.Facts.{storing-find, storing-hit}
-use Rattle.rules.proofs.Paths.{Path, here, top, up, Either, as-is, swapped, Apart, apart, Meet, common, meet, Out, out, parted, path-trans, meet-up, path-below}
+use Rattle.rules.specs.Fact.{Fact, PART, APART, MEETS, NOTPART, factOf, AllWithin}
+use Rattle.rules.specs.Follows.{follows}
+use Rattle.rules.proofs.Paths.{Path, here, top, up, Either, as-is, swapped, Apart, apart, Meet, common, meet, Out, out, parted, path-below}
 use Rattle.rules.proofs.Decides.{follows-shape}
 use Rattle.closure.specs.Stored.{storedBit, meetBit}
 use Rattle.closure.specs.Closed.{partBit, wholeBit, towardBit, awayBit, outBit}

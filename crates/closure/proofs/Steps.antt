@@ -1,8 +1,8 @@
 -- Paths by single steps: what containment is along the edges and against them. Assumes nothing.
-use Prim.Native.Nat.{ℕ, zero, suc, _<_, _≤_}
-use mathlib.Core.Path.{_≡_, refl, sym, ap, _∙_}
+use Prim.Native.Nat.{ℕ, _<_}
+use mathlib.Core.Path.{_≡_, refl, sym, _∙_}
 use mathlib.Core.Logic.{_⊎_, inl, inr}
-use mathlib.Core.Bool.{Bool, true, false, _&&_, _||_}
+use mathlib.Core.Bool.{true, false, _&&_, _||_}
 use mathlib.Core.List.{List, List·Memᴰ}
 use native.Mathlib.Decide.{ℕ-discrete}
 use native.Mathlib.Omega.{arith}
@@ -13,7 +13,7 @@ use Rattle.lists.proofs.Bools.{and-both, both-and, or-either, left-or, right-or
 use Rattle.lists.proofs.Anys.{below-find, below-hit}
 use Rattle.relation.specs.Matrix.{bitOf}
 use Rattle.relation.specs.Flow.{Rising, Reached, along, against}
-use Rattle.rules.specs.Fact.{Fact, PART, factOf, AllWithin}
+use Rattle.rules.specs.Fact.{Fact, PART, factOf}
 use Rattle.rules.proofs.Paths.{Path, here, top, up, path-trans, path-below}
 use Rattle.closure.specs.Stored.{storedBit, edgeBit}
 use Rattle.closure.specs.Bounded.{Bounded}

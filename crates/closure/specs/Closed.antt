@@ -1,6 +1,6 @@
 -- What the matrices of a closure hold, for n pieces and a list of facts: D is containment, U its transpose, and with the stored facts A, M, N
 -- T = D·M, P = U·A, Q = D·N ∪ T·P. Assumes nothing.
-use Prim.Native.Nat.{ℕ, _<_, _≤_}
+use Prim.Native.Nat.{ℕ, _<_}
 use mathlib.Core.Path.{_≡_}
 use mathlib.Core.Bool.{Bool, true, false, _&&_, _||_}
 use mathlib.Core.List.{List}

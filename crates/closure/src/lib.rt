@@ -1,20 +1,19 @@
 // Every answer from one closure: containment and the stored facts as bit matrices, their products, and what those say of claims.
 ghost use mathlib.Core.Path.{_≡_};
-ghost use mathlib.Core.Bool.{true, false, _&&_, _||_};
-ghost use Prim.Native.Nat.{ℕ, _+_, _*_, _/_, _<_, _≤_};
+ghost use mathlib.Core.Bool.{true, _&&_, _||_};
+ghost use Prim.Native.Nat.{_+_, _/_, _<_, _≤_};
 ghost use lib.Dec.{eqb, ltb};
 ghost use lib.ListN.{length};
-ghost use Rattle.relation.specs.Matrix.{bitOf};
 ghost use Rattle.rules.specs.Fact.{AllWithin};
 ghost use Rattle.rules.specs.Follows.{clash};
 ghost use Rattle.rules.specs.Entries.{shortestClash};
 ghost use Rattle.records.specs.Facts.{entries, facts};
 ghost use Rattle.containment.specs.Pairs.{joined};
 ghost use Rattle.containment.specs.Index.{Indexed};
-ghost use Rattle.closure.specs.Stored.{storedBit, meetBit, edgeBit};
-ghost use Rattle.closure.specs.Closed.{Grown, Holds, partBit, wholeBit, towardBit, awayBit, outBit, Closed};
-ghost use Rattle.closure.specs.Bounded.{Bounded};
 ghost use Rattle.containment.specs.Stored.{partIn};
+ghost use Rattle.closure.specs.Stored.{storedBit, meetBit, edgeBit};
+ghost use Rattle.closure.specs.Closed.{Grown, Holds, partBit, wholeBit, towardBit, awayBit, outBit};
+ghost use Rattle.closure.specs.Bounded.{Bounded};
 ghost use Rattle.closure.specs.Ordered.{Ordered, Roomy};
 ghost use Rattle.closure.specs.Opposed.{opposed};
 ghost use Rattle.closure.specs.Opened.{Opened};

@@ -1,4 +1,4 @@
-use native.Mathlib.Omega.{arith}
+-- `closure::answer_to` meets its contract: whether the claim is derived, and whether its opposite is. Assumes nothing.
 use borrow.Author.Needs.{needs}
 use Rattle.closure.proofs.Answering.{answered-follows, answered-denied, answered-open}
 use Rattle.closure.proofs.answer_to.Statement.{statement}

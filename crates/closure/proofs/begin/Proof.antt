@@ -1,4 +1,4 @@
-use native.Mathlib.Omega.{arith}
+-- `closure::begin` meets its contract: one field for each call. Assumes nothing.
 use borrow.Author.Needs.{needs}
 use Rattle.closure.proofs.Holding.{below-2048}
 use Rattle.closure.proofs.begin.Statement.{statement}

@@ -1,3 +1,4 @@
+-- `closure::clashes` meets its contract: the invariant is that no record passed is contradicted. Assumes nothing.
 use native.Mathlib.Omega.{arith}
 use borrow.Author.Needs.{needs}
 use Prim.Native.Nat.{_≤_, _-_, _/_}

@@ -1,4 +1,4 @@
-use native.Mathlib.Omega.{arith}
+-- `closure::complete` meets its contract: U is the diagonal joined against the steps. Assumes nothing.
 use borrow.Author.Needs.{needs}
 use lib.ListN.{length}
 use Rattle.closure.proofs.Holding.{whole-holds}

@@ -1,4 +1,4 @@
-use native.Mathlib.Omega.{arith}
+-- `closure::contained` meets its contract: what is inside a piece by the index is what is derived. Assumes nothing.
 use borrow.Author.Needs.{needs}
 use Rattle.closure.proofs.Parts.{few-nodes, index-stored, parts-hold}
 use Rattle.closure.proofs.Halving.{facts-roomy, roomy-same}

@@ -1,3 +1,4 @@
+-- `closure::contradiction` meets its contract: the invariant is `Halving`. Assumes nothing.
 use native.Mathlib.Omega.{arith}
 use borrow.Author.Needs.{needs}
 use Prim.Native.Nat.{_+_, _*_, _/_, _-_, _≤_}

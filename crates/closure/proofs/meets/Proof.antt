@@ -1,4 +1,4 @@
-use native.Mathlib.Omega.{arith}
+-- `closure::meets` meets its contract: the stored MEETS and the diagonal. Assumes nothing.
 use borrow.Author.Needs.{needs}
 use Rattle.closure.proofs.Holding.{below-2048, meet-holds}
 use Rattle.closure.proofs.meets.Statement.{statement}

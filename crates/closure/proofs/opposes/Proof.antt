@@ -1,3 +1,4 @@
+-- `closure::opposes` meets its contract: by the record's kind. Assumes nothing.
 use native.Mathlib.Omega.{arith}
 use borrow.Author.Needs.{needs}
 use mathlib.Core.Bool.{false}

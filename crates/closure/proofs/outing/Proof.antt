@@ -1,4 +1,4 @@
-use native.Mathlib.Omega.{arith}
+-- `closure::outing` meets its contract: what is joined along the steps is N and M·P, by `spread`. Assumes nothing.
 use borrow.Author.Needs.{needs}
 use Rattle.closure.proofs.Holding.{below-2048, out-holds}
 use Rattle.closure.proofs.Steps.{edges-rise, parts-reached}

@@ -1,4 +1,4 @@
-use native.Mathlib.Omega.{arith}
+-- `closure::parting` meets its contract: rows joined against the steps are a product with U. Assumes nothing.
 use borrow.Author.Needs.{needs}
 use Rattle.closure.proofs.Holding.{below-2048, away-holds}
 use Rattle.closure.proofs.Steps.{edges-rise, wholes-reached}

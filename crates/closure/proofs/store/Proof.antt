@@ -1,3 +1,4 @@
+-- `closure::store` meets its contract: the invariant is that the matrix has the bits of the records passed. Assumes nothing.
 use native.Mathlib.Omega.{arith}
 use borrow.Author.Needs.{needs}
 use Prim.Native.Nat.{_≤_, _-_, _/_}

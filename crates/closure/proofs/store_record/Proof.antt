@@ -1,4 +1,4 @@
-use native.Mathlib.Omega.{arith}
+-- `closure::store_record` meets its contract: the bits of the record in one order and in the other. Assumes nothing.
 use borrow.Author.Needs.{needs}
 use borrow.Author.Tests.{eq-eqb, ne-eqb}
 use Rattle.closure.proofs.Grows.{grown-off, grown-record}

@@ -1,9 +1,8 @@
 -- `closure_run::answers` meets its contract: what it lends fits what it calls. Assumes nothing.
-use native.Mathlib.Omega.{arith}
 use borrow.Author.Needs.{needs}
 use Prim.Native.Nat.{_≤_, _-_}
 use mathlib.Core.Path.{_≡_}
-use lib.ListN.{length, length-set}
+use lib.ListN.{length}
 use Rattle.closure_run.proofs.answers.Statement.{statement}
 use Rattle.closure_run.proofs.answers.Tie as tie
 

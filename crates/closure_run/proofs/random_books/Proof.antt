@@ -1,5 +1,4 @@
 -- `closure_run::random_books` meets its contract: what it lends fits what it calls. Assumes nothing.
-use native.Mathlib.Omega.{arith}
 use borrow.Author.Needs.{needs}
 use Prim.Native.Nat.{_≤_, _<_, _-_}
 use Rattle.closure_run.proofs.random_books.Statement.{statement}
