@@ -4,3 +4,4 @@ pub mod Buffers
 pub mod Judges
 pub mod Answering
 pub mod Calls
+pub mod Empty

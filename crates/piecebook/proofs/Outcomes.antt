@@ -10,12 +10,12 @@ use Rattle.lists.proofs.Bools.{Known, is-true, is-false, known}
 use Rattle.rules.specs.Entries.{shortestClash}
 use Rattle.records.specs.Record.{recordAt, records}
 use Rattle.records.specs.Refusal.{refusalNumber, row, judge, scan}
-use Rattle.records.specs.Rows.{emptyBook, ragged, moreThan, kindRow, tagRow, pieceRow, orderRow, repeatRow, beyondRow}
+use Rattle.records.specs.Rows.{ragged, moreThan, kindRow, tagRow, pieceRow, orderRow, repeatRow, beyondRow}
 use Rattle.records.specs.Check.{formFinding, recordFinding, recordsCheck, bookCheck, claimsCheck, claimAt, claimFinding}
 use Rattle.records.specs.Facts.{entries}
 use Rattle.records.specs.declared.Record.{Record}
 use Rattle.records.specs.declared.Refusal.{Refusal}
-use Rattle.records.specs.declared.Refusal.the-variants.{EmptyBook, BookLength, TooManyRecords, Kind, Tag, PieceNumber, Order, Repeat, ClaimsLength, TooManyClaims, ClaimFormat, ClaimPiece}
+use Rattle.records.specs.declared.Refusal.the-variants.{BookLength, TooManyRecords, Kind, Tag, PieceNumber, Order, Repeat, ClaimsLength, TooManyClaims, ClaimFormat, ClaimPiece}
 use Rattle.records.specs.declared.Finding.{Finding}
 use Rattle.records.specs.declared.Finding.the-variants.{Fit, Unfit}
 use Rattle.records.specs.declared.Claim.{Claim}
@@ -79,7 +79,7 @@ pub book-other : (s : List ℕ) → BookOther (bookCheck s)
 unfolding bookCheck
 book-other s =
     judged BookOther book.Refused (λ r i o. o) 0 _ (scanned BookOther book.Refused (λ r i o. o) _ tt (recordFinding s) (record-other s) 0 (records s)) _
-    (row-other (emptyBook s) EmptyBook _ (omega arith) (row-other (ragged s) BookLength _ (omega arith) (row-other (moreThan 8192 s) TooManyRecords _ (omega arith) fit-other)))
+    (row-other (ragged s) BookLength _ (omega arith) (row-other (moreThan 8192 s) TooManyRecords _ (omega arith) fit-other))
 
 abbrev pub ClaimsOther : ClaimsCheck → Type 0
 ClaimsOther claims.Accepted = Unit {0}
