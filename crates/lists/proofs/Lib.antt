@@ -3,3 +3,4 @@ pub mod Tabs
 pub mod Firsts
 pub mod Anys
 pub mod Members
+pub mod Fronts

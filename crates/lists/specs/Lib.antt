@@ -1,3 +1,4 @@
 pub mod Tab
 pub mod First
 pub mod Any
+pub mod Front

@@ -18,7 +18,7 @@ use Rattle.records.specs.Pieces.{piecesUpTo, stated, largest}
 use Rattle.records.specs.Check.{bookCheck, claimAt, claimsCheck}
 use Rattle.records.specs.Facts.{entryOf, entries}
 use Rattle.records.specs.declared.Refusal.{Refusal}
-use Rattle.records.specs.declared.Refusal.the-variants.{ShortBuffer, BookLength, TooManyRecords, Kind, Tag, PieceNumber, Order, Repeat, ClaimsLength, TooManyClaims, ClaimFormat, ClaimPiece, Contradiction}
+use Rattle.records.specs.declared.Refusal.the-variants.{ShortBuffer, BookLength, TooManyRecords, Kind, Origin, PieceNumber, Order, Repeat, ClaimsLength, TooManyClaims, ClaimFormat, ClaimPiece, Contradiction}
 use Rattle.records.specs.declared.ClaimsCheck.the-variants as claims
 use Rattle.records.proofs.Examples.{bytes}
 use Rattle.containment.specs.Numbers.{range, keep, find}
@@ -71,7 +71,7 @@ other ShortBuffer e = omega arith
 other BookLength e = omega arith
 other TooManyRecords e = omega arith
 other Kind e = omega arith
-other Tag e = omega arith
+other Origin e = omega arith
 other PieceNumber e = omega arith
 other Order e = omega arith
 other Repeat e = omega arith

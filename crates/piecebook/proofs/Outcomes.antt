@@ -10,12 +10,12 @@ use Rattle.lists.proofs.Bools.{Known, is-true, is-false, known}
 use Rattle.rules.specs.Entries.{shortestClash}
 use Rattle.records.specs.Record.{recordAt, records}
 use Rattle.records.specs.Refusal.{refusalNumber, row, judge, scan}
-use Rattle.records.specs.Rows.{ragged, moreThan, kindRow, tagRow, pieceRow, orderRow, repeatRow, beyondRow}
+use Rattle.records.specs.Rows.{ragged, moreThan, kindRow, originRow, pieceRow, orderRow, repeatRow, beyondRow}
 use Rattle.records.specs.Check.{formFinding, recordFinding, recordsCheck, bookCheck, claimsCheck, claimAt, claimFinding}
 use Rattle.records.specs.Facts.{entries}
 use Rattle.records.specs.declared.Record.{Record}
 use Rattle.records.specs.declared.Refusal.{Refusal}
-use Rattle.records.specs.declared.Refusal.the-variants.{BookLength, TooManyRecords, Kind, Tag, PieceNumber, Order, Repeat, ClaimsLength, TooManyClaims, ClaimFormat, ClaimPiece}
+use Rattle.records.specs.declared.Refusal.the-variants.{BookLength, TooManyRecords, Kind, Origin, PieceNumber, Order, Repeat, ClaimsLength, TooManyClaims, ClaimFormat, ClaimPiece}
 use Rattle.records.specs.declared.Finding.{Finding}
 use Rattle.records.specs.declared.Finding.the-variants.{Fit, Unfit}
 use Rattle.records.specs.declared.Claim.{Claim}
@@ -50,7 +50,7 @@ judge-other (Unfit x) g h k = h
 
 form-other : (r : Record) → Others (formFinding r)
 unfolding formFinding
-form-other r = row-other (kindRow r) Kind _ (omega arith) (row-other (tagRow r) Tag _ (omega arith) (row-other (pieceRow r) PieceNumber _ (omega arith) (row-other (orderRow r) Order _ (omega arith) fit-other)))
+form-other r = row-other (kindRow r) Kind _ (omega arith) (row-other (originRow r) Origin _ (omega arith) (row-other (pieceRow r) PieceNumber _ (omega arith) (row-other (orderRow r) Order _ (omega arith) fit-other)))
 
 record-other : (s : List ℕ) (i : ℕ) → Others (recordFinding s i)
 unfolding recordFinding
