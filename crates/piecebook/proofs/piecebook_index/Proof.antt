@@ -1,5 +1,5 @@
 use borrow.Author.Needs.{needs}
-use Rattle.piecebook.proofs.Calls.{exported}
+use Rattle.piecebook.proofs.Results.{exported}
 use borrow.Author.Needs.{needs}
 use Rattle.piecebook.proofs.piecebook_index.Statement.{statement}
 use Rattle.piecebook.proofs.piecebook_index.Tie as tie

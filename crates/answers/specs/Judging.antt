@@ -16,13 +16,13 @@ use Rattle.records.specs.declared.ClaimsCheck.the-variants as claims
 use Rattle.closure.specs.Bounded.{Bounded}
 use Rattle.closure.specs.Stored.{edgeBit}
 use Rattle.closure.specs.Closed.{Holds, Closed, partBit, towardBit}
-use Rattle.piecebook.specs.Lent.{Lent}
+use Rattle.answers.specs.Lent.{Lent}
 use Rattle.parentheses.specs.Padded.{padded}
 use Rattle.containment.specs.Index.{visitsOf}
 use Rattle.containment.specs.Parts as on
-use Rattle.piecebook.specs.Call.{edges, claimed, byRuns, left}
-use Rattle.piecebook.specs.declared.Outcome.{Outcome}
-use Rattle.piecebook.specs.declared.Outcome.the-variants.{Accepted, Refused}
+use Rattle.answers.specs.Call.{edges, claimed, byRuns, left}
+use Rattle.answers.specs.declared.Outcome.{Outcome}
+use Rattle.answers.specs.declared.Outcome.the-variants.{Accepted, Refused}
 
 -- five matrices, claims on n pieces, and room for their answers
 pub record Closing (cs d u p t q : List ℕ) (room : ℕ) : Type 0 where

@@ -24,8 +24,8 @@ use Rattle.records.proofs.Accepted.{AcceptedClaims, accepted-claims, says-left,
 use Rattle.closure.specs.Bounded.{Bounded}
 use Rattle.closure.specs.Closed.{Closed}
 use Rattle.closure.specs.Tells.{Answered}
-use Rattle.piecebook.specs.Call.{claimed}
-use Rattle.piecebook.specs.Judging.{Answers}
+use Rattle.answers.specs.Call.{claimed}
+use Rattle.answers.specs.Judging.{Answers}
 
 -- a claim that passes rows 12 and 13 is of a kind 1 to 4 about two of the pieces
 pub record Asked (cs : List ℕ) (n i : ℕ) : Type 0 where

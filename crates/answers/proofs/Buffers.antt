@@ -12,11 +12,11 @@ use Rattle.lists.proofs.Bools.{Known, is-true, is-false, known}
 use Rattle.records.specs.Record.{records}
 use Rattle.records.specs.Refusal.{refusalNumber}
 use Rattle.containment.specs.Parts as on
-use Rattle.piecebook.specs.Lent.{Lent, lent, front}
-use Rattle.piecebook.specs.Judging.{Fitting}
-use Rattle.piecebook.specs.Call.{answersTo, indexed, cleared, left}
-use Rattle.piecebook.specs.declared.Outcome.{Outcome}
-use Rattle.piecebook.specs.declared.Outcome.the-variants.{Accepted, Refused}
+use Rattle.answers.specs.Lent.{Lent, lent, front}
+use Rattle.answers.specs.Judging.{Fitting}
+use Rattle.answers.specs.Call.{answersTo, indexed, cleared, left}
+use Rattle.answers.specs.declared.Outcome.{Outcome}
+use Rattle.answers.specs.declared.Outcome.the-variants.{Accepted, Refused}
 
 -- a buffer that is all front
 pub front-whole : (xs l : List ℕ) → length xs ≡ length l → front xs l ≡ xs

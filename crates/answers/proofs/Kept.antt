@@ -27,12 +27,12 @@ use Rattle.records.specs.Pieces.{pieceCount}
 use Rattle.records.specs.Check.{bookCheck, claimsCheck}
 use Rattle.records.proofs.Runs.{entries-length}
 use Rattle.records.proofs.Accepted.{AcceptedBook, accepted, accepted-within, accepted-positive, accepted-claims}
-use Rattle.piecebook.specs.Lent.{Lent, front}
-use Rattle.piecebook.specs.Call.{outcome, claimed, answersTo, indexed, left, Determined}
-use Rattle.piecebook.specs.Demands.{Derived, Entailed, Demand2, Demand3}
-use Rattle.piecebook.specs.declared.Outcome.{Outcome}
-use Rattle.piecebook.specs.declared.Outcome.the-variants.{Accepted, Refused}
-use Rattle.piecebook.proofs.Outcomes.{Passed, Told, told}
+use Rattle.answers.specs.Lent.{Lent, front}
+use Rattle.answers.specs.Call.{outcome, claimed, answersTo, indexed, left, Determined}
+use Rattle.answers.specs.Demands.{Derived, Entailed, Demand2, Demand3}
+use Rattle.answers.specs.declared.Outcome.{Outcome}
+use Rattle.answers.specs.declared.Outcome.the-variants.{Accepted, Refused}
+use Rattle.answers.proofs.Outcomes.{Passed, Told, told}
 
 module _ (s cs : List ℕ) (l : Lent) (n : ℕ) (p : Passed s cs l n) where
   abbrev sound : AcceptedBook s n

@@ -1,11 +1,11 @@
 use borrow.Author.Needs.{needs}
 use native.Mathlib.Omega.{arith}
 use Rattle.records.proofs.Accepted.{accepted, accepted-pieces}
-use Rattle.piecebook.specs.Call.{answersTo}
-use Rattle.piecebook.proofs.Judges.{bounded, ordered}
+use Rattle.answers.specs.Call.{answersTo}
+use Rattle.answers.proofs.Judges.{bounded, ordered}
 use borrow.Author.Needs.{needs}
-use Rattle.piecebook.proofs.answer_all.Statement.{statement}
-use Rattle.piecebook.proofs.answer_all.Tie as tie
+use Rattle.answers.proofs.answer_all.Statement.{statement}
+use Rattle.answers.proofs.answer_all.Tie as tie
 
 slice-aggregate-complete : tie.Need-slice-aggregate-complete
 slice-aggregate-complete c = search needs

@@ -11,9 +11,9 @@ use Rattle.records.specs.Record.{records}
 use Rattle.records.specs.Refusal.{refusalNumber}
 use Rattle.records.specs.Facts.{facts}
 use Rattle.records.specs.Pieces.{pieceCount}
-use Rattle.piecebook.specs.Call.{claimed}
-use Rattle.piecebook.specs.declared.Outcome.{Outcome}
-use Rattle.piecebook.specs.declared.Outcome.the-variants.{Accepted, Refused}
+use Rattle.answers.specs.Call.{claimed}
+use Rattle.answers.specs.declared.Outcome.{Outcome}
+use Rattle.answers.specs.declared.Outcome.the-variants.{Accepted, Refused}
 
 -- demand 2, of one claim: FOLLOWS exactly when it has a derivation, DENIED exactly when its opposite has one, OPEN exactly when neither has
 pub record Derived (n : ℕ) (fs : List Fact) (f : Fact) (answer : ℕ) : Type 0 where

@@ -1,8 +1,8 @@
 -- Document 01's numbers of an outcome. Assumes nothing.
 use Prim.Native.Nat.{ℕ}
 use Rattle.records.specs.Refusal.{refusalNumber}
-use Rattle.piecebook.specs.declared.Outcome.{Outcome}
-use Rattle.piecebook.specs.declared.Outcome.the-variants.{Accepted, Refused}
+use Rattle.answers.specs.declared.Outcome.{Outcome}
+use Rattle.answers.specs.declared.Outcome.the-variants.{Accepted, Refused}
 
 -- 0 for acceptance, or the refusal's number; and its place, a record's or claim's number
 abbrev pub number : Outcome → ℕ

@@ -21,12 +21,12 @@ use Rattle.parentheses.specs.Padded.{padded}
 use Rattle.containment.specs.Parts as on
 use Rattle.closure.specs.Bounded.{Bounded}
 use Rattle.closure.specs.Ordered.{Ordered, Roomy}
-use Rattle.piecebook.specs.Lent.{Lent, lent, front}
-use Rattle.piecebook.specs.Call.{edges, byRuns, answersTo, indexed, cleared, left}
-use Rattle.piecebook.specs.Judging.{Cleared, Exact, Judged}
-use Rattle.piecebook.specs.declared.Outcome.{Outcome}
-use Rattle.piecebook.specs.declared.Outcome.the-variants.{Accepted, Refused}
-use Rattle.piecebook.proofs.Buffers.{front-whole, packed-long, answers-long, same-lent}
+use Rattle.answers.specs.Lent.{Lent, lent, front}
+use Rattle.answers.specs.Call.{edges, byRuns, answersTo, indexed, cleared, left}
+use Rattle.answers.specs.Judging.{Cleared, Exact, Judged}
+use Rattle.answers.specs.declared.Outcome.{Outcome}
+use Rattle.answers.specs.declared.Outcome.the-variants.{Accepted, Refused}
+use Rattle.answers.proofs.Buffers.{front-whole, packed-long, answers-long, same-lent}
 
 module _ {s : List ℕ} {n : ℕ} (b : AcceptedBook s n) where
   pub bounded : Bounded n (facts s)

@@ -1,8 +1,8 @@
 use borrow.Author.Needs.{needs}
-use Rattle.piecebook.proofs.Calls.{alone}
+use Rattle.answers.proofs.Calls.{alone}
 use borrow.Author.Needs.{needs}
-use Rattle.piecebook.proofs.write_index.Statement.{statement}
-use Rattle.piecebook.proofs.write_index.Tie as tie
+use Rattle.answers.proofs.write_index.Statement.{statement}
+use Rattle.answers.proofs.write_index.Tie as tie
 
 array-share-prefix-claims : tie.Need-array-share-prefix-claims
 array-share-prefix-claims c = search needs

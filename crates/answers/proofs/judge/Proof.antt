@@ -3,11 +3,11 @@ use native.Mathlib.Omega.{arith}
 use mathlib.Core.Path.{sym, _∙_}
 use Rattle.records.proofs.Accepted.{accepted}
 use Rattle.closure.proofs.Holding.{below-2048}
-use Rattle.piecebook.specs.Call.{edges}
-use Rattle.piecebook.proofs.Judges.{bounded, ordered, roomy-at, cleared-at, judged-refused, judged-accepted}
+use Rattle.answers.specs.Call.{edges}
+use Rattle.answers.proofs.Judges.{bounded, ordered, roomy-at, cleared-at, judged-refused, judged-accepted}
 use borrow.Author.Needs.{needs}
-use Rattle.piecebook.proofs.judge.Statement.{statement}
-use Rattle.piecebook.proofs.judge.Tie as tie
+use Rattle.answers.proofs.judge.Statement.{statement}
+use Rattle.answers.proofs.judge.Tie as tie
 
 slice-aggregate-contained : tie.Need-slice-aggregate-contained
 slice-aggregate-contained c = search needs

@@ -24,9 +24,9 @@ use Rattle.containment.specs.Stored.{partIn}
 use Rattle.containment.specs.Index.{parenthesesOf, visitsOf}
 use Rattle.parentheses.specs.Padded.{padded}
 use Rattle.containment.specs.Parts as on
-use Rattle.piecebook.specs.Lent.{Lent, shortLent, front}
-use Rattle.piecebook.specs.declared.Outcome.{Outcome}
-use Rattle.piecebook.specs.declared.Outcome.the-variants.{Accepted, Refused}
+use Rattle.answers.specs.Lent.{Lent, shortLent, front}
+use Rattle.answers.specs.declared.Outcome.{Outcome}
+use Rattle.answers.specs.declared.Outcome.the-variants.{Accepted, Refused}
 
 -- the pairs (part, container) of a book with n pieces, with the joins to piece 0
 unfoldable pub edges : ℕ → List ℕ → ℕ → ℕ → Bool

@@ -24,10 +24,10 @@ use Rattle.records.specs.declared.BookCheck.{BookCheck}
 use Rattle.records.specs.declared.BookCheck.the-variants as book
 use Rattle.records.specs.declared.ClaimsCheck.{ClaimsCheck}
 use Rattle.records.specs.declared.ClaimsCheck.the-variants as claims
-use Rattle.piecebook.specs.Lent.{Lent, shortLent}
-use Rattle.piecebook.specs.Call.{byRuns, byClaims, byBook, outcome}
-use Rattle.piecebook.specs.declared.Outcome.{Outcome}
-use Rattle.piecebook.specs.declared.Outcome.the-variants.{Accepted, Refused}
+use Rattle.answers.specs.Lent.{Lent, shortLent}
+use Rattle.answers.specs.Call.{byRuns, byClaims, byBook, outcome}
+use Rattle.answers.specs.declared.Outcome.{Outcome}
+use Rattle.answers.specs.declared.Outcome.the-variants.{Accepted, Refused}
 
 -- ---- no row but the last gives number 14
 

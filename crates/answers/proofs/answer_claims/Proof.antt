@@ -4,11 +4,11 @@ use mathlib.Core.Path.{sym, _∙_}
 use Prim.Native.Nat.{_/_}
 use lib.ListN.{length}
 use lib.Seq.{length-take-le}
-use Rattle.piecebook.specs.Lent.{lent, shortLent}
-use Rattle.piecebook.proofs.Calls.{long, short-refused, book-refused, claims-refused, exact, judged}
+use Rattle.answers.specs.Lent.{lent, shortLent}
+use Rattle.answers.proofs.Calls.{long, short-refused, book-refused, claims-refused, exact, judged}
 use borrow.Author.Needs.{needs}
-use Rattle.piecebook.proofs.answer_claims.Statement.{statement}
-use Rattle.piecebook.proofs.answer_claims.Tie as tie
+use Rattle.answers.proofs.answer_claims.Statement.{statement}
+use Rattle.answers.proofs.answer_claims.Tie as tie
 
 short-requires : tie.Need-short-requires
 short-requires c κs = search needs

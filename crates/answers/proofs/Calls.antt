@@ -15,17 +15,15 @@ use Rattle.records.specs.declared.Refusal.{Refusal}
 use Rattle.records.specs.declared.Refusal.the-variants.{ShortBuffer}
 use Rattle.records.specs.declared.BookCheck.the-variants as book
 use Rattle.records.specs.declared.ClaimsCheck.the-variants as claims
-use Rattle.piecebook.specs.Lent.{Lent, lent, shortLent}
-use Rattle.piecebook.specs.Call.{byRuns, byClaims, byBook, outcome, left, Determined}
-use Rattle.piecebook.specs.Demands.{Demand2, Demand3}
-use Rattle.piecebook.specs.Judging.{Exact, Judged}
-use Rattle.piecebook.specs.Exported.{Reported, Exported}
-use Rattle.piecebook.specs.declared.PiecebookResult.{PiecebookResult}
-use Rattle.piecebook.specs.declared.Outcome.{Outcome}
-use Rattle.piecebook.specs.declared.Outcome.the-variants.{Accepted, Refused}
-use Rattle.piecebook.proofs.Outcomes.{Other, book-other, claims-other}
-use Rattle.piecebook.proofs.Kept.{kept}
-use Rattle.piecebook.proofs.Buffers.{cut, put-back, Long, left-back}
+use Rattle.answers.specs.Lent.{Lent, lent, shortLent}
+use Rattle.answers.specs.Call.{byRuns, byClaims, byBook, outcome, left, Determined}
+use Rattle.answers.specs.Demands.{Demand2, Demand3}
+use Rattle.answers.specs.Judging.{Exact, Judged}
+use Rattle.answers.specs.declared.Outcome.{Outcome}
+use Rattle.answers.specs.declared.Outcome.the-variants.{Accepted, Refused}
+use Rattle.answers.proofs.Outcomes.{Other, book-other, claims-other}
+use Rattle.answers.proofs.Kept.{kept}
+use Rattle.answers.proofs.Buffers.{cut, put-back, Long, left-back}
 
 abbrev pub Promised : List ℕ → List ℕ → Lent → Outcome → Lent → Type 0
 Promised s cs l r l′ = Determined s cs l r l′ × (Demand2 s cs (l′ .answers) r × Demand3 s cs (l′ .answers) r)
@@ -103,10 +101,3 @@ empty (v ∷ x) e = absurd (omega arith)
 
 pub alone : (s cs : List ℕ) (l : Lent) (r : Outcome) (a b c d x : List ℕ) → length x ≡ 0 → Promised s cs l r (lent a b c d x) → Determined s cs l r (lent a b c d []) × Demand3 s cs [] r
 alone s cs l r a b c d x e p = subst (λ (y : List ℕ). Determined s cs l r (lent a b c d y) × Demand3 s cs y r) (empty x e) (p .0, p .1 .1)
-
--- the result that C gets
-pub reported-refused : (o : Outcome) (x : Refusal) (i n : ℕ) → o ≡ Refused x i → n ≡ refusalNumber x → Reported o (record { number = n; place = i; pieces = 0; nodes = 0; shadows = 0 })
-reported-refused o x i n e f = rw e (record { number-is = f; place-is = refl; pieces-are = refl; nodes-are = refl; shadows-are = refl })
-
-pub exported : (s cs : List ℕ) (l : Lent) (o : Outcome) (l′ : Lent) (r : PiecebookResult) → Determined s cs l o l′ → Reported o r → Exported s cs l r l′
-exported s cs l o l′ r D R = record { reported = subst (λ (x : Outcome). Reported x r) (D .0) R; left-is = D .1 ∙ ap (left s cs l) (D .0) }

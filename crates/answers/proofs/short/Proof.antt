@@ -1,6 +1,6 @@
 use borrow.Author.Tests.{lt-ltb, le-ltb}
-use Rattle.piecebook.proofs.short.Statement.{statement}
-use Rattle.piecebook.proofs.short.Tie as tie
+use Rattle.answers.proofs.short.Statement.{statement}
+use Rattle.answers.proofs.short.Tie as tie
 
 returns : tie.Need-returns
 returns c = rw (lt-ltb _ _ (c .if1 .taken))

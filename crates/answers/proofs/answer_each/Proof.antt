@@ -3,9 +3,9 @@ use native.Mathlib.Omega.{arith}
 use mathlib.Core.Path.{_≡_, refl, sym}
 use Prim.Native.Nat.{_≤_, _-_, _/_}
 use lib.ListN.{length, length-set}
-use Rattle.piecebook.proofs.Answering.{Standing, Asked, asked, standing-none, standing-read, standing-all}
-use Rattle.piecebook.proofs.answer_each.Statement.{statement}
-use Rattle.piecebook.proofs.answer_each.Tie as tie
+use Rattle.answers.proofs.Answering.{Standing, Asked, asked, standing-none, standing-read, standing-all}
+use Rattle.answers.proofs.answer_each.Statement.{statement}
+use Rattle.answers.proofs.answer_each.Tie as tie
 
 abbrev Inv-loop : tie.InvT-loop
 Inv-loop claims d u p t q answers₀ n i₀ answers i = (i ≤ length claims / 6) × (length answers ≡ length answers₀) × Standing claims d u p t q answers i

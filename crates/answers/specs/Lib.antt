@@ -1,0 +1,5 @@
+pub mod Outcome
+pub mod Lent
+pub mod Call
+pub mod Demands
+pub mod Judging
