@@ -21,14 +21,11 @@ typedef struct {
     uint64_t words[PIECES * WORDS];
 } flat;
 
-bool closure_begin(const uint8_t *run, size_t, size_t n, uint64_t *e, size_t, uint64_t *d, size_t, uint64_t *t, size_t, uint8_t *parens, size_t,
-                   uint8_t *marks, size_t, uint16_t *shadows, size_t, uint16_t *places, size_t);
+size_t closure_settle(const uint8_t *run, size_t, size_t n, uint64_t *e, size_t, uint64_t *d, size_t, uint64_t *t, size_t, uint8_t *parens, size_t,
+                      uint8_t *marks, size_t, uint16_t *shadows, size_t, uint16_t *places, size_t);
 void closure_complete(const uint8_t *run, size_t, size_t n, const uint64_t *e, size_t, uint64_t *u, size_t, uint64_t *p, size_t, uint64_t *q, size_t);
 uint8_t closure_answer(uint8_t kind, size_t a, size_t b, const uint64_t *d, size_t, const uint64_t *u, size_t, const uint64_t *p, size_t,
                        const uint64_t *t, size_t, const uint64_t *q, size_t);
-size_t closure_contradiction(const uint8_t *book, size_t, size_t n, uint64_t *e, size_t, uint64_t *d, size_t, uint64_t *t, size_t, uint8_t *parens, size_t,
-                             uint8_t *marks, size_t, uint16_t *shadows, size_t, uint16_t *places, size_t);
-
 static flat e, d, u, p, t, q;
 static uint8_t parens[2560], marks[1280], plain_parens[2560], plain_marks[1280];
 static uint16_t shadows[8192], places[2048], plain_shadows[8192], plain_places[2048];
@@ -83,7 +80,7 @@ static void measure(const char *name, enum shape shape)
     double ours, plain;
     make_sample(&s, shape, 2048, 8192, 4096);
     size_t length = s.records * 6;
-    BEST(ours, closure_begin(s.book, length, 2048, ALL(e), ALL(d), ALL(t), PARTS));
+    BEST(ours, closure_settle(s.book, length, 2048, ALL(e), ALL(d), ALL(t), PARTS));
     BEST(plain, contradictory(s.book, s.records, 2048, &index));
     report(name, "index, D, T and the test for contradiction", ours, plain);
     BEST(ours, closure_complete(s.book, length, 2048, ALL(e), ALL(u), ALL(p), ALL(q)));
@@ -98,9 +95,9 @@ static void measure(const char *name, enum shape shape)
     /* the last record contradicts rule (f) */
     size_t place = 0, plain_place = 1;
     write_record(s.book + (s.records - 1) * 6, NOTPART, 2047, 0);
-    BEST(ours, place = closure_contradiction(s.book, length, 2048, ALL(e), ALL(d), ALL(t), PARTS));
-    BEST(plain, plain_place = clash_place(s.book, s.records, 2048, &index));
-    report(name, "place of a contradiction", ours, plain);
+    BEST(ours, place = closure_settle(s.book, length, 2048, ALL(e), ALL(d), ALL(t), PARTS));
+    BEST(plain, contradictory(s.book, s.records, 2048, &index); plain_place = clash_place(s.book, s.records, 2048, &index));
+    report(name, "a contradiction and its place", ours, plain);
     if (place != plain_place)
         printf("closure %s: THE PLACES DIFFER\n", name);
 }

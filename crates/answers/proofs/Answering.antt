@@ -24,7 +24,7 @@ use Rattle.records.proofs.Accepted.{AcceptedClaims, accepted-claims, says-left,
 use Rattle.closure.specs.Bounded.{Bounded}
 use Rattle.closure.specs.Closed.{Closed}
 use Rattle.closure.specs.Tells.{Answered}
-use Rattle.answers.specs.Call.{claimed}
+use Rattle.answers.specs.Call.{claimed, answersTo}
 use Rattle.answers.specs.Judging.{Answers}
 
 -- a claim that passes rows 12 and 13 is of a kind 1 to 4 about two of the pieces
@@ -78,3 +78,9 @@ module _ (cs d u p t q : List ℕ) where
         ext-getD 0 answers (tab (λ j. verdict n fs (claimed cs j)) 0 (records cs)) (z ∙ sym (tab-length _ 0 (records cs)))
         (λ j h. S .each n fs B C f j (omega arith) (omega arith) ∙ sym (tab-at (λ j. verdict n fs (claimed cs j)) (records cs) j 0 (omega arith)));
   }
+
+-- no claims, no answers
+pub answers-none : (s : List ℕ) (n : ℕ) (cs answers : List ℕ) → records cs ≡ 0 → length answers ≡ records cs → answers ≡ answersTo s n cs
+unfolding answersTo
+answers-none s n cs answers e z =
+    ext-getD 0 answers (answersTo s n cs) (z ∙ sym (tab-length _ 0 (records cs))) (λ j h. absurd (omega arith))

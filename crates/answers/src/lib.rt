@@ -10,6 +10,7 @@ ghost use Rattle.answers.specs.Call.{answersTo, Determined};
 ghost use Rattle.answers.specs.Demands.{Demand2, Demand3};
 ghost use Rattle.answers.specs.Judging.{Closing, Answers, Answerable, Cleared, Exact, Judged};
 use closure::Answer;
+use closure::Settled;
 use records::BookCheck;
 use records::ClaimsCheck;
 use records::Refusal;
@@ -54,7 +55,7 @@ fn answer_each(
     }
 }
 
-// Answers the claims on a book that is not contradictory: e are its edges, d and t its first two matrices.
+// Answers the claims on a book that is not contradictory: e are its edges, d and t its first two matrices. Without claims the others are not asked for.
 fn answer_all(
     book: &[u8],
     n: usize,
@@ -67,6 +68,9 @@ fn answer_all(
     requires { ⌜ Answerable (now book) n (now claims) (now e) (now d) (now t) (length (now answers)) ⌝ }
     ensures { λ _. ⌜ now (answers .exit) ≡ answersTo (now (book .entry)) n (now (claims .entry)) ⌝ }
 {
+    if claims.len() < 6 {
+        return;
+    }
     let mut u = [0u64; 65536];
     let mut p = [0u64; 65536];
     let mut q = [0u64; 65536];
@@ -101,26 +105,27 @@ fn judge(
     let mut e = [0u64; 65536];
     let mut d = [0u64; 65536];
     let mut t = [0u64; 65536];
-    let counts = closure::contained(book, n, &mut e, parens, marks, shadows, places, &mut d);
-    closure::edges(book, n, &mut e);
-    closure::meeting(book, n, &e, &mut t);
-    if closure::clashes(book, &d, &t) {
-        let place = closure::contradiction(
-            book,
-            n,
-            &mut e,
-            &mut d,
-            &mut t,
-            parens,
-            marks,
-            shadows,
-            places,
-        );
-        clear_index(parens, marks, shadows, places);
-        return Outcome::Refused(Refusal::Contradiction, place);
+    let settled = closure::settle(
+        book,
+        n,
+        &mut e,
+        &mut d,
+        &mut t,
+        parens,
+        marks,
+        shadows,
+        places,
+    );
+    match settled {
+        Settled::Clash(place) => {
+            clear_index(parens, marks, shadows, places);
+            Outcome::Refused(Refusal::Contradiction, place)
+        }
+        Settled::Free(nodes, shadowed) => {
+            answer_all(book, n, claims, &e, &d, &t, answers);
+            Outcome::Accepted(n, nodes, shadowed)
+        }
     }
-    answer_all(book, n, claims, &e, &d, &t, answers);
-    Outcome::Accepted(n, counts.nodes, counts.shadows)
 }
 
 // Row 1.

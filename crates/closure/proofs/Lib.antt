@@ -8,4 +8,4 @@ pub mod Answering
 pub mod Parts
 pub mod Steps
 pub mod Halving
-pub mod Accepting
+pub mod Settling

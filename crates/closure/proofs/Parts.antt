@@ -47,7 +47,7 @@ module _ (n : ℕ) (fs : List Fact) (B : Bounded n fs) (O : Ordered fs) where
     nodes : length (visits (whole n (joined n (partIn fs)))) ≤ length fs + n
     nodes = omega (arith, nodes-bound n (partIn fs) book, on.part-count n fs)
 
-    room : Room n (joined n (partIn fs)) b mb sc pc
+    pub room : Room n (joined n (partIn fs)) b mb sc pc
     unfolding parenthesesOf visitsOf
     room =
         record {

@@ -17,6 +17,7 @@ ghost use Rattle.closure.specs.Bounded.{Bounded};
 ghost use Rattle.closure.specs.Ordered.{Ordered, Roomy};
 ghost use Rattle.closure.specs.Opposed.{opposed};
 ghost use Rattle.closure.specs.Opened.{Opened};
+ghost use Rattle.closure.specs.Settled.{Settleable, Settles};
 ghost use Rattle.closure.specs.Tells.{Derived, Answered, Clashing};
 ghost use Rattle.closure.specs.Answers.{answerByte};
 use records::Record;
@@ -164,7 +165,7 @@ fn opposes(r: Record, d: &[u64], t: &[u64]) -> bool
 }
 
 // Whether the run is contradictory, where d and t are those of its facts: only stored facts are looked at.
-pub fn clashes(run: &[u8], d: &[u64], t: &[u64]) -> bool
+fn clashes(run: &[u8], d: &[u64], t: &[u64]) -> bool
     requires { ⌜ (length (now d) ≡ 65536) × (length (now t) ≡ 65536) × AllWithin 2048 (facts (now run)) ⌝ }
     ensures { λ b. ⌜ Clashing (facts (now (run .entry))) (now (d .entry)) (now (t .entry)) b ⌝ }
 {
@@ -267,14 +268,14 @@ pub fn contained(
 }
 
 // What the first half of a closure finds.
-pub struct Begun {
-    pub nodes: usize,
-    pub shadows: usize,
-    pub clash: bool,
+struct Begun {
+    nodes: usize,
+    shadows: usize,
+    clash: bool,
 }
 
 // The first half of a closure: the index, the steps, D and T of the run, and whether it is contradictory.
-pub fn begin(
+fn begin(
     run: &[u8],
     n: usize,
     e: &mut [u64],
@@ -301,7 +302,7 @@ pub fn begin(
 
 // The place of the contradiction in a contradictory book: the last record of the shortest contradictory run from the start, found by halving, since
 // contradiction only grows with the run. All that is lent is scratch.
-pub fn contradiction(
+fn contradiction(
     book: &[u8],
     n: usize,
     e: &mut [u64],
@@ -328,4 +329,33 @@ pub fn contradiction(
         low = mid;
     }
     low
+}
+
+// What row 14 says of a run: free, with the counts of nodes and shadows of its index; or contradictory, with the place.
+pub enum Settled {
+    Free(usize, usize),
+    Clash(usize),
+}
+
+// Settles row 14 of a run, with its index, steps, D and T where it is free.
+pub fn settle(
+    run: &[u8],
+    n: usize,
+    e: &mut [u64],
+    d: &mut [u64],
+    t: &mut [u64],
+    parens: &mut [u8],
+    marks: &mut [u8],
+    shadows: &mut [u16],
+    places: &mut [u16],
+) -> Settled
+    requires { ⌜ Settleable n (now run) (length (now parens)) (length (now marks)) (length (now shadows)) (length (now places)) × (length (now e) ≡ 65536) × (length (now d) ≡ 65536) × (length (now t) ≡ 65536) ⌝ }
+    ensures { λ r. ⌜ Settles n (now (run .entry)) (now (parens .exit)) (now (marks .exit)) (now (shadows .exit)) (now (places .exit)) (now (e .exit)) (now (d .exit)) (now (t .exit)) r ⌝ }
+{
+    let begun = begin(run, n, e, d, t, parens, marks, shadows, places);
+    if begun.clash {
+        let place = contradiction(run, n, e, d, t, parens, marks, shadows, places);
+        return Settled::Clash(place);
+    }
+    Settled::Free(begun.nodes, begun.shadows)
 }

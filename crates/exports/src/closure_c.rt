@@ -1,18 +1,19 @@
 // The closure of a run of records, for bench/closure.c. Its books are accepted ones: each `requires` is that of the function called, and the caller keeps it.
 ghost use mathlib.Core.Path.{_≡_};
-ghost use mathlib.Core.Bool.{true};
-ghost use Prim.Native.Nat.{_/_, _<_, _≤_};
+ghost use Prim.Native.Nat.{_<_, _≤_};
 ghost use lib.ListN.{length};
-ghost use Rattle.rules.specs.Follows.{clash};
 ghost use Rattle.records.specs.Facts.{facts};
 ghost use Rattle.closure.specs.Stored.{edgeBit};
 ghost use Rattle.closure.specs.Closed.{Holds};
 ghost use Rattle.closure.specs.Bounded.{Bounded};
-ghost use Rattle.closure.specs.Ordered.{Ordered, Roomy};
+ghost use Rattle.closure.specs.Ordered.{Ordered};
+ghost use Rattle.closure.specs.Settled.{Settleable};
 use closure::Answer;
+use closure::Settled;
 
+// 65,535 for a free run, or the place of its contradiction.
 #[no_mangle]
-pub extern "C" fn closure_begin(
+pub extern "C" fn closure_settle(
     run: &[u8],
     n: usize,
     e: &mut [u64],
@@ -22,11 +23,14 @@ pub extern "C" fn closure_begin(
     marks: &mut [u8],
     shadows: &mut [u16],
     places: &mut [u16],
-) -> bool
-    requires { ⌜ Bounded n (facts (now run)) × Ordered (facts (now run)) × Roomy n (length (now run) / 6) (length (now parens)) (length (now marks)) (length (now shadows)) (length (now places)) × (length (now e) ≡ 65536) × (length (now d) ≡ 65536) × (length (now t) ≡ 65536) ⌝ }
+) -> usize
+    requires { ⌜ Settleable n (now run) (length (now parens)) (length (now marks)) (length (now shadows)) (length (now places)) × (length (now e) ≡ 65536) × (length (now d) ≡ 65536) × (length (now t) ≡ 65536) ⌝ }
 {
-    let begun = closure::begin(run, n, e, d, t, parens, marks, shadows, places);
-    begun.clash
+    let settled = closure::settle(run, n, e, d, t, parens, marks, shadows, places);
+    match settled {
+        Settled::Free(_, _) => 65535,
+        Settled::Clash(place) => place,
+    }
 }
 
 #[no_mangle]
@@ -61,21 +65,4 @@ pub extern "C" fn closure_answer(
         Answer::Denied => 2,
         Answer::Open => 3,
     }
-}
-
-#[no_mangle]
-pub extern "C" fn closure_contradiction(
-    book: &[u8],
-    n: usize,
-    e: &mut [u64],
-    d: &mut [u64],
-    t: &mut [u64],
-    parens: &mut [u8],
-    marks: &mut [u8],
-    shadows: &mut [u16],
-    places: &mut [u16],
-) -> usize
-    requires { ⌜ Bounded n (facts (now book)) × Ordered (facts (now book)) × Roomy n (length (now book) / 6) (length (now parens)) (length (now marks)) (length (now shadows)) (length (now places)) × (length (now e) ≡ 65536) × (length (now d) ≡ 65536) × (length (now t) ≡ 65536) × (clash n (facts (now book)) ≡ true) ⌝ }
-{
-    closure::contradiction(book, n, e, d, t, parens, marks, shadows, places)
 }
