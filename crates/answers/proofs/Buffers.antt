@@ -12,8 +12,9 @@ use Rattle.lists.proofs.Bools.{Known, is-true, is-false, known}
 use Rattle.records.specs.Record.{records}
 use Rattle.records.specs.Refusal.{refusalNumber}
 use Rattle.containment.specs.Parts as on
+use Rattle.parentheses.proofs.Paddeds.{padded-length}
 use Rattle.answers.specs.Lent.{Lent, lent, front}
-use Rattle.answers.specs.Judging.{Fitting}
+use Rattle.answers.specs.Fitting.{Fits}
 use Rattle.answers.specs.Call.{answersTo, indexed, cleared, left}
 use Rattle.answers.specs.declared.Outcome.{Outcome}
 use Rattle.answers.specs.declared.Outcome.the-variants.{Accepted, Refused}
@@ -64,15 +65,20 @@ pub record Long (cs : List ℕ) (l : Lent) : Type 0 where
 pub same-lent : {a a′ b b′ c c′ d d′ e e′ : List ℕ} → a ≡ a′ → b ≡ b′ → c ≡ c′ → d ≡ d′ → e ≡ e′ → lent a b c d e ≡ lent a′ b′ c′ d′ e′
 same-lent p q r s t = rw (p, q, r, s, t)
 
+-- what acceptance writes fits
+abbrev pub Fitted : List ℕ → Outcome → Type 0
+Fitted s (Accepted n nodes shadows) = Fits n s nodes
+Fitted s (Refused r i) = Unit {0}
+
 -- what is left in the parts, put back, is what is left in the buffers
-pub left-back : (s cs : List ℕ) (l : Lent) (r : Outcome) → Long cs l → Fitting s r → put-back (records cs) l (left s cs (cut (records cs) l) r) ≡ left s cs l r
+pub left-back : (s cs : List ℕ) (l : Lent) (r : Outcome) → Long cs l → Fitted s r → put-back (records cs) l (left s cs (cut (records cs) l) r) ≡ left s cs l r
 unfolding left indexed cleared
 left-back s cs l (Accepted n nodes shadows) L F =
     same-lent
     (front-part 2560 _ (l .parens) (L .parens) (packed-long 2560 _))
     (front-part 1280 _ (l .marks) (L .marks) (packed-long 1280 _))
-    (front-part 8192 _ (l .shadows) (L .shadows) (F .0))
-    (front-part 2048 _ (l .places) (L .places) (F .1))
+    (front-part 8192 _ (l .shadows) (L .shadows) (padded-length 0 8192 _ (F .shadows-fit)))
+    (front-part 2048 _ (l .places) (L .places) (padded-length 0 2048 _ (F .places-fit)))
     (front-part (records cs) _ (l .answers) (L .answers) (answers-long s n cs))
 left-back s cs l (Refused x i) L F = pick (eqb (refusalNumber x) 14)
   where

@@ -16,17 +16,21 @@ use Rattle.records.specs.declared.Refusal.the-variants.{ShortBuffer}
 use Rattle.records.specs.declared.BookCheck.the-variants as book
 use Rattle.records.specs.declared.ClaimsCheck.the-variants as claims
 use Rattle.answers.specs.Lent.{Lent, lent, shortLent}
-use Rattle.answers.specs.Call.{byRuns, byClaims, byBook, outcome, left, Determined}
-use Rattle.answers.specs.Demands.{Demand2, Demand3}
+use Rattle.answers.specs.Call.{byClaims, byBook, outcome, Passed, left, Determined}
+use Rattle.answers.specs.Outcome.{number, place, nodeCount}
+use Rattle.answers.specs.Demands.{Demand2, Demand3, Contradicted}
+use Rattle.answers.specs.Fitting.{Fitting}
 use Rattle.answers.specs.Judging.{Exact, Judged}
 use Rattle.answers.specs.declared.Outcome.{Outcome}
 use Rattle.answers.specs.declared.Outcome.the-variants.{Accepted, Refused}
-use Rattle.answers.proofs.Outcomes.{Other, book-other, claims-other}
-use Rattle.answers.proofs.Kept.{kept}
+use Rattle.answers.proofs.Outcomes.{Other, book-other, claims-other, Told, runs-told, passed-outcome}
+use Rattle.answers.proofs.Kept.{fitted, kept2, kept3, kept-place, kept-size}
 use Rattle.answers.proofs.Buffers.{cut, put-back, Long, left-back}
 
 abbrev pub Promised : List ℕ → List ℕ → Lent → Outcome → Lent → Type 0
-Promised s cs l r l′ = Determined s cs l r l′ × (Demand2 s cs (l′ .answers) r × Demand3 s cs (l′ .answers) r)
+Promised s cs l r l′ =
+    Determined s cs l r l′
+    × (Demand2 s cs (l′ .answers) (number r) × (Demand3 s cs l (l′ .answers) (number r) × (Contradicted s (number r) (place r) × Fitting s (number r) (nodeCount r))))
 
 neither : (a b : Bool) → (a || b) ≡ false → (a ≡ false) × (b ≡ false)
 neither true b e = absurd (false≢true (sym e))
@@ -43,7 +47,7 @@ long cs l e =
 
 module _ (s cs : List ℕ) (l : Lent) where
   promised : {r : Outcome} {l′ : Lent} → Determined s cs l r l′ → Promised s cs l r l′
-  promised {r} {l′} D = let k = kept s cs l r l′ D in (D, (k .0, k .1))
+  promised D = (D, (kept2 s cs l D, (kept3 s cs l D, (kept-place s cs l D, kept-size s cs l D))))
 
   untouched : (r : Refusal) (i : ℕ) → Other r → l ≡ left s cs l (Refused r i)
   unfolding left
@@ -61,10 +65,6 @@ module _ (s cs : List ℕ) (l : Lent) where
   by-claims : shortLent cs l ≡ false → {n : ℕ} → bookCheck s ≡ book.Accepted n → {r : Refusal} {i : ℕ} → claimsCheck n cs ≡ claims.Refused r i → Refused r i ≡ outcome s cs l
   unfolding outcome byBook byClaims
   by-claims e q f = rw (e, outcome, q, byBook, f, byClaims)
-
-  by-runs : shortLent cs l ≡ false → {n : ℕ} → bookCheck s ≡ book.Accepted n → claimsCheck n cs ≡ claims.Accepted → byRuns s n ≡ outcome s cs l
-  unfolding outcome byBook byClaims
-  by-runs e q f = rw (e, outcome, q, byBook, f, byClaims)
 
   pub short-refused : shortLent cs l ≡ true → Promised s cs l (Refused ShortBuffer 0) l
   short-refused e = promised (by-short e, untouched ShortBuffer 0 (omega arith))
@@ -92,12 +92,15 @@ module _ (s cs : List ℕ) (l : Lent) where
           }
 
       pub judged : claimsCheck n cs ≡ claims.Accepted → (r : Outcome) (x : Lent) → Judged s n cs (cut (records cs) l) r x → Promised s cs l r (put-back (records cs) l x)
-      judged fit r x J = promised (J .outcome-is ∙ by-runs ok sound fit, ap (put-back (records cs) l) (J .left-is) ∙ left-back s cs l r (long cs l ok) (J .fitting))
+      judged fit r x J =
+          let p : Passed s cs l n = record { lent = ok; sound = sound; fit = fit } in
+          let t : Told s cs l r = rw (J .outcome-is) (runs-told s cs l n p) in
+          promised (J .outcome-is ∙ sym (passed-outcome s cs l n p), ap (put-back (records cs) l) (J .left-is) ∙ left-back s cs l r (long cs l ok) (fitted s cs l r t))
 
 -- with no answers
 empty : (x : List ℕ) → length x ≡ 0 → x ≡ []
 empty [] e = refl
 empty (v ∷ x) e = absurd (omega arith)
 
-pub alone : (s cs : List ℕ) (l : Lent) (r : Outcome) (a b c d x : List ℕ) → length x ≡ 0 → Promised s cs l r (lent a b c d x) → Determined s cs l r (lent a b c d []) × Demand3 s cs [] r
-alone s cs l r a b c d x e p = subst (λ (y : List ℕ). Determined s cs l r (lent a b c d y) × Demand3 s cs y r) (empty x e) (p .0, p .1 .1)
+pub alone : (s cs : List ℕ) (l : Lent) (r : Outcome) (a b c d x : List ℕ) → length x ≡ 0 → Promised s cs l r (lent a b c d x) → Promised s cs l r (lent a b c d [])
+alone s cs l r a b c d x e p = subst (λ (y : List ℕ). Promised s cs l r (lent a b c d y)) (empty x e) p

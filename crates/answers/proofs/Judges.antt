@@ -65,7 +65,6 @@ module _ (s : List ℕ) (n : ℕ) (cs : List ℕ) (l : Lent) (X : Exact s n cs l
         (z .shadows-are ∙ sym (zeroed 8192 (l .shadows) (X .shadows-long)))
         (z .places-are ∙ sym (zeroed 2048 (l .places) (X .places-long)))
         refl;
-    fitting = tt;
   }
 
   pub judged-accepted :
@@ -89,5 +88,4 @@ module _ (s : List ℕ) (n : ℕ) (cs : List ℕ) (l : Lent) (X : Exact s n cs l
             (sh ∙ sym (front-whole _ (l .shadows) (fs ∙ sym (X .shadows-long))))
             (pl ∙ sym (front-whole _ (l .places) (fp ∙ sym (X .places-long))))
             (a ∙ sym (front-whole _ (l .answers) (answers-long s n cs ∙ sym (X .answers-long))));
-        fitting = (fs, fp);
       }

@@ -1,6 +1,6 @@
 pub mod Outcomes
-pub mod Kept
 pub mod Buffers
+pub mod Kept
 pub mod Judges
 pub mod Answering
 pub mod Calls

@@ -13,9 +13,10 @@ use Rattle.records.specs.Refusal.{refusalNumber, row, judge, scan}
 use Rattle.records.specs.Rows.{emptyBook, ragged, moreThan, kindRow, tagRow, pieceRow, orderRow, repeatRow, beyondRow}
 use Rattle.records.specs.Check.{formFinding, recordFinding, recordsCheck, bookCheck, claimsCheck, claimAt, claimFinding}
 use Rattle.records.specs.Facts.{entries}
+use Rattle.containment.specs.Index.{visitsOf}
 use Rattle.records.specs.declared.Record.{Record}
 use Rattle.records.specs.declared.Refusal.{Refusal}
-use Rattle.records.specs.declared.Refusal.the-variants.{EmptyBook, BookLength, TooManyRecords, Kind, Tag, PieceNumber, Order, Repeat, ClaimsLength, TooManyClaims, ClaimFormat, ClaimPiece}
+use Rattle.records.specs.declared.Refusal.the-variants.{ShortBuffer, EmptyBook, BookLength, TooManyRecords, Kind, Tag, PieceNumber, Order, Repeat, ClaimsLength, TooManyClaims, ClaimFormat, ClaimPiece, Contradiction}
 use Rattle.records.specs.declared.Finding.{Finding}
 use Rattle.records.specs.declared.Finding.the-variants.{Fit, Unfit}
 use Rattle.records.specs.declared.Claim.{Claim}
@@ -25,7 +26,7 @@ use Rattle.records.specs.declared.BookCheck.the-variants as book
 use Rattle.records.specs.declared.ClaimsCheck.{ClaimsCheck}
 use Rattle.records.specs.declared.ClaimsCheck.the-variants as claims
 use Rattle.answers.specs.Lent.{Lent, shortLent}
-use Rattle.answers.specs.Call.{byRuns, byClaims, byBook, outcome}
+use Rattle.answers.specs.Call.{edges, byRuns, byClaims, byBook, outcome, Passed}
 use Rattle.answers.specs.declared.Outcome.{Outcome}
 use Rattle.answers.specs.declared.Outcome.the-variants.{Accepted, Refused}
 
@@ -91,27 +92,39 @@ claims-other n cs =
     judged ClaimsOther claims.Refused (λ r i o. o) 0 _ (scanned ClaimsOther claims.Refused (λ r i o. o) _ tt _ (λ i. claim-other n (claimAt cs i)) 0 (records cs)) _
     (row-other (ragged cs) ClaimsLength _ (omega arith) (row-other (moreThan 4096 cs) TooManyClaims _ (omega arith) fit-other))
 
+-- and none gives 0
+pub refused-positive : (r : Refusal) → refusalNumber r ≡ 0 → ⊥
+refused-positive ShortBuffer e = omega arith
+refused-positive EmptyBook e = omega arith
+refused-positive BookLength e = omega arith
+refused-positive TooManyRecords e = omega arith
+refused-positive Kind e = omega arith
+refused-positive Tag e = omega arith
+refused-positive PieceNumber e = omega arith
+refused-positive Order e = omega arith
+refused-positive Repeat e = omega arith
+refused-positive ClaimsLength e = omega arith
+refused-positive TooManyClaims e = omega arith
+refused-positive ClaimFormat e = omega arith
+refused-positive ClaimPiece e = omega arith
+refused-positive Contradiction e = omega arith
+
 -- ---- from an outcome to the rows
 
 module _ (s cs : List ℕ) (l : Lent) where
-  -- the book and the claims pass the rows before 14
-  pub record Passed (n : ℕ) : Type 0 where
-    pub lent : shortLent cs l ≡ false
-    pub sound : bookCheck s ≡ book.Accepted n
-    pub fit : claimsCheck n cs ≡ claims.Accepted
-
   -- what the outcome says of the rows
   abbrev pub Told : Outcome → Type 0
-  Told (Accepted n nodes shadows) = Passed n × (leb (shortestClash n (entries s)) (records s) ≡ false)
-  Told (Refused r i) = refusalNumber r ≡ 14 → (n : ℕ) × Passed n × (leb (shortestClash n (entries s)) (records s) ≡ true)
+  Told (Accepted n nodes shadows) = Passed s cs l n × (leb (shortestClash n (entries s)) (records s) ≡ false) × (nodes ≡ length (visitsOf n (edges n s)))
+  Told (Refused r i) =
+      refusalNumber r ≡ 14 → (n : ℕ) × Passed s cs l n × (leb (shortestClash n (entries s)) (records s) ≡ true) × (i ≡ shortestClash n (entries s) - 1)
 
-  runs-told : (n : ℕ) → Passed n → Told (byRuns s n)
+  pub runs-told : (n : ℕ) → Passed s cs l n → Told (byRuns s n)
   unfolding byRuns
   runs-told n p = pick (known (leb (shortestClash n (entries s)) (records s)))
     where
       pick : Known (leb (shortestClash n (entries s)) (records s)) → Told (byRuns s n)
-      pick (is-true e) = rw (e, byRuns) (λ q. (n, p, e))
-      pick (is-false e) = rw (e, byRuns) (p, e)
+      pick (is-true e) = rw (e, byRuns) (λ q. (n, p, e, refl))
+      pick (is-false e) = rw (e, byRuns) (p, e, refl)
 
   claims-told : (n : ℕ) → shortLent cs l ≡ false → bookCheck s ≡ book.Accepted n → (c : ClaimsCheck) → claimsCheck n cs ≡ c → Told (byClaims s n c)
   unfolding byClaims
@@ -130,3 +143,8 @@ module _ (s cs : List ℕ) (l : Lent) where
       pick : Known (shortLent cs l) → Told (outcome s cs l)
       pick (is-true e) = rw (e, outcome) (λ q. absurd (omega arith))
       pick (is-false e) = rw (e, outcome) (book-told e (bookCheck s) refl)
+
+  -- and from the rows to the outcome
+  pub passed-outcome : (n : ℕ) → Passed s cs l n → outcome s cs l ≡ byRuns s n
+  unfolding outcome byBook byClaims
+  passed-outcome n p = rw (p .lent, outcome, p .sound, byBook, p .fit, byClaims)

@@ -53,6 +53,12 @@ byBook s cs (book.Accepted n) = byClaims s n (claimsCheck n cs)
 unfoldable pub outcome : List ℕ → List ℕ → Lent → Outcome
 outcome s cs l = elim (shortLent cs l) [ true ↦ Refused ShortBuffer 0 | false ↦ byBook s cs (bookCheck s) ]
 
+-- no row before 14 refuses a book of n pieces
+pub record Passed (s cs : List ℕ) (l : Lent) (n : ℕ) : Type 0 where
+  pub lent : shortLent cs l ≡ false
+  pub sound : bookCheck s ≡ book.Accepted n
+  pub fit : claimsCheck n cs ≡ claims.Accepted
+
 -- ---- the buffers at exit
 
 -- claim i as a fact, and the answers to all claims

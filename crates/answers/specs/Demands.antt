@@ -1,4 +1,4 @@
--- Demands 2 and 3 of the users' committee, as a call's promises. Assumes nothing.
+-- Demands 2 and 3 of the users' committee, and refusal 14 by document 01's own word, as promises over the number of an outcome. Assumes nothing.
 use mathlib.Core.Path.{_≡_}
 use mathlib.Core.Logic.{_↔_}
 use mathlib.Core.List.{List}
@@ -8,12 +8,11 @@ use Rattle.rules.specs.Fact.{Fact, opposite}
 use Rattle.rules.specs.Derives.{Derives}
 use Rattle.rules.specs.Model.{Model, keeps, keepsAll}
 use Rattle.records.specs.Record.{records}
-use Rattle.records.specs.Refusal.{refusalNumber}
 use Rattle.records.specs.Facts.{facts}
 use Rattle.records.specs.Pieces.{pieceCount}
-use Rattle.answers.specs.Call.{claimed}
-use Rattle.answers.specs.declared.Outcome.{Outcome}
-use Rattle.answers.specs.declared.Outcome.the-variants.{Accepted, Refused}
+use Rattle.closure.specs.Contradiction.{Contradiction}
+use Rattle.answers.specs.Lent.{Lent}
+use Rattle.answers.specs.Call.{claimed, Passed}
 
 -- demand 2, of one claim: FOLLOWS exactly when it has a derivation, DENIED exactly when its opposite has one, OPEN exactly when neither has
 pub record Derived (n : ℕ) (fs : List Fact) (f : Fact) (answer : ℕ) : Type 0 where
@@ -21,9 +20,9 @@ pub record Derived (n : ℕ) (fs : List Fact) (f : Fact) (answer : ℕ) : Type 0
   pub denied : (answer ≡ 2) ↔ Derives n fs (opposite f)
   pub undecided : (answer ≡ 3) ↔ ((Derives n fs f → ⊥) × (Derives n fs (opposite f) → ⊥))
 
-abbrev pub Demand2 : List ℕ → List ℕ → List ℕ → Outcome → Type 0
-Demand2 book claims answers (Accepted n nodes shadows) = (i : ℕ) → i < records claims → Derived n (facts book) (claimed claims i) (getD answers i 0)
-Demand2 book claims answers (Refused r i) = Unit {0}
+-- of every claim, on acceptance
+abbrev pub Demand2 : List ℕ → List ℕ → List ℕ → ℕ → Type 0
+Demand2 book claims answers number = number ≡ 0 → (i : ℕ) → i < records claims → Derived (pieceCount book) (facts book) (claimed claims i) (getD answers i 0)
 
 -- demand 3, of one claim: FOLLOWS exactly when it is true in every model of the book, DENIED exactly when it is true in none, OPEN exactly when it is
 -- true in one and untrue in another
@@ -32,8 +31,13 @@ pub record Entailed (n : ℕ) (fs : List Fact) (f : Fact) (answer : ℕ) : Type 
   pub denied : (answer ≡ 2) ↔ ((M : Model n) → keepsAll M fs → keeps M f → ⊥)
   pub undecided : (answer ≡ 3) ↔ (((M : Model n) × keepsAll M fs × keeps M f) × ((M : Model n) × keepsAll M fs × (keeps M f → ⊥)))
 
--- and every accepted book has a model, while a book refused as contradictory has none
-abbrev pub Demand3 : List ℕ → List ℕ → List ℕ → Outcome → Type 0
-Demand3 book claims answers (Accepted n nodes shadows) =
-    ((i : ℕ) → i < records claims → Entailed n (facts book) (claimed claims i) (getD answers i 0)) × ((M : Model n) × keepsAll M (facts book))
-Demand3 book claims answers (Refused r i) = refusalNumber r ≡ 14 → (M : Model (pieceCount book)) → keepsAll M (facts book) → ⊥
+-- of every claim, on acceptance; where no row before 14 refuses, a book is refused as contradictory exactly when it has no model; and every accepted
+-- book has one
+pub record Demand3 (book claims : List ℕ) (l : Lent) (answers : List ℕ) (number : ℕ) : Type 0 where
+  pub answered : number ≡ 0 → (i : ℕ) → i < records claims → Entailed (pieceCount book) (facts book) (claimed claims i) (getD answers i 0)
+  pub refused : (n : ℕ) → Passed book claims l n → (number ≡ 14) ↔ ((M : Model n) → keepsAll M (facts book) → ⊥)
+  pub laid : number ≡ 0 → (M : Model (pieceCount book)) × keepsAll M (facts book)
+
+-- refusal 14: the records up to the place are contradictory, and no fewer are
+abbrev pub Contradicted : List ℕ → ℕ → ℕ → Type 0
+Contradicted book number place = number ≡ 14 → Contradiction (pieceCount book) book place

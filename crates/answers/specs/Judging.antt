@@ -1,12 +1,10 @@
 -- What the steps of a call promise each other. Assumes nothing.
 use Prim.Native.Nat.{ℕ, _≤_}
 use mathlib.Core.Path.{_≡_}
-use mathlib.Core.Bool.{false}
 use mathlib.Core.List.{List}
 use lib.ListN.{length, replicate}
 use Rattle.lists.specs.Tab.{tab}
 use Rattle.rules.specs.Fact.{Fact}
-use Rattle.rules.specs.Follows.{clash}
 use Rattle.rules.specs.Verdict.{verdict}
 use Rattle.records.specs.Record.{records}
 use Rattle.records.specs.Facts.{facts}
@@ -17,12 +15,8 @@ use Rattle.closure.specs.Bounded.{Bounded}
 use Rattle.closure.specs.Stored.{edgeBit}
 use Rattle.closure.specs.Closed.{Holds, Closed, partBit, towardBit}
 use Rattle.answers.specs.Lent.{Lent}
-use Rattle.parentheses.specs.Padded.{padded}
-use Rattle.containment.specs.Index.{visitsOf}
-use Rattle.containment.specs.Parts as on
-use Rattle.answers.specs.Call.{edges, claimed, byRuns, left}
+use Rattle.answers.specs.Call.{claimed, byRuns, left}
 use Rattle.answers.specs.declared.Outcome.{Outcome}
-use Rattle.answers.specs.declared.Outcome.the-variants.{Accepted, Refused}
 
 -- five matrices, claims on n pieces, and room for their answers
 pub record Closing (cs d u p t q : List ℕ) (room : ℕ) : Type 0 where
@@ -68,14 +62,7 @@ pub record Exact (s : List ℕ) (n : ℕ) (cs : List ℕ) (l : Lent) : Type 0 wh
   pub places-long : length (l .places) ≡ 2048
   pub answers-long : length (l .answers) ≡ records cs
 
--- the shadow list and the place list fit into document 01's lengths
-abbrev pub Fitting : List ℕ → Outcome → Type 0
-Fitting s (Accepted n nodes shadows) =
-    (length (padded 0 8192 (on.shadowList (visitsOf n (edges n s)))) ≡ 8192) × (length (padded 0 2048 (on.placeList n (visitsOf n (edges n s)))) ≡ 2048)
-Fitting s (Refused r i) = Unit {0}
-
 -- row 14's outcome, and what it leaves in them
 pub record Judged (s : List ℕ) (n : ℕ) (cs : List ℕ) (l : Lent) (r : Outcome) (l′ : Lent) : Type 0 where
   pub outcome-is : r ≡ byRuns s n
   pub left-is : l′ ≡ left s cs l r
-  pub fitting : Fitting s r

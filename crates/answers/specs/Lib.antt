@@ -2,4 +2,5 @@ pub mod Outcome
 pub mod Lent
 pub mod Call
 pub mod Demands
+pub mod Fitting
 pub mod Judging

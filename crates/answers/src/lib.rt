@@ -7,7 +7,9 @@ ghost use mathlib.Core.Bool.{_||_};
 ghost use Rattle.closure.specs.Answers.{answerByte};
 ghost use Rattle.answers.specs.Lent.{lent};
 ghost use Rattle.answers.specs.Call.{answersTo, Determined};
-ghost use Rattle.answers.specs.Demands.{Demand2, Demand3};
+ghost use Rattle.answers.specs.Outcome.{number, place, nodeCount};
+ghost use Rattle.answers.specs.Demands.{Demand2, Demand3, Contradicted};
+ghost use Rattle.answers.specs.Fitting.{Fitting};
 ghost use Rattle.answers.specs.Judging.{Closing, Answers, Answerable, Cleared, Exact, Judged};
 use closure::Answer;
 use closure::Settled;
@@ -165,8 +167,10 @@ pub fn answer_claims(
     answers: &mut [u8],
 ) -> Outcome
     ensures determined { λ r. ⌜ Determined (now (book .entry)) (now (claims .entry)) (lent (now (parens .entry)) (now (marks .entry)) (now (shadows .entry)) (now (places .entry)) (now (answers .entry))) r (lent (now (parens .exit)) (now (marks .exit)) (now (shadows .exit)) (now (places .exit)) (now (answers .exit))) ⌝ }
-    ensures demand2 { λ r. ⌜ Demand2 (now (book .entry)) (now (claims .entry)) (now (answers .exit)) r ⌝ }
-    ensures demand3 { λ r. ⌜ Demand3 (now (book .entry)) (now (claims .entry)) (now (answers .exit)) r ⌝ }
+    ensures demand2 { λ r. ⌜ Demand2 (now (book .entry)) (now (claims .entry)) (now (answers .exit)) (number r) ⌝ }
+    ensures demand3 { λ r. ⌜ Demand3 (now (book .entry)) (now (claims .entry)) (lent (now (parens .entry)) (now (marks .entry)) (now (shadows .entry)) (now (places .entry)) (now (answers .entry))) (now (answers .exit)) (number r) ⌝ }
+    ensures contradicted { λ r. ⌜ Contradicted (now (book .entry)) (number r) (place r) ⌝ }
+    ensures fitting { λ r. ⌜ Fitting (now (book .entry)) (number r) (nodeCount r) ⌝ }
 {
     let asked = claims.len() / 6;
     if short(
@@ -210,7 +214,10 @@ pub fn write_index(
     places: &mut [u16],
 ) -> Outcome
     ensures determined { λ r. ⌜ Determined (now (book .entry)) [] (lent (now (parens .entry)) (now (marks .entry)) (now (shadows .entry)) (now (places .entry)) []) r (lent (now (parens .exit)) (now (marks .exit)) (now (shadows .exit)) (now (places .exit)) []) ⌝ }
-    ensures demand3 { λ r. ⌜ Demand3 (now (book .entry)) [] [] r ⌝ }
+    ensures demand2 { λ r. ⌜ Demand2 (now (book .entry)) [] [] (number r) ⌝ }
+    ensures demand3 { λ r. ⌜ Demand3 (now (book .entry)) [] (lent (now (parens .entry)) (now (marks .entry)) (now (shadows .entry)) (now (places .entry)) []) [] (number r) ⌝ }
+    ensures contradicted { λ r. ⌜ Contradicted (now (book .entry)) (number r) (place r) ⌝ }
+    ensures fitting { λ r. ⌜ Fitting (now (book .entry)) (number r) (nodeCount r) ⌝ }
 {
     let claims = [0u8; 1];
     let mut answers = [0u8; 1];

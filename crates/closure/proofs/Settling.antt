@@ -1,18 +1,18 @@
 -- Which runs can be settled, and what a settled run is: the room of its index, its contradiction or its model. Assumes nothing.
-use Prim.Native.Nat.{ℕ, _+_, _*_, _/_, _≤_, _<_}
+use Prim.Native.Nat.{ℕ, _+_, _-_, _*_, _/_, _≤_, _<_}
 use mathlib.Core.Path.{_≡_, sym, ap, subst, _∙_}
 use mathlib.Core.Bool.{true, false, false≢true}
 use mathlib.Core.List.{List}
 use native.Mathlib.Omega.{arith}
 use lib.ListN.{length, take}
-use Rattle.rules.specs.Fact.{Fact}
+use Rattle.lists.proofs.Bools.{not-true, Known, is-true, is-false, known}
 use Rattle.rules.specs.Derives.{Contradictory}
 use Rattle.rules.specs.Model.{Model, keepsAll}
 use Rattle.rules.specs.Follows.{clash}
 use Rattle.rules.specs.Entries.{Entry, factsOf, shortestClash}
 use Rattle.rules.proofs.Models.{clash-iff, consistent-model}
 use Rattle.rules.proofs.Sound.{no-model}
-use Rattle.rules.proofs.Runs.{shortest-is, shortest-none}
+use Rattle.rules.proofs.Runs.{shortest-is, shortest-none, shortest-positive}
 use Rattle.records.specs.Record.{records}
 use Rattle.records.proofs.Runs.{entries-length, run-entries}
 use Rattle.records.specs.Check.{bookCheck}
@@ -92,6 +92,12 @@ module _ {n : ℕ} {run : List ℕ} {b mb sc pc : ℕ} (S : Settleable n run b m
   pub free-beyond : false ≡ clash n (facts run) → records run < shortestClash n (entries run)
   free-beyond e = omega (arith, shortest-none n (entries run) (S .bounded .within) (S .bounded .some) (sym e), entries-length run)
 
+  pub beyond-free : records run < shortestClash n (entries run) → false ≡ clash n (facts run)
+  beyond-free l =
+      sym
+      (not-true _
+      (λ e. let b = shortest-is n (entries run) (S .bounded .within) (S .bounded .some) .0 (iff .0 e) .0 in omega (arith, entries-length run)))
+
   pub free-consistent : false ≡ clash n (facts run) → Contradictory n (facts run) → ⊥
   free-consistent e c = false≢true (e ∙ iff .1 c)
 
@@ -99,6 +105,20 @@ module _ {n : ℕ} {run : List ℕ} {b mb sc pc : ℕ} (S : Settleable n run b m
   free-model e = consistent-model n (facts run) (S .bounded .within) (S .bounded .some) (sym e)
 
   -- ---- a contradictory run
+
+  within-clash : shortestClash n (entries run) ≤ records run → true ≡ clash n (facts run)
+  within-clash l = pick (known (clash n (facts run)))
+    where
+      pick : Known (clash n (facts run)) → true ≡ clash n (facts run)
+      pick (is-true e) = sym e
+      pick (is-false e) = let b = free-beyond (sym e) in absurd (omega arith)
+
+  pub within-clashed : shortestClash n (entries run) ≤ records run → Clashed n run (shortestClash n (entries run) - 1)
+  within-clashed l =
+      record {
+        is = within-clash l;
+        last = omega (arith, shortest-positive n (entries run) (S .bounded .within) (S .bounded .some));
+      }
 
   module _ {place : ℕ} (C : Clashed n run place) where
     contradictory : Contradictory n (facts run)

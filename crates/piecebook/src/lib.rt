@@ -2,6 +2,8 @@
 ghost use mathlib.Core.Path.{_≡_};
 ghost use mathlib.Core.List.{[]};
 ghost use Rattle.answers.specs.Lent.{lent};
+ghost use Rattle.answers.specs.Demands.{Demand2, Demand3, Contradicted};
+ghost use Rattle.answers.specs.Fitting.{Fitting};
 ghost use Rattle.piecebook.specs.Exported.{Reported, Exported};
 use answers::Outcome;
 
@@ -52,7 +54,11 @@ pub extern "C" fn piecebook_answer(
     places: &mut [u16],
     answers: &mut [u8],
 ) -> PiecebookResult
-    ensures { λ r. ⌜ Exported (now (book .entry)) (now (claims .entry)) (lent (now (parens .entry)) (now (marks .entry)) (now (shadows .entry)) (now (places .entry)) (now (answers .entry))) r (lent (now (parens .exit)) (now (marks .exit)) (now (shadows .exit)) (now (places .exit)) (now (answers .exit))) ⌝ }
+    ensures exported { λ r. ⌜ Exported (now (book .entry)) (now (claims .entry)) (lent (now (parens .entry)) (now (marks .entry)) (now (shadows .entry)) (now (places .entry)) (now (answers .entry))) r (lent (now (parens .exit)) (now (marks .exit)) (now (shadows .exit)) (now (places .exit)) (now (answers .exit))) ⌝ }
+    ensures demand2 { λ r. ⌜ Demand2 (now (book .entry)) (now (claims .entry)) (now (answers .exit)) (r .number) ⌝ }
+    ensures demand3 { λ r. ⌜ Demand3 (now (book .entry)) (now (claims .entry)) (lent (now (parens .entry)) (now (marks .entry)) (now (shadows .entry)) (now (places .entry)) (now (answers .entry))) (now (answers .exit)) (r .number) ⌝ }
+    ensures contradicted { λ r. ⌜ Contradicted (now (book .entry)) (r .number) (r .place) ⌝ }
+    ensures fitting { λ r. ⌜ Fitting (now (book .entry)) (r .number) (r .nodes) ⌝ }
 {
     let outcome = answers::answer_claims(book, claims, parens, marks, shadows, places, answers);
     result_of(outcome)
@@ -66,7 +72,11 @@ pub extern "C" fn piecebook_index(
     shadows: &mut [u16],
     places: &mut [u16],
 ) -> PiecebookResult
-    ensures { λ r. ⌜ Exported (now (book .entry)) [] (lent (now (parens .entry)) (now (marks .entry)) (now (shadows .entry)) (now (places .entry)) []) r (lent (now (parens .exit)) (now (marks .exit)) (now (shadows .exit)) (now (places .exit)) []) ⌝ }
+    ensures exported { λ r. ⌜ Exported (now (book .entry)) [] (lent (now (parens .entry)) (now (marks .entry)) (now (shadows .entry)) (now (places .entry)) []) r (lent (now (parens .exit)) (now (marks .exit)) (now (shadows .exit)) (now (places .exit)) []) ⌝ }
+    ensures demand2 { λ r. ⌜ Demand2 (now (book .entry)) [] [] (r .number) ⌝ }
+    ensures demand3 { λ r. ⌜ Demand3 (now (book .entry)) [] (lent (now (parens .entry)) (now (marks .entry)) (now (shadows .entry)) (now (places .entry)) []) [] (r .number) ⌝ }
+    ensures contradicted { λ r. ⌜ Contradicted (now (book .entry)) (r .number) (r .place) ⌝ }
+    ensures fitting { λ r. ⌜ Fitting (now (book .entry)) (r .number) (r .nodes) ⌝ }
 {
     let outcome = answers::write_index(book, parens, marks, shadows, places);
     result_of(outcome)
