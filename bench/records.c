@@ -1,4 +1,5 @@
-// Rows 2 to 9 at 8,192 records, most of it row 9: our function beside the same check in plain C, on the same book.
+// Rows 2 to 9 at 8,192 records: our function beside the same check in plain C, with the same filter in front of row 9, on the same book;
+// and beside C without the filter on the books that the filter serves worst.
 #include <stdint.h>
 #include <stdio.h>
 #include <stdlib.h>
@@ -6,6 +7,7 @@
 #include <time.h>
 
 #define RECORDS 8192
+#define SLOTS 257731
 uint8_t records_check_book(const uint8_t *, size_t);
 
 static uint8_t book[RECORDS * 6];
@@ -16,9 +18,10 @@ static double now(void) {
   return t.tv_sec * 1e9 + t.tv_nsec;
 }
 
-// the records packed into keys once, each compared with the earlier ones, left at the first refusal
-__attribute__((noinline)) static int c_check_book(const uint8_t *s, size_t length) {
+// the records packed into keys once, each compared with the earlier ones where its bit was set before, left at the first refusal
+static inline __attribute__((always_inline)) int check(const uint8_t *s, size_t length, int filter) {
   static uint64_t keys[RECORDS];
+  uint64_t seen[4096] = {0};
   if (length == 0) return 2;
   if (length % 6) return 3;
   size_t n = length / 6;
@@ -33,15 +36,20 @@ __attribute__((noinline)) static int c_check_book(const uint8_t *s, size_t lengt
     if (r[1]) return 6;
     if (2047 < largest) return 7;
     if (r[0] == 1 && a <= b) return 8;
-    uint64_t key = 0;
-    memcpy(&key, r, 6);
+    uint64_t key = r[0] | (uint64_t)r[1] << 8 | (uint64_t)a << 16 | (uint64_t)b << 32;
     keys[i] = key;
-    for (size_t j = 0; j < i; j++)
+    size_t slot = key % SLOTS;
+    int met = !filter || (seen[slot / 64] >> slot % 64 & 1);
+    seen[slot / 64] |= (uint64_t)1 << slot % 64;
+    for (size_t j = met ? 0 : i; j < i; j++)
       if (keys[j] == key) return 9;
     if (pieces < largest + 1) pieces = largest + 1;
   }
   return pieces ? 0 : 1;
 }
+
+__attribute__((noinline)) static int c_check_book(const uint8_t *s, size_t length) { return check(s, length, 1); }
+__attribute__((noinline)) static int c_check_unfiltered(const uint8_t *s, size_t length) { return check(s, length, 0); }
 
 static void put(size_t i, int kind, unsigned a, unsigned b) {
   uint8_t r[6] = {kind, 0, a % 256, a / 256, b % 256, b / 256};
@@ -54,13 +62,13 @@ static int order(const void *x, const void *y) {
 }
 
 // the median of 11 runs of each, one after the other
-static void compare(const char *what) {
+static void compare(const char *what, int (*other)(const uint8_t *, size_t)) {
   double ours[11], theirs[11];
   for (int k = 0; k < 11; k++) {
     double t0 = now();
     int x = records_check_book(book, sizeof book);
     double t1 = now();
-    int y = c_check_book(book, sizeof book);
+    int y = other(book, sizeof book);
     double t2 = now();
     if (x != y) {
       printf("records %s: ours says %d, C %d\n", what, x, y);
@@ -74,11 +82,39 @@ static void compare(const char *what) {
   printf("records %s: ours %.0f ns, C %.0f ns, ratio %.2f\n", what, ours[5], theirs[5], ours[5] / theirs[5]);
 }
 
+// Keys that fall on as few bits as they can: TRAY records, some 512 on each of the lowest bits.
+static void crowd(void) {
+  size_t i = 0;
+  for (uint64_t slot = 0; i < RECORDS; slot++)
+    for (uint64_t b = 0; b < 65536; b++)
+      for (uint64_t a = 0; a < 2048 && i < RECORDS; a++)
+        if ((5 + (a << 16) + (b << 32)) % SLOTS == slot) put(i++, 5, a, b);
+}
+
+static int repeats(size_t i) {
+  for (size_t j = 0; j < i; j++)
+    if (memcmp(book + 6 * i, book + 6 * j, 6) == 0) return 1;
+  return 0;
+}
+
+static void scatter(void) {
+  uint64_t x = 1;
+  for (size_t i = 0; i < RECORDS; i += !repeats(i)) {
+    x = x * 6364136223846793005u + 1442695040888963407u;
+    put(i, 2 + (x >> 60) % 3, x >> 49 & 2047, x >> 38 & 2047);
+  }
+}
+
 int main(void) {
   for (size_t i = 0; i < RECORDS; i++) put(i, 5, i % 2048, i);
-  compare("rows 2 to 9, 8192 TRAY records");
+  compare("rows 2 to 9, 8192 TRAY records", c_check_book);
   for (size_t i = 0; i < RECORDS; i++) put(i, 2 + i / 4096, i % 2048, i / 2048);
-  compare("rows 2 to 9, 8192 APART and MEETS records");
+  compare("rows 2 to 9, 8192 APART and MEETS records", c_check_book);
   put(RECORDS - 1, 2, 0, 0);
-  compare("rows 2 to 9, the last record repeats the first");
+  compare("rows 2 to 9, the last record repeats the first", c_check_book);
+  scatter();
+  compare("rows 2 to 9, 8192 random records", c_check_book);
+  crowd();
+  compare("rows 2 to 9, keys on 16 bits", c_check_book);
+  compare("rows 2 to 9, keys on 16 bits, C without a filter", c_check_unfiltered);
 }

@@ -5,5 +5,6 @@ pub mod Examples
 mod Records
 mod Scans
 mod Keys
+mod Filters
 mod Books
 mod Claims

@@ -5,3 +5,4 @@ pub mod Rows
 pub mod Check
 pub mod Facts
 pub mod Key
+pub mod Met

@@ -5,7 +5,8 @@ ghost use lib.ListN.{length, getD};
 ghost use Rattle.records.specs.Record.{recordAt};
 ghost use Rattle.records.specs.Refusal.{refusalNumber};
 ghost use Rattle.records.specs.Pieces.{stated, largest};
-ghost use Rattle.records.specs.Key.{keyAt};
+ghost use Rattle.records.specs.Key.{keyAt, slotOf};
+ghost use Rattle.records.specs.Met.{met, Marked, start};
 ghost use Rattle.records.specs.Check.{formFinding, recordsCheck, bookCheck, claimAt, claimsCheck};
 
 // A record, or a claim: its kind, byte 1, and two 16-bit numbers.
@@ -171,12 +172,39 @@ fn larger_of(x: usize, y: usize) -> usize
     if x < y { y } else { x }
 }
 
-// Rows 5 to 9: the first refusal, record by record, or the piece count.
+// The bit of the filter that stands for a key. This prime spreads ordinary books.
+fn slot_of(key: u64) -> usize
+    ensures { λ r. ⌜ r ≡ slotOf key ⌝ }
+{
+    (key % 257731) as usize
+}
+
+// Sets bit k, and says whether it was set before.
+fn mark(seen: &mut [u64], k: usize) -> bool
+    requires { ⌜ (length (now seen) ≡ 4096) × (k < 262144) ⌝ }
+    ensures { λ t. ⌜ (t ≡ met (now (seen .entry)) k) × Marked (now (seen .entry)) (now (seen .exit)) k ⌝ }
+{
+    let w = k / 64;
+    let x = seen[w];
+    seen[w] = x | (1 << (k % 64));
+    (x >> (k % 64)) & 1 == 1
+}
+
+// The first earlier record to compare record i with: none where its bit is new.
+fn first_suspect(marked: bool, i: usize) -> usize
+    ensures { λ r. ⌜ r ≡ start marked i ⌝ }
+{
+    if marked { 0 } else { i }
+}
+
+// Rows 5 to 9: the first refusal, record by record, or the piece count. A record is compared with the earlier ones only
+// where the bit of its key was set before.
 fn check_records(book: &[u8], n: usize) -> BookCheck
     requires { ⌜ (n ≤ 8192) × (6 * n ≤ length (now book)) ⌝ }
     ensures { λ r. ⌜ r ≡ recordsCheck (now (book .entry)) n ⌝ }
 {
     let mut keys = [0u64; 8192];
+    let mut seen = [0u64; 4096];
     let mut pieces: usize = 1;
     let mut i: usize = 0;
     'records: loop {
@@ -190,7 +218,7 @@ fn check_records(book: &[u8], n: usize) -> BookCheck
         }
         let key = key_at(book, i);
         keys[i] = key;
-        let mut j: usize = 0;
+        let mut j = first_suspect(mark(&mut seen, slot_of(key)), i);
         while j < i {
             if keys[j] == key {
                 break 'records BookCheck::Refused(Refusal::Repeat, i);

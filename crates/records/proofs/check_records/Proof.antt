@@ -1,5 +1,5 @@
--- `records::check_records` meets its contract: the outer loop keeps what is left of the scan, the keys of the records passed and their piece count;
--- the inner loop keeps that no earlier key passed is the key at hand. Assumes nothing.
+-- `records::check_records` meets its contract: the outer loop keeps what is left of the scan, the keys of the records passed, that the bit of each
+-- is set, and their piece count; the inner loop keeps that no earlier key passed is the key at hand. Assumes nothing.
 use Rattle.records.specs.Pieces.{piecesUpTo, largest}
 use mathlib.Core.Path.{_≡_, sym, ap, ap₂, _∙_}
 use Prim.Native.Nat.{ℕ, max, _≤_, _<_, _-_, _+_, _*_}
@@ -14,48 +14,55 @@ use Rattle.records.specs.Record.{recordAt}
 use Rattle.records.specs.Key.{keyAt}
 use Rattle.records.proofs.Books.{Left, at-first, accepts, refuses, goes-on, form-unfit, form-repeats, form-new, pieces-none, pieces-more}
 use Rattle.records.proofs.Keys.{repeated, new, keyed-more}
+use Rattle.records.proofs.Filters.{AllMet, met-more, spared}
 use Rattle.records.proofs.check_records.Statement.{statement}
 use Rattle.records.proofs.check_records.Tie as tie
 
 abbrev Inv-loop : tie.InvT-loop
-Inv-loop book n keys pieces i «record» key j₀ j = (j ≤ i) × ((q : ℕ) → q < j → getD keys q 0 ≡ key → ⊥)
+Inv-loop book n keys seen pieces i «record» key j₀ j = (j ≤ i) × ((q : ℕ) → q < j → getD keys q 0 ≡ key → ⊥)
 
 abbrev μ-loop : tie.MeasureT-loop
-μ-loop book n keys pieces i «record» key j₀ j = i - j
+μ-loop book n keys seen pieces i «record» key j₀ j = i - j
 
 abbrev Inv-records : tie.InvT-records
-Inv-records book n keys₀ pieces₀ i₀ keys pieces i =
-    (i ≤ n) × (length keys ≡ 8192) × (pieces ≡ piecesUpTo book i) × ((p : ℕ) → p < i → getD keys p 0 ≡ keyAt book (6 * p)) × Left book n i
+Inv-records book n keys₀ seen₀ pieces₀ i₀ keys seen pieces i =
+    (i ≤ n) × (length keys ≡ 8192) × (length seen ≡ 4096) × (pieces ≡ piecesUpTo book i) × ((p : ℕ) → p < i → getD keys p 0 ≡ keyAt book (6 * p))
+    × AllMet book seen i × Left book n i
 
 abbrev μ-records : tie.MeasureT-records
-μ-records book n keys₀ pieces₀ i₀ keys pieces i = n - i
+μ-records book n keys₀ seen₀ pieces₀ i₀ keys seen pieces i = n - i
+
+-- the place where the key of the record at hand is known
+abbrev keyed-at : tie.At-loop Inv-loop μ-loop Inv-records μ-records → tie.After-key-at Inv-loop μ-loop Inv-records μ-records
+keyed-at l = l .before .before .before .before .before .before
 
 -- the record at hand passes rows 5 to 8
 fit :
-    (c : tie.At-loop Inv-loop μ-loop Inv-records μ-records)
-    → formFinding (recordAt (c .before .before .before .before .before .before .before .before .before .args .book .now) (c .before .before .before .before .before .before .before .records .i)) ≡ Fit
+    (c : tie.After-key-at Inv-loop μ-loop Inv-records μ-records)
+    → formFinding (recordAt (c .before .before .before .before .before .before .before .before .args .book .now) (c .before .before .before .before .before .before .records .i)) ≡ Fit
 fit c =
-    let f = c .before .before .before .before in
-    sym (ap formFinding (f .before .record-at .ensures)) ∙ sym (f .check-form .ensures) ∙ c .before .before .enum-told .given .1
+    let f = c .before .before .before in
+    sym (ap formFinding (f .before .record-at .ensures)) ∙ sym (f .check-form .ensures) ∙ c .before .enum-told .given .1
 
 -- its key stands with those of the earlier ones
 keyed :
-    (c : tie.At-loop Inv-loop μ-loop Inv-records μ-records)
-    → (p : ℕ) → p < c .before .before .before .before .before .before .before .records .i + 1
-    → getD (set (c .before .before .before .before .before .before .before .records .keys) (c .before .before .before .before .before .before .before .records .i) (c .before .key-at .result)) p 0
-    ≡ keyAt (c .before .before .before .before .before .before .before .before .before .args .book .now) (6 * p)
+    (c : tie.After-key-at Inv-loop μ-loop Inv-records μ-records)
+    → (p : ℕ) → p < c .before .before .before .before .before .before .records .i + 1
+    → getD (set (c .before .before .before .before .before .before .records .keys) (c .before .before .before .before .before .before .records .i) (c .key-at .result)) p 0
+    ≡ keyAt (c .before .before .before .before .before .before .before .before .args .book .now) (6 * p)
 keyed c =
-    let o = c .before .before .before .before .before .before .before in
-    keyed-more (o .before .before .args .book .now) (o .records .keys) (o .records .i) _ (omega arith) (c .before .key-at .ensures) (o .records .inv .3)
+    let o = c .before .before .before .before .before .before in
+    keyed-more (o .before .before .args .book .now) (o .records .keys) (o .records .i) _ (omega arith) (c .key-at .ensures) (o .records .inv .4)
 
 -- the largest number that it names
 named :
     (c : tie.After-largest-named Inv-loop μ-loop Inv-records μ-records)
-    → c .largest-named .result ≡ largest (recordAt (c .before .before .before .before .before .before .before .before .before .before .before .args .book .now) (c .before .before .before .before .before .before .before .before .before .records .i))
-named c = c .largest-named .ensures ∙ ap largest (c .before .before .before .before .before .before .before .record-at .ensures)
+    → c .largest-named .result
+    ≡ largest (recordAt (keyed-at (c .before .before) .before .before .before .before .before .before .before .before .args .book .now) (keyed-at (c .before .before) .before .before .before .before .before .before .records .i))
+named c = c .largest-named .ensures ∙ ap largest (keyed-at (c .before .before) .before .before .before .before .record-at .ensures)
 
 records-holds : tie.Need-records-holds Inv-loop μ-loop Inv-records μ-records
-records-holds c = (search needs, search needs, pieces-none _, below-none _, at-first _ _)
+records-holds c = (search needs, search needs, search needs, pieces-none _, below-none _, below-none _, at-first _ _)
 
 record-at-requires : tie.Need-record-at-requires Inv-loop μ-loop Inv-records μ-records
 record-at-requires c κs = search needs
@@ -78,8 +85,24 @@ mul-keys c = search needs
 array-write-keys : tie.Need-array-write-keys Inv-loop μ-loop Inv-records μ-records
 array-write-keys c = search needs
 
+slice-aggregate-mark : tie.Need-slice-aggregate-mark Inv-loop μ-loop Inv-records μ-records
+slice-aggregate-mark c = search needs
+
+slot-of-requires : tie.Need-slot-of-requires Inv-loop μ-loop Inv-records μ-records
+slot-of-requires c κs = search needs
+
+mark-requires : tie.Need-mark-requires Inv-loop μ-loop Inv-records μ-records
+mark-requires c κs = (search needs, omega (arith, c .slot-of .ensures))
+
+first-suspect-requires : tie.Need-first-suspect-requires Inv-loop μ-loop Inv-records μ-records
+first-suspect-requires c κs = search needs
+
 loop-holds : tie.Need-loop-holds Inv-loop μ-loop Inv-records μ-records
-loop-holds c = (search needs, below-none _)
+loop-holds c =
+    let m = c .before .before in
+    let k = m .before .before .before in
+    let o = k .before .before .before .before .before .before in
+    spared (o .before .before .args .book .now) (set (o .records .keys) (o .records .i) (k .key-at .result)) _ _ _ _ _ _ (m .before .slot-of .ensures) (m .mark .ensures .0) (c .first-suspect .ensures) (o .records .inv .5) (λ p h. keyed k p (omega arith))
 
 mul-if2 : tie.Need-mul-if2 Inv-loop μ-loop Inv-records μ-records
 mul-if2 c = search needs
@@ -100,7 +123,7 @@ largest-named-requires : tie.Need-largest-named-requires Inv-loop μ-loop Inv-re
 largest-named-requires c κs = search needs
 
 add-larger-of : tie.Need-add-larger-of Inv-loop μ-loop Inv-records μ-records
-add-larger-of c = omega (arith, named c, formed _ (fit (c .before .before)))
+add-larger-of c = omega (arith, named c, formed _ (fit (keyed-at (c .before .before))))
 
 larger-of-requires : tie.Need-larger-of-requires Inv-loop μ-loop Inv-records μ-records
 larger-of-requires c κs = search needs
@@ -114,32 +137,36 @@ records-less c = omega arith
 records-again : tie.Need-records-again Inv-loop μ-loop Inv-records μ-records
 records-again c =
     let l = c .before .before .before in
-    let o = l .before .before .before .before .before .before .before in (
+    let k = keyed-at l in
+    let o = k .before .before .before .before .before .before in (
       search needs,
       simp length-set (omega arith),
-      c .larger-of .ensures ∙ ap₂ (λ (x y : ℕ). max x (y + 1)) (o .records .inv .2) (named (c .before)) ∙ sym (pieces-more _ _),
-      keyed l,
-      goes-on _ _ _ (o .records .inv .4) (omega arith)
-          (form-new _ _ (fit l) (new _ _ (λ j h e. l .loop .inv .1 j (omega arith) (keyed l j (omega arith) ∙ e ∙ sym (l .before .key-at .ensures))))),
+      l .before .before .before .mark .kept .0 ∙ o .records .inv .2,
+      c .larger-of .ensures ∙ ap₂ (λ (x y : ℕ). max x (y + 1)) (o .records .inv .3) (named (c .before)) ∙ sym (pieces-more _ _),
+      keyed k,
+      met-more (o .before .before .args .book .now) _ _ _ _ _ (k .key-at .ensures) (l .before .before .before .before .slot-of .ensures) (l .before .before .before .mark .ensures .1) (o .records .inv .5),
+      goes-on _ _ _ (o .records .inv .6) (omega arith)
+          (form-new _ _ (fit k) (new _ _ (λ j h e. l .loop .inv .1 j (omega arith) (keyed k j (omega arith) ∙ e ∙ sym (k .key-at .ensures))))),
     )
 
 returns : tie.Need-returns Inv-loop μ-loop Inv-records μ-records
-returns c = accepts _ _ _ (c .before .records .inv .4) (omega arith) (omega arith) (c .before .records .inv .2)
+returns c = accepts _ _ _ (c .before .records .inv .6) (omega arith) (omega arith) (c .before .records .inv .3)
 
 returns-2 : tie.Need-returns-2 Inv-loop μ-loop Inv-records μ-records
 returns-2 c =
     let l = c .before .before .before .before .before .before in
-    refuses _ _ (l .records .i) (l .records .inv .4) (omega arith)
+    refuses _ _ (l .records .i) (l .records .inv .6) (omega arith)
     (form-unfit _ _ _ (sym (ap formFinding (c .before .before .before .before .record-at .ensures)) ∙ sym (c .before .before .before .check-form .ensures) ∙ c .before .form .given .1))
 
 returns-3 : tie.Need-returns-3 Inv-loop μ-loop Inv-records μ-records
 returns-3 c =
     let l = c .before .before in
-    let o = l .before .before .before .before .before .before .before in
-    refuses _ _ (o .records .i) (o .records .inv .4) (omega arith)
-    (form-repeats _ _ (fit l)
-    (repeated _ _ (λ k. o .before .shared-slice-known .given k .fits) (l .loop .j) (omega arith)
-    (sym (l .before .key-at .ensures) ∙ sym (c .if2 .taken) ∙ keyed l (l .loop .j) (omega arith))))
+    let k = keyed-at l in
+    let o = k .before .before .before .before .before .before in
+    refuses _ _ (o .records .i) (o .records .inv .6) (omega arith)
+    (form-repeats _ _ (fit k)
+    (repeated _ _ (λ p. o .before .shared-slice-known .given p .fits) (l .loop .j) (omega arith)
+    (sym (k .key-at .ensures) ∙ sym (c .if2 .taken) ∙ keyed k (l .loop .j) (omega arith))))
 
 pub check-records-spec : {M : Type 1} → statement M
 check-records-spec =
@@ -157,6 +184,10 @@ check-records-spec =
     key-at-requires
     mul-keys
     array-write-keys
+    slice-aggregate-mark
+    slot-of-requires
+    mark-requires
+    first-suspect-requires
     loop-holds
     mul-if2
     array-read-if2
