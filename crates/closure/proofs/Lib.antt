@@ -9,3 +9,4 @@ pub mod Parts
 pub mod Steps
 pub mod Halving
 pub mod Accepting
+pub mod Orders

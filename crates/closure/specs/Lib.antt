@@ -6,3 +6,4 @@ pub mod Opposed
 pub mod Opened
 pub mod Tells
 pub mod Answers
+pub mod Order

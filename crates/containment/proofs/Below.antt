@@ -8,7 +8,7 @@ use native.Mathlib.Omega.{arith}
 use lib.Dec.{eqb}
 use Rattle.containment.specs.Breadth.{parent}
 use Rattle.containment.specs.Tree.{Visit, node, shadow, Forest, hang, under, visits}
-use Rattle.containment.proofs.Numbers.{_∈_, which}
+use Rattle.lists.proofs.Numbers.{_∈_, which}
 use Rattle.containment.specs.Pairs.{parts, Book, Within, self, step}
 use Rattle.containment.proofs.Nodes.{hang-node, hang-shadow, parts-mem, mem-parts}
 
@@ -92,7 +92,7 @@ module _ (n : ℕ) (edge : ℕ → ℕ → Bool) where
         go (inr e) (inr t) r = rw (hang-shadow n edge below c p qs e) (all-in (λ v i. there i) (r t))
 
   module _ (B : Book n edge) where
-    pub within-le : {g h : ℕ} → Within edge g h → h ≤ g
+    pub within-le : {g h : ℕ} → Within edge g h → B .level h ≤ B .level g
     within-le self = omega arith
     within-le (step {g = g} {c = c} e w) = omega (arith, B .lower g c e, within-le w)
 
@@ -114,9 +114,9 @@ module _ (n : ℕ) (edge : ℕ → ℕ → Bool) where
         go (deeper q i e w) r = let f = r q w in (f .0, f .1, within-trans (f .2) (step (parts-mem n edge B c i) self))
 
     -- a part of h is visited below h
-    pub part-seen : (k h g : ℕ) → n ≤ h + k → edge g h ≡ true → Seen g (visits (under n edge k h))
+    pub part-seen : (k h g : ℕ) → n ≤ B .level h + k → edge g h ≡ true → Seen g (visits (under n edge k h))
     unfolding under
-    part-seen zero h g l e = absurd (omega (arith, B .lower g h e, B .piece g h e))
+    part-seen zero h g l e = absurd (omega (arith, B .lower g h e, B .fits g (B .piece g h e)))
     part-seen (suc k) h g l e = go (mem-hang (under n edge k) h (parts n edge h) (mem-parts n edge B g h e))
       where
         vs : List Visit
@@ -127,7 +127,7 @@ module _ (n : ℕ) (edge : ℕ → ℕ → Bool) where
         go (inr a) = inr (a .0)
 
     -- a part of a node that is visited below h is visited below h
-    pub node-part-seen : (k h c g : ℕ) → n ≤ h + k → edge g c ≡ true → node c ∈ visits (under n edge k h) → Seen g (visits (under n edge k h))
+    pub node-part-seen : (k h c g : ℕ) → n ≤ B .level h + k → edge g c ≡ true → node c ∈ visits (under n edge k h) → Seen g (visits (under n edge k h))
     unfolding under visits
     node-part-seen zero h c g l e m = absurd (List·Memᴰ·not-nil m)
     node-part-seen (suc k) h c g l e m =

@@ -1,10 +1,9 @@
 -- How many nodes and shadows a book can have. Assumes nothing.
-use mathlib.Core.Path.{_≡_, refl, sym, ap}
+use mathlib.Core.Path.{_≡_, refl}
 use mathlib.Core.Logic.{_⊎_, inl, inr}
-use mathlib.Core.Bool.{Bool, true, false, not, _&&_, _||_, true≢false}
+use mathlib.Core.Bool.{Bool, true, false, not, _&&_, _||_}
 use mathlib.Core.List.{List, [], _∷_}
 use Prim.Native.Nat.{ℕ, zero, suc, _+_, _*_, _-_, _≤_, _<_}
-use native.Mathlib.Decide.{decLt}
 use native.Mathlib.Omega.{arith}
 use lib.Dec.{eqb, ltb}
 use lib.ListN.{length}
@@ -12,48 +11,14 @@ use borrow.Author.Tests.{eq-eqb, eqb-false, ne-eqb}
 use Rattle.lists.specs.Any.{any, anyBelow}
 use Rattle.lists.specs.Tab.{tab}
 use Rattle.lists.proofs.Bools.{left-or}
-use Rattle.parentheses.specs.Rank.{num}
-use Rattle.containment.specs.Numbers.{range, keep, sum}
+use Rattle.lists.specs.Tally.{num}
+use Rattle.lists.specs.Numbers.{range, keep, sum}
 use Rattle.containment.specs.Pairs.{parts, pairs, joined, Book}
 use Rattle.containment.specs.Tree.{whole, visits}
 use Rattle.containment.specs.Parts.{shadows}
-use Rattle.containment.proofs.Numbers.{which, keep-yes, keep-no, keep-lengths, range-length, range-mem}
-use Rattle.containment.proofs.Sizes.{sum-add, sum-at, sum-none, visit-count, shadow-count}
-
--- ---- lists
-
-sum-le : (f g : ℕ → ℕ) (xs : List ℕ) → ((x : ℕ) → f x ≤ g x) → sum f xs ≤ sum g xs
-unfolding sum
-sum-le f g [] h = omega arith
-sum-le f g (x ∷ xs) h = omega (arith, h x, sum-le f g xs h)
-
-keep-le : (f : ℕ → Bool) (xs : List ℕ) → length (keep f xs) ≤ length xs
-keep-le f xs = omega (arith, keep-lengths f xs)
-
--- those that pass one of two tests
-keep-or : (f g h : ℕ → Bool) (xs : List ℕ) → ((x : ℕ) → f x ≡ true → (g x || h x) ≡ true) → length (keep f xs) ≤ length (keep g xs) + length (keep h xs)
-unfolding keep
-keep-or f g h [] e = omega arith
-keep-or f g h (x ∷ xs) e = go (which (f x)) (which (g x)) (which (h x)) (keep-or f g h xs e)
-  where
-    Goal : Type 0
-    Goal = length (keep f (x ∷ xs)) ≤ length (keep g (x ∷ xs)) + length (keep h (x ∷ xs))
-
-    go : (f x ≡ true) ⊎ (f x ≡ false) → (g x ≡ true) ⊎ (g x ≡ false) → (h x ≡ true) ⊎ (h x ≡ false)
-        → length (keep f xs) ≤ length (keep g xs) + length (keep h xs) → Goal
-    go (inl a) (inl b) (inl c) r = rw (keep-yes f x xs a, keep-yes g x xs b, keep-yes h x xs c) (omega arith)
-    go (inl a) (inl b) (inr c) r = rw (keep-yes f x xs a, keep-yes g x xs b, keep-no h x xs c) (omega arith)
-    go (inl a) (inr b) (inl c) r = rw (keep-yes f x xs a, keep-no g x xs b, keep-yes h x xs c) (omega arith)
-    go (inl a) (inr b) (inr c) r = absurd (true≢false (sym (rw (b, c) at (e x a))))
-    go (inr a) (inl b) (inl c) r = rw (keep-no f x xs a, keep-yes g x xs b, keep-yes h x xs c) (omega arith)
-    go (inr a) (inl b) (inr c) r = rw (keep-no f x xs a, keep-yes g x xs b, keep-no h x xs c) (omega arith)
-    go (inr a) (inr b) (inl c) r = rw (keep-no f x xs a, keep-no g x xs b, keep-yes h x xs c) (omega arith)
-    go (inr a) (inr b) (inr c) r = rw (keep-no f x xs a, keep-no g x xs b, keep-no h x xs c) r
-
-none-kept : (f : ℕ → Bool) (xs : List ℕ) → ((x : ℕ) → f x ≡ false) → length (keep f xs) ≡ 0
-unfolding keep
-none-kept f [] h = refl
-none-kept f (x ∷ xs) h = rw (keep-no f x xs (h x)) (none-kept f xs h)
+use Rattle.lists.proofs.Numbers.{which, range-length}
+use Rattle.lists.proofs.Sums.{sum-add, sum-at, sum-none, sum-le, keep-le, keep-or, none-kept, keep-sum, one-at-most}
+use Rattle.containment.proofs.Sizes.{visit-count, shadow-count}
 
 -- ---- the joins
 
@@ -96,23 +61,6 @@ module _ (n : ℕ) (fact : ℕ → ℕ → Bool) where
     limits a b = (omega (arith, nodes-bound), omega (arith, shadows-bound))
 
 -- ---- pairs from a list
-
-keep-sum : (f : ℕ → Bool) (xs : List ℕ) → length (keep f xs) ≡ sum (λ x. num (f x)) xs
-unfolding keep sum
-keep-sum f [] = refl
-keep-sum f (x ∷ xs) = go (which (f x)) (keep-sum f xs)
-  where
-    go : (f x ≡ true) ⊎ (f x ≡ false) → length (keep f xs) ≡ sum (λ x. num (f x)) xs → length (keep f (x ∷ xs)) ≡ num (f x) + sum (λ x. num (f x)) xs
-    go (inl e) r = rw (keep-yes f x xs e, e) (omega arith)
-    go (inr e) r = rw (keep-no f x xs e, e) (omega arith)
-
--- a number is in a run at most once
-one-at-most : (q n : ℕ) → sum (λ p. num (eqb p q)) (range 0 n) ≤ 1
-one-at-most q n = go (decLt q n)
-  where
-    go : Dec (q < n) → sum (λ p. num (eqb p q)) (range 0 n) ≤ 1
-    go (yes l) = omega (arith, sum-at (λ p. 1) q 0 n (omega arith) (omega arith), sum-le (λ p. num (eqb p q)) (λ p. num (eqb p q) * 1) (range 0 n) (λ p. omega arith))
-    go (no l) = omega (arith, sum-none (λ p. num (eqb p q)) (range 0 n) (λ x m. let b = range-mem 0 n m in ap num (ne-eqb x q (λ w. omega arith))))
 
 -- a test that only one part and container pass
 single : (n part container : ℕ) (f : ℕ → ℕ → Bool) → ((p c : ℕ) → f p c ≡ true → (p ≡ part) × (c ≡ container))

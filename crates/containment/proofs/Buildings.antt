@@ -9,14 +9,14 @@ use Rattle.containment.specs.Pairs.{joined, Book}
 use Rattle.containment.specs.Index.{visitsOf, Room, Indexed}
 use Rattle.containment.specs.Matrix.{pairOf, Buildable, Completed}
 use Rattle.containment.specs.Steps.{Sized, Parented, Walkable}
-use Rattle.containment.proofs.Joins.{completed, book}
+use Rattle.containment.proofs.Joins.{completed}
 
 module _ {n : ℕ} {m m′ : List ℕ} {lb lm ls lp : ℕ} (R : Buildable n m lb lm ls lp) (C : Completed n m m′) (e : length m′ ≡ length m) where
   same : joined n (pairOf n m) ≡ pairOf n m′
   same = sym (completed n m m′ C)
 
   whole : Book n (pairOf n m′)
-  whole = subst (λ (edge : ℕ → ℕ → Bool). Book n edge) same (book n m (R .some) (R .lower))
+  whole = subst (λ (edge : ℕ → ℕ → Bool). Book n edge) same (R .book)
 
   pub sized : Sized n m′ 2048 2048
   sized = record { book = whole; small = R .small; matrix = e ∙ R .matrix; parRoom = R .small; ordRoom = R .small }

@@ -10,7 +10,6 @@ use Rattle.containment.specs.Pairs.{joined, Within}
 use Rattle.containment.specs.Index.{Indexed}
 use Rattle.containment.specs.Matrix.{pairOf, Buildable}
 use Rattle.containment.specs.Contents.{Stored, Contents}
-use Rattle.containment.proofs.Joins.{book}
 use Rattle.containment.proofs.Lent.{contains-lent}
 
 pub built :
@@ -19,7 +18,7 @@ pub built :
 built n m parens marks shadows places nodes shadowed a b c d B ea eb ec ed I =
     record {
       edge = joined n (pairOf n m);
-      book = book n m (B .some) (B .lower);
+      book = B .book;
       room = rw (ea, eb, ec, ed) (B .room);
       shadowed = shadowed;
       index = I;

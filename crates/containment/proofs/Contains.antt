@@ -12,7 +12,7 @@ use lib.Seq.{getD-append-add, getD-append-seam}
 use borrow.Author.Tests.{eq-eqb}
 use Rattle.containment.specs.Tree.{Visit, node, shadow, under, whole, visits}
 use Rattle.containment.specs.Parts.{parens, isNode, isShadow, place, marks, shadows, shadowList}
-use Rattle.containment.proofs.Numbers.{_∈_, which}
+use Rattle.lists.proofs.Numbers.{_∈_, which}
 use Rattle.parentheses.specs.Rank.{rank}
 use Rattle.parentheses.specs.Subtree.{after}
 use Rattle.parentheses.proofs.Ranks.{rank-zero}
@@ -102,7 +102,7 @@ module _ (n : ℕ) (edge : ℕ → ℕ → Bool) where
       InIndex p q = Inside (parens (whole n edge) ++ Z) (marks (visits (whole n edge)) ++ Y) (shadowList (visits (whole n edge)) ++ zs) p q
 
       -- the places of h's range hold the tree of h, and nothing else
-      module _ (h : ℕ) (l : h < n) (S : Stand n edge h) where
+      module _ (h : ℕ) (l : h < n) (S : Stand n edge (B .level) h) where
         pub range-tree : (s : ℕ) → place W h ≤ s → s < after P (place W h) → at W s ∈ node h ∷ visits (under n edge (S .deep) h)
         range-tree s a b =
             Memᴰ·cast
@@ -147,21 +147,21 @@ module _ (n : ℕ) (edge : ℕ → ℕ → Bool) where
 
       -- what a marked place in h's range leads to
       module _ (h : ℕ) (l : h < n) (s : ℕ) (a : place W h ≤ s) (b : s < after P (place W h)) (m : getD M s false ≡ true) where
-        pub target : (k : ℕ) × (k < n) × Within edge k h × (h < k) × (getD (shadowList W ++ zs) (rank M s) 0 ≡ place W k)
+        pub target : (k : ℕ) × (k < n) × Within edge k h × (B .level h < B .level k) × (getD (shadowList W ++ zs) (rank M s) 0 ≡ place W k)
         unfolding shadowList piece
         target = go (shadow-of (at W s) dark)
           where
-            S : Stand n edge h
+            S : Stand n edge (B .level) h
             S = stand n edge B h l
 
             dark : isShadow (at W s) ≡ true
             dark = unfold marks isShadow in sym (List·getD-map isShadow W s (node 0)) ∙ sym (List·getD-append (map isShadow W) Y false s (rw (length-map W isShadow) (range-small h l S s b))) ∙ m
 
-            go : (k : ℕ) × (at W s ≡ shadow k) → (k : ℕ) × (k < n) × Within edge k h × (h < k) × (getD (map (place W) (shadows W) ++ zs) (rank M s) 0 ≡ place W k)
+            go : (k : ℕ) × (at W s ≡ shadow k) → (k : ℕ) × (k < n) × Within edge k h × (B .level h < B .level k) × (getD (map (place W) (shadows W) ++ zs) (rank M s) 0 ≡ place W k)
             go (k, e) = split (List·Memᴰ·cases-cons (Memᴰ·cast (sym e) (range-tree h l S s a b)))
               where
                 split : (shadow k ≡ node h) ⊎ (shadow k ∈ visits (under n edge (S .deep) h))
-                    → (k : ℕ) × (k < n) × Within edge k h × (h < k) × (getD (map (place W) (shadows W) ++ zs) (rank M s) 0 ≡ place W k)
+                    → (k : ℕ) × (k < n) × Within edge k h × (B .level h < B .level k) × (getD (map (place W) (shadows W) ++ zs) (rank M s) 0 ≡ place W k)
                 split (inl w) = let z : true ≡ false = cc in absurd (true≢false z)
                 split (inr i) = let f = under-mem n edge B (S .deep) h i in (k, B .piece k (f .0) (f .1), step (f .1) (f .2), omega (arith, B .lower k (f .0) (f .1), within-le n edge B (f .2)), shadow-at (place W) W Y zs s k e)
 
@@ -195,14 +195,14 @@ module _ (n : ℕ) (edge : ℕ → ℕ → Bool) where
       range-part : (h g : ℕ) (l : h < n) (lg : g < n) → Seen g (visits (under n edge (stand n edge B h l .deep) h)) → InIndex (place W h) (place W g)
       range-part h g l lg (inl i) = go (tree-range h l S (there i))
         where
-          S : Stand n edge h
+          S : Stand n edge (B .level) h
           S = stand n edge B h l
 
           go : (s : ℕ) × (place W h ≤ s) × (s < after P (place W h)) × (at W s ≡ node g) × (s < length W) → InIndex (place W h) (place W g)
           go (s, a, b, e, w) = rw (place-only g W s (once n edge B g lg) w e) (below a b)
       range-part h g l lg (inr i) = go (tree-range h l S (there i))
         where
-          S : Stand n edge h
+          S : Stand n edge (B .level) h
           S = stand n edge B h l
 
           go : (s : ℕ) × (place W h ≤ s) × (s < after P (place W h)) × (at W s ≡ shadow g) × (s < length W) → InIndex (place W h) (place W g)
@@ -212,7 +212,7 @@ module _ (n : ℕ) (edge : ℕ → ℕ → Bool) where
       inside-part (below a b) h c g lh lc lg e eh ec =
           rw eh (split (List·Memᴰ·cases-cons (Memᴰ·cast (sym (node-at c lc)) (range-tree h lh S (place W c) (omega arith) (rw (eh, ec) at b)))))
         where
-          S : Stand n edge h
+          S : Stand n edge (B .level) h
           S = stand n edge B h lh
 
           split : (node c ≡ node h) ⊎ (node c ∈ visits (under n edge (S .deep) h)) → InIndex (place W h) (place W g)
@@ -225,8 +225,8 @@ module _ (n : ℕ) (edge : ℕ → ℕ → Bool) where
       within-inside : {g h : ℕ} → Within edge g h → h < n → g < n → InIndex (place W h) (place W g)
       within-inside (self {g = g}) lh lg = itself g lg
       within-inside (step {g = g} {c = c} {h = h} e w) lh lg =
-          let lt = B .lower g c e in
-          inside-part (within-inside w lh (omega arith)) h c g lh (omega arith) lg e refl refl
+          let lc = B .whole g c e in
+          inside-part (within-inside w lh lc) h c g lh lc lg e refl refl
 
       -- THE THEOREM: the index says of two pieces what the book's facts say
       pub contains : (h g : ℕ) → h < n → g < n → InIndex (place W h) (place W g) ↔ Within edge g h

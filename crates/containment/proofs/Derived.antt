@@ -61,13 +61,13 @@ module _ (n : ℕ) (fs : List Fact) (some : 0 < n) (all : AllWithin n fs) (lower
   -- ## Paths
 
   -- every piece is within 0
-  to-top : (k g : ℕ) → g < k → g < n → Within (joined n (partIn fs)) g 0
+  to-top : (k g : ℕ) → book .level g < k → g < n → Within (joined n (partIn fs)) g 0
   to-top zero g a l = absurd (omega arith)
   to-top (suc k) zero a l = self
   to-top (suc k) (suc g) a l =
       let c = book .held (suc g) (omega arith) l in
       let lt = book .lower (suc g) (c .0) (c .1) in
-      step (c .1) (to-top k (c .0) (omega arith) (omega arith))
+      step (c .1) (to-top k (c .0) (omega arith) (book .whole (suc g) (c .0) (c .1)))
 
   pair : (g h : ℕ) → List·Memᴰ (PART g h) fs → joined n (partIn fs) g h ≡ true
   unfolding joined
@@ -75,7 +75,7 @@ module _ (n : ℕ) (fs : List Fact) (some : 0 < n) (all : AllWithin n fs) (lower
 
   pub path-within : {g h : ℕ} → Path n fs g h → Within (joined n (partIn fs)) g h
   path-within (here l) = self
-  path-within (top {g = g} l w) = within-trans (to-top (suc g) g (omega arith) l) (path-within w)
+  path-within (top {g = g} l w) = within-trans (to-top (suc (book .level g)) g (omega arith) l) (path-within w)
   path-within (up {g = g} {h = h} m w) = step (pair g h m) (path-within w)
 
   -- a pair is stored, or it is a join
@@ -92,8 +92,7 @@ module _ (n : ℕ) (fs : List Fact) (some : 0 < n) (all : AllWithin n fs) (lower
   pub within-path : {g h : ℕ} → g < n → Within (joined n (partIn fs)) g h → Path n fs g h
   within-path l self = here l
   within-path l (step {g = g} {c = c} e w) =
-      let lt = book .lower g c e in
-      pair-path g c e (within-path (omega arith) w)
+      pair-path g c e (within-path (book .whole g c e) w)
 
   -- THE THEOREM: what the lent index says of two pieces is what is derived
   module _ (parens marks shadows places : List ℕ) (nodes shadowed : ℕ)
@@ -140,7 +139,7 @@ module _ (n : ℕ) (fs : List Fact) (some : 0 < n) (all : AllWithin n fs) (lower
           some = some;
           small = small;
           matrix = wide;
-          lower = rw matrix-pairs (λ p c e. lower p c (part-stored fs p c e));
+          book = rw matrix-pairs book;
           room = rw matrix-pairs (record {
             parens = omega (arith, parens-length (whole n (joined n (partIn fs))), nodes, part-count n fs);
             marks = omega (arith, nodes, part-count n fs);

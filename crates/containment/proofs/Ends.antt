@@ -11,7 +11,8 @@ use borrow.Author.Tests.{eq-eqb, ne-eqb}
 use lib.ListN.{length, getD, set}
 use lib.Seq.{getD-set-same, getD-set-other}
 use Rattle.lists.proofs.Firsts.{first-is}
-use Rattle.parentheses.specs.Rank.{rank, num, select}
+use Rattle.lists.specs.Tally.{num}
+use Rattle.parentheses.specs.Rank.{rank, select}
 use Rattle.parentheses.specs.Close.{balanced, close}
 use Rattle.parentheses.specs.Subtree.{after}
 use Rattle.parentheses.proofs.Ranks.{rank-suc, rank-zero, rank-le, rank-mono}

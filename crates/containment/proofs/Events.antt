@@ -12,11 +12,11 @@ use Rattle.lists.specs.Tab.{tab}
 use Rattle.parentheses.specs.Forest.{enc}
 use Rattle.containment.specs.Parts.{shape}
 use borrow.Author.Tests.{eq-eqb, ne-eqb}
-use Rattle.containment.specs.Numbers.{range, keep}
+use Rattle.lists.specs.Numbers.{range, keep}
 use Rattle.containment.specs.Breadth.{parent}
 use Rattle.containment.specs.Tree.{Visit, node, shadow, Forest, end, tree, hang, under, whole, visits}
 use Rattle.containment.specs.Parts.{parens}
-use Rattle.containment.proofs.Numbers.{_∈_, which, keep-yes, keep-no}
+use Rattle.lists.proofs.Numbers.{_∈_, which, keep-yes, keep-no}
 use Rattle.containment.specs.Pairs.{parts, Book}
 use Rattle.containment.proofs.Reached.{parent-edge}
 use Rattle.containment.proofs.Nexts.{Next}
@@ -101,14 +101,14 @@ module _ (n : ℕ) (edge : ℕ → ℕ → Bool) where
   upward (suc k) c = elim (eqb c 0) [ true ↦ [] | false ↦ events (onward (parent n edge c) (suc c)) ++ (leave ∷ upward k (parent n edge c)) ]
 
   unfoldable pub rest : ℕ → ℕ → List Event
-  rest c p = events (onward c p) ++ (leave ∷ upward c c)
+  rest c p = events (onward c p) ++ (leave ∷ upward n c)
 
   module _ (B : Book n edge) where
-    pub none-low : (c p : ℕ) → p ≤ c → edge p c ≡ false
+    pub none-low : (c p : ℕ) → p < 1 → edge p c ≡ false
     none-low c p h = go (which (edge p c))
       where
         go : (edge p c ≡ true) ⊎ (edge p c ≡ false) → edge p c ≡ false
-        go (inl e) = absurd (omega (arith, B .lower p c e))
+        go (inl e) = absurd (omega (arith, B .below p c e))
         go (inr e) = e
 
     -- no part is left at n and beyond
@@ -119,10 +119,10 @@ module _ (n : ℕ) (edge : ℕ → ℕ → Bool) where
         go (inl e) = absurd (omega (arith, B .piece p c e))
         go (inr e) = e
 
-    no-parts : (c : ℕ) → n ≤ c → parts n edge c ≡ []
-    no-parts c h = empty (parts n edge c) (λ q m. let e = parts-mem n edge B c m in omega (arith, B .lower q c e, B .piece q c e))
+    no-parts : (c : ℕ) → n ≤ B .level c → parts n edge c ≡ []
+    no-parts c h = empty (parts n edge c) (λ q m. let e = parts-mem n edge B c m in omega (arith, B .lower q c e, B .fits q (B .piece q c e)))
 
-    under-same : (k j c : ℕ) → n ≤ c + k → n ≤ c + j → under n edge k c ≡ under n edge j c
+    under-same : (k j c : ℕ) → n ≤ B .level c + k → n ≤ B .level c + j → under n edge k c ≡ under n edge j c
     unfolding under hang
     under-same zero zero c a b = refl
     under-same zero (suc j) c a b = sym (ap (hang n edge (under n edge j) c) (no-parts c (omega arith)))
@@ -131,32 +131,38 @@ module _ (n : ℕ) (edge : ℕ → ℕ → Bool) where
         hang-same (under n edge k) (under n edge j) c (parts n edge c)
         (λ q m. let lt = B .lower q c (parts-mem n edge B c m) in under-same k j q (omega arith) (omega arith))
 
-    upward-same : (k j c : ℕ) → c ≤ k → c ≤ j → c < n → upward k c ≡ upward j c
+    -- only 0 has the lowest level
+    low-zero : (c : ℕ) → c < n → B .level c ≤ 0 → c ≡ 0
+    low-zero zero l h = refl
+    low-zero (suc c) l h = absurd (omega (arith, B .lower (suc c) (parent n edge (suc c)) (parent-edge n edge B (suc c) (omega arith) l)))
+
+    upward-zero : (k : ℕ) → upward k 0 ≡ []
+    unfolding upward
+    upward-zero zero = refl
+    upward-zero (suc k) = refl
+
+    upward-same : (k j c : ℕ) → B .level c ≤ k → B .level c ≤ j → c < n → upward k c ≡ upward j c
     unfolding upward
     upward-same zero zero c a b l = refl
-    upward-same zero (suc j) c a b l = rw (eq-eqb c 0 (omega arith), upward)
-    upward-same (suc k) zero c a b l = rw (eq-eqb c 0 (omega arith), upward)
+    upward-same zero (suc j) c a b l = rw (eq-eqb c 0 (low-zero c l a), upward)
+    upward-same (suc k) zero c a b l = rw (eq-eqb c 0 (low-zero c l b), upward)
     upward-same (suc k) (suc j) zero a b l = refl
     upward-same (suc k) (suc j) (suc c) a b l =
         let lt = B .lower (suc c) (parent n edge (suc c)) (parent-edge n edge B (suc c) (omega arith) l) in
         rw (ne-eqb (suc c) 0 (λ w. omega arith), upward)
-        (ap (λ (es : List Event). events (onward (parent n edge (suc c)) (suc (suc c))) ++ (leave ∷ es)) (upward-same k j (parent n edge (suc c)) (omega arith) (omega arith) (omega arith)))
+        (ap (λ (es : List Event). events (onward (parent n edge (suc c)) (suc (suc c))) ++ (leave ∷ es)) (upward-same k j (parent n edge (suc c)) (omega arith) (omega arith) (B .whole (suc c) (parent n edge (suc c)) (parent-edge n edge B (suc c) (omega arith) l))))
 
-    -- the parts of c are all above c
-    under-onward : (c : ℕ) → c < n → under n edge n c ≡ onward c (suc c)
+    -- 0 is no part
+    under-onward : (c : ℕ) → c < n → under n edge n c ≡ onward c 1
     unfolding under onward parts
     under-onward c l =
-        let e : 0 + suc c ≡ suc c = omega arith in
+        let e : 0 + 1 ≡ 1 = omega arith in
         under-same n (suc n) c (omega arith) (omega arith)
-        ∙ ap (hang n edge (under n edge n) c) (keep-from (λ q. edge q c) (suc c) 0 n (λ x b. none-low c x (omega arith)) (omega arith) ∙ rw e)
+        ∙ ap (hang n edge (under n edge n) c) (keep-from (λ q. edge q c) 1 0 n (λ x b. none-low c x (omega arith)) (omega arith) ∙ rw e)
 
-    upward-step : (c : ℕ) → 0 < c → c < n → upward c c ≡ rest (parent n edge c) (suc c)
+    upward-step : (c : ℕ) → 0 < c → c < n → upward n c ≡ rest (parent n edge c) (suc c)
     unfolding upward rest
-    upward-step zero pos l = absurd (omega arith)
-    upward-step (suc c) pos l =
-        let lt = B .lower (suc c) (parent n edge (suc c)) (parent-edge n edge B (suc c) pos l) in
-        rw (ne-eqb (suc c) 0 (λ w. omega arith), upward)
-        (ap (λ (es : List Event). events (onward (parent n edge (suc c)) (suc (suc c))) ++ (leave ∷ es)) (upward-same c (parent n edge (suc c)) (parent n edge (suc c)) (omega arith) (omega arith) (omega arith)))
+    upward-step c pos l = upward-same n (suc n) c (omega (arith, B .fits c l)) (omega (arith, B .fits c l)) l ∙ rw (ne-eqb c 0 (λ w. omega arith), upward)
 
     module _ (c p : ℕ) (l : p < n) where
       open-range : range p (n - p) ≡ p ∷ range (suc p) (n - suc p)
@@ -173,20 +179,20 @@ module _ (n : ℕ) (edge : ℕ → ℕ → Bool) where
       unfolding rest onward events
       step-shadow e x = rw (open-range, keep-yes (λ q. edge q c) p (range (suc p) (n - suc p)) e, hang-shadow n edge (under n edge n) c p (keep (λ q. edge q c) (range (suc p) (n - suc p))) (ne-eqb (parent n edge p) c x))
 
-      pub step-node : c < n → edge p c ≡ true → parent n edge p ≡ c → rest c p ≡ enter (node p) ∷ rest p (suc p)
+      pub step-node : c < n → edge p c ≡ true → parent n edge p ≡ c → rest c p ≡ enter (node p) ∷ rest p 1
       unfolding rest onward events
       step-node k e x =
-          let lt = B .lower p c e in
+          let pos = B .below p c e in
           rw (
             open-range,
             keep-yes (λ q. edge q c) p (range (suc p) (n - suc p)) e,
             hang-node n edge (under n edge n) c p (keep (λ q. edge q c) (range (suc p) (n - suc p))) (eq-eqb (parent n edge p) c x),
             ← under-onward p l,
-            upward-step p (omega arith) l,
+            upward-step p pos l,
             x,
           )
           (ap (λ (es : List Event). enter (node p) ∷ es)
-          (append-assoc (events (under n edge n p)) (leave ∷ events (onward c (suc p))) (leave ∷ upward c c)))
+          (append-assoc (events (under n edge n p)) (leave ∷ events (onward c (suc p))) (leave ∷ upward n c)))
 
     -- ## The parts that are passed over
 
@@ -211,8 +217,8 @@ module _ (n : ℕ) (edge : ℕ → ℕ → Bool) where
 
     pub step-end : (p : ℕ) → n ≤ p → rest 0 p ≡ leave ∷ []
     unfolding rest onward range tab hang events keep upward
-    step-end p h = let e : n - p ≡ 0 = omega arith in rw e
+    step-end p h = let e : n - p ≡ 0 = omega arith in rw (e, upward-zero n)
 
     pub start : events (whole n edge) ≡ enter (node 0) ∷ rest 0 1
     unfolding rest upward whole events
-    start = rw (under-onward 0 (B .some))
+    start = rw (under-onward 0 (B .some), upward-zero n)

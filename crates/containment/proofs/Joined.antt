@@ -10,7 +10,7 @@ use Rattle.lists.specs.Any.{anyBelow}
 use Rattle.lists.proofs.Bools.{or-either, and-both}
 use Rattle.lists.proofs.Anys.{below-find}
 use Rattle.containment.specs.Pairs.{joined, Book}
-use Rattle.containment.proofs.Numbers.{which}
+use Rattle.lists.proofs.Numbers.{which}
 
 module _ (n : ℕ) (fact : ℕ → ℕ → Bool) (some : 0 < n) (lower : (p c : ℕ) → fact p c ≡ true → c < p) (piece : (p c : ℕ) → fact p c ≡ true → p < n) where
   both : (p c : ℕ) → joined n fact p c ≡ true → (c < p) × (p < n)
@@ -43,7 +43,11 @@ module _ (n : ℕ) (fact : ℕ → ℕ → Bool) (some : 0 < n) (lower : (p c : 
   pub joined-book : Book n (joined n fact)
   joined-book = record {
     some = some;
+    level = λ p. p;
     lower = λ p c e. both p c e .0;
+    fits = λ p l. l;
+    whole = λ p c e. omega (arith, both p c e);
+    below = λ p c e. omega (arith, both p c e .0);
     piece = λ p c e. both p c e .1;
     held = held;
   }

@@ -13,13 +13,13 @@ use borrow.Author.Tests.{lt-ltb, le-ltb, ne-eqb}
 use Rattle.lists.specs.Any.{anyBelow}
 use Rattle.lists.specs.First.{first}
 use Rattle.lists.proofs.Bools.{Known, is-true, is-false, known, right-or}
-use Rattle.parentheses.specs.Rank.{num}
+use Rattle.lists.specs.Tally.{num}
 use Rattle.relation.specs.Matrix.{bitOf, Inserted}
-use Rattle.relation.proofs.Seeks.{Sought, sought-next}
+use Rattle.lists.proofs.Searches.{Sought, sought-next}
 use Rattle.containment.specs.Pairs.{joined, Book}
 use Rattle.containment.specs.Matrix.{pairOf, Completed}
 use Rattle.containment.specs.Steps.{Marked, Held}
-use Rattle.containment.proofs.Numbers.{same-test}
+use Rattle.lists.proofs.Numbers.{same-test}
 use Rattle.containment.proofs.Joined.{joined-book}
 
 -- ## The parts of one piece

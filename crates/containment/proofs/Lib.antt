@@ -1,5 +1,4 @@
 pub mod Session
-pub mod Numbers
 pub mod Reached
 pub mod Joined
 pub mod Nodes

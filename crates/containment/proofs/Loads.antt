@@ -12,7 +12,7 @@ use borrow.Author.Tests.{ne-eqb}
 use Rattle.lists.specs.Any.{any}
 use Rattle.lists.proofs.Bools.{eqb-self}
 use Rattle.relation.specs.Matrix.{bitOf, Inserted}
-use Rattle.relation.proofs.Columns as columns
+use Rattle.relation.proofs.Cleared.{cleared}
 use Rattle.rules.specs.Fact.{Fact, PART}
 use Rattle.rules.specs.Follows.{storing}
 use Rattle.rules.proofs.Facts.{added-within}
@@ -40,7 +40,7 @@ none n m pos small e =
       count = refl;
       all = λ f i. absurd (List·Memᴰ·not-nil i);
       lower = λ p c i. absurd (List·Memᴰ·not-nil i);
-      same = λ p c a b. ap (λ (x : List ℕ). bitOf x c p) e ∙ columns.cleared 65536 c p ∙ sym (none-in p c);
+      same = λ p c a b. ap (λ (x : List ℕ). bitOf x c p) e ∙ cleared 65536 c p ∙ sym (none-in p c);
     }
 
 module _ (n : ℕ) (m m′ : List ℕ) (k p c : ℕ) (L : Loaded n m k) (l : c < p) (b : p < n) where

@@ -8,7 +8,7 @@ use lib.Dec.{ltb}
 use borrow.Author.Tests.{lt-ltb}
 use Rattle.lists.specs.First.{first}
 use Rattle.relation.specs.Matrix.{bitOf}
-use Rattle.relation.proofs.Seeks.{sought-next}
+use Rattle.lists.proofs.Searches.{sought-next}
 use Rattle.containment.specs.Matrix.{pairOf}
 
 -- r is the first part of c from p on, or at least n where there is none

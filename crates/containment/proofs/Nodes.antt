@@ -9,12 +9,12 @@ use native.Mathlib.Nat.{eq-or-lt-of-le}
 use lib.Dec.{eqb}
 use Rattle.lists.specs.Tab.{tab}
 use borrow.Author.Tests.{eqb-true, eq-eqb, ne-eqb}
-use Rattle.parentheses.specs.Rank.{num}
-use Rattle.containment.specs.Numbers.{range, keep}
+use Rattle.lists.specs.Tally.{num}
+use Rattle.lists.specs.Numbers.{range, keep}
 use Rattle.containment.specs.Breadth.{parent}
 use Rattle.containment.specs.Tree.{Visit, node, shadow, Forest, end, tree, hang, under, whole, visits}
 use Rattle.containment.specs.Parts.{isNode}
-use Rattle.containment.proofs.Numbers.{_∈_, which, keep-yes, keep-no, keep-mem, mem-keep, mem-range}
+use Rattle.lists.proofs.Numbers.{_∈_, which, keep-yes, keep-no, keep-mem, mem-keep, mem-range}
 use Rattle.containment.specs.Pairs.{parts, Book}
 use Rattle.containment.proofs.Reached.{parent-edge}
 
@@ -109,12 +109,12 @@ module _ (n : ℕ) (edge : ℕ → ℕ → Bool) where
     mem-parts q c e = mem-keep (λ p. edge p c) (range 0 n) (mem-range 0 n q (omega arith) (omega (arith, B .piece q c e))) e
 
     module _ (p : ℕ) (pos : 0 < p) (l : p < n) where
-      times-under : (k c : ℕ) → n ≤ c + k
+      times-under : (k c : ℕ) → n ≤ B .level c + k
           → times p (visits (under n edge k c)) ≡ num (eqb (parent n edge p) c) + times (parent n edge p) (visits (under n edge k c))
       unfolding under times visits parts
       times-under zero c h =
           let lt = B .lower p (parent n edge p) (parent-edge n edge B p pos l) in
-          rw (ne-eqb (parent n edge p) c (λ q. omega arith))
+          rw (ne-eqb (parent n edge p) c (λ q. omega (arith, ap (B .level) q, B .fits p l)))
       times-under (suc k) c h =
           go (which (eqb (parent n edge p) c)) (times-hang p (under n edge k) c (parts n edge c) (λ q m. times-under k q (omega (arith, B .lower q c (parts-mem c m)))))
         where
@@ -133,7 +133,7 @@ module _ (n : ℕ) (edge : ℕ → ℕ → Bool) where
           go (inr e) r = rw e (omega (arith, rw e at r))
 
     -- nothing at or below c's own number hangs below c
-    times-low-hang : (p : ℕ) (below : ℕ → Forest) (c : ℕ) (qs : List ℕ) → ((q : ℕ) → q ∈ qs → (p < q) × (times p (visits (below q)) ≡ 0))
+    times-low-hang : (p : ℕ) (below : ℕ → Forest) (c : ℕ) (qs : List ℕ) → ((q : ℕ) → q ∈ qs → (B .level p < B .level q) × (times p (visits (below q)) ≡ 0))
         → times p (visits (hang n edge below c qs)) ≡ 0
     unfolding hang visits times isNode
     times-low-hang p below c [] h = refl
@@ -142,12 +142,12 @@ module _ (n : ℕ) (edge : ℕ → ℕ → Bool) where
         rest : Forest
         rest = hang n edge below c qs
 
-        go : (eqb (parent n edge q) c ≡ true) ⊎ (eqb (parent n edge q) c ≡ false) → (p < q) × (times p (visits (below q)) ≡ 0)
+        go : (eqb (parent n edge q) c ≡ true) ⊎ (eqb (parent n edge q) c ≡ false) → (B .level p < B .level q) × (times p (visits (below q)) ≡ 0)
             → times p (visits rest) ≡ 0 → times p (visits (hang n edge below c (q ∷ qs))) ≡ 0
-        go (inl e) (l, z) r = rw (hang-node below c q qs e, ne-eqb p q (λ x. omega arith)) (omega (arith, times-append p (visits (below q)) (visits rest)))
+        go (inl e) (l, z) r = rw (hang-node below c q qs e, ne-eqb p q (λ x. omega (arith, ap (B .level) x))) (omega (arith, times-append p (visits (below q)) (visits rest)))
         go (inr e) (l, z) r = rw (hang-shadow below c q qs e) (omega arith)
 
-    pub times-low : (p k c : ℕ) → p ≤ c → times p (visits (under n edge k c)) ≡ 0
+    pub times-low : (p k c : ℕ) → B .level p ≤ B .level c → times p (visits (under n edge k c)) ≡ 0
     unfolding under visits times
     times-low p zero c h = refl
     times-low p (suc k) c h =
@@ -160,15 +160,15 @@ module _ (n : ℕ) (edge : ℕ → ℕ → Bool) where
     unfolding whole visits times isNode
     times-whole p = omega (arith, times-append p (visits (under n edge n 0)) [])
 
-    once-below : (k p : ℕ) → p < k → p < n → times p (visits (whole n edge)) ≡ 1
+    once-below : (k p : ℕ) → B .level p < k → p < n → times p (visits (whole n edge)) ≡ 1
     once-below zero p h l = absurd (omega arith)
     once-below (suc k) zero h l = omega (arith, times-whole 0, times-low 0 n 0 (omega arith))
     once-below (suc k) (suc p) h l =
         let e = parent-edge n edge B (suc p) (omega arith) l in
         let lt = B .lower (suc p) (parent n edge (suc p)) e in
         let u = times-under (suc p) (omega arith) l n 0 (omega arith) in
-        let i = once-below k (parent n edge (suc p)) (omega arith) (omega arith) in
+        let i = once-below k (parent n edge (suc p)) (omega arith) (B .whole (suc p) (parent n edge (suc p)) e) in
         omega (arith, times-whole (suc p), times-whole (parent n edge (suc p)), ap num (ne-eqb (suc p) 0 (λ q. omega arith)))
 
     pub once : (p : ℕ) → p < n → times p (visits (whole n edge)) ≡ 1
-    once p l = once-below (suc p) p (omega arith) l
+    once p l = once-below (suc (B .level p)) p (omega arith) l

@@ -12,7 +12,7 @@ use lib.Pow.{shr-shr, pow-mono}
 use lib.Seq.{ext-getD, getD-take, getD-drop, getD-append-add}
 use Rattle.lists.proofs.Tabs.{tab-at, tab-length}
 use Rattle.parentheses.specs.Bits.{bits, bitOf, digit}
-use Rattle.parentheses.specs.Rank.{num}
+use Rattle.lists.specs.Tally.{num}
 use Rattle.parentheses.specs.Padded.{padded}
 use Rattle.parentheses.proofs.Packed.{bits-length, bits-at}
 use Rattle.parentheses.proofs.Paddeds.{padded-length}

@@ -13,8 +13,9 @@ use borrow.Author.Tests.{eq-eqb}
 use Rattle.containment.specs.Breadth.{parent}
 use Rattle.containment.specs.Tree.{Visit, node, Forest, hang, under, whole, visits}
 use Rattle.containment.specs.Parts.{parens, isNode, place}
-use Rattle.containment.proofs.Numbers.{_∈_, which}
-use Rattle.parentheses.specs.Rank.{num, rank}
+use Rattle.lists.proofs.Numbers.{_∈_, which}
+use Rattle.lists.specs.Tally.{num}
+use Rattle.parentheses.specs.Rank.{rank}
 use Rattle.parentheses.specs.Subtree.{after}
 use Rattle.parentheses.proofs.Trees.{rank-cons, ones, ones-append}
 use Rattle.containment.specs.Pairs.{parts, Book}
@@ -94,27 +95,27 @@ module _ (n : ℕ) (edge : ℕ → ℕ → Bool) where
 
   -- ## Where the tree of h stands
 
-  pub record Stand (h : ℕ) : Type 0 where
+  pub record Stand (lv : ℕ → ℕ) (h : ℕ) : Type 0 where
     pub before : List Visit
     pub beyond : List Visit
     pub opened : List Bool
     pub rest : List Bool
     pub deep : ℕ
-    pub enough : n ≤ h + deep
+    pub enough : n ≤ lv h + deep
     pub visited : visits (whole n edge) ≡ before ++ (node h ∷ (visits (under n edge deep h) ++ beyond))
     pub bits : parens (whole n edge) ≡ opened ++ (true ∷ (parens (under n edge deep h) ++ (false ∷ rest)))
     pub level : ones opened ≡ length before
 
-  stand-root : Stand 0
+  stand-root : (lv : ℕ → ℕ) → Stand lv 0
   unfolding whole visits parens shape enc rank
-  stand-root =
+  stand-root lv =
       record { before = []; beyond = []; opened = []; rest = []; deep = n; enough = omega arith; visited = refl; bits = refl; level = refl }
 
   module _ (B : Book n edge) where
     module _ (h : ℕ) (e : edge h (parent n edge h) ≡ true) where
-      stand-child : (S : Stand (parent n edge h)) → (k : ℕ) → S .deep ≡ k → Stand h
+      stand-child : (S : Stand (B .level) (parent n edge h)) → (k : ℕ) → S .deep ≡ k → Stand (B .level) h
       unfolding under visits parens shape enc
-      stand-child S zero d = absurd (omega (arith, S .enough, B .lower h (parent n edge h) e, B .piece h (parent n edge h) e))
+      stand-child S zero d = absurd (omega (arith, S .enough, B .lower h (parent n edge h) e, B .fits h (B .piece h (parent n edge h) e)))
       stand-child S (suc k) d =
           record {
             before = S .before ++ (node q ∷ VL);
@@ -149,19 +150,19 @@ module _ (n : ℕ) (edge : ℕ → ℕ → Bool) where
           PR : List Bool
           PR = parens (hang n edge (under n edge k) q (at .1))
 
-    stand-below : (k h : ℕ) → h < k → h < n → Stand h
+    stand-below : (k h : ℕ) → B .level h < k → h < n → Stand (B .level) h
     stand-below zero h a l = absurd (omega arith)
-    stand-below (suc k) zero a l = stand-root
+    stand-below (suc k) zero a l = stand-root (B .level)
     stand-below (suc k) (suc h) a l =
         let e = parent-edge n edge B (suc h) (omega arith) l in
         let lt = B .lower (suc h) (parent n edge (suc h)) e in
-        let S = stand-below k (parent n edge (suc h)) (omega arith) (omega arith) in
+        let S = stand-below k (parent n edge (suc h)) (omega arith) (B .whole (suc h) (parent n edge (suc h)) e) in
         stand-child (suc h) e S (S .deep) refl
 
-    pub stand : (h : ℕ) → h < n → Stand h
-    stand h l = stand-below (suc h) h (omega arith) l
+    pub stand : (h : ℕ) → h < n → Stand (B .level) h
+    stand h l = stand-below (suc (B .level h)) h (omega arith) l
 
-    module _ (h : ℕ) (l : h < n) (S : Stand h) where
+    module _ (h : ℕ) (l : h < n) (S : Stand (B .level) h) where
       -- its node's place is what stands before it
       pub stand-place : place (visits (whole n edge)) h ≡ length (S .before)
       stand-place = rw (S .visited) (place-at h (S .before) (visits (under n edge (S .deep) h) ++ S .beyond) none)

@@ -12,8 +12,8 @@ use Rattle.lists.specs.Tab.{tab}
 use lib.ListN.{length, getD, take, set, length-set}
 use lib.Seq.{take-suc-set, getD-set-same, getD-set-other}
 use borrow.Author.Tests.{eq-eqb, ne-eqb, lt-ltb, le-ltb}
-use Rattle.containment.specs.Numbers.{range, keep}
-use Rattle.containment.proofs.Numbers.{same-test, _∈_, which, keep-yes, keep-no, keep-lengths, range-mem}
+use Rattle.lists.specs.Numbers.{range, keep}
+use Rattle.lists.proofs.Numbers.{same-test, _∈_, which, keep-yes, keep-no, keep-lengths, range-mem}
 use Rattle.containment.specs.Steps.{fresh, unmet, Spread}
 use Rattle.containment.proofs.Nexts.{Next}
 

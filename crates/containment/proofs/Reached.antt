@@ -7,9 +7,9 @@ use Prim.Native.Nat.{ℕ, zero, suc, _+_, _-_, _≤_, _<_}
 use native.Mathlib.Omega.{arith}
 use lib.ListN.{length, length-append}
 use Rattle.containment.specs.Pairs.{Book}
-use Rattle.containment.specs.Numbers.{range, keep}
+use Rattle.lists.specs.Numbers.{range, keep}
 use Rattle.containment.specs.Breadth.{breadth, order, parent}
-use Rattle.containment.proofs.Numbers.{_∈_, which, mem-keep, keep-lengths, mem-range, range-length, find-mem}
+use Rattle.lists.proofs.Numbers.{_∈_, which, mem-keep, keep-lengths, mem-range, range-length, find-mem}
 
 module _ (n : ℕ) (edge : ℕ → ℕ → Bool) where
   -- what is queued is met
@@ -62,21 +62,20 @@ module _ (n : ℕ) (edge : ℕ → ℕ → Bool) where
     fits = omega (arith, range-length 1 (n - 1), B .some)
 
     -- by induction on a bound of the piece: its container is lower
-    met-below : (k p : ℕ) → p < k → p < n → p ∈ order n edge
+    met-below : (k p : ℕ) → B .level p < k → p < n → p ∈ order n edge
     unfolding order
     met-below zero p h l = absurd (omega arith)
     met-below (suc k) zero h l = queued n (0 ∷ []) (range 1 (n - 1)) fits (here refl)
     met-below (suc k) (suc p) h l =
         let c = B .held (suc p) (omega arith) l in
         let lt = B .lower (suc p) (c .0) (c .1) in
-        closed n (0 ∷ []) (range 1 (n - 1)) fits (met-below k (c .0) (omega arith) (omega arith)) (c .1) (mem-range 1 (n - 1) (suc p) (omega arith) (omega arith))
+        closed n (0 ∷ []) (range 1 (n - 1)) fits (met-below k (c .0) (omega arith) (B .whole (suc p) (c .0) (c .1))) (c .1) (mem-range 1 (n - 1) (suc p) (omega arith) (omega arith))
 
     pub met : (p : ℕ) → p < n → p ∈ order n edge
-    met p l = met-below (suc p) p (omega arith) l
+    met p l = met-below (suc (B .level p)) p (omega arith) l
 
     pub parent-edge : (p : ℕ) → 0 < p → p < n → edge p (parent n edge p) ≡ true
     unfolding parent
     parent-edge p pos l =
         let c = B .held p pos l in
-        let lt = B .lower p (c .0) (c .1) in
-        find-mem (λ c. edge p c) (order n edge) (met (c .0) (omega arith)) (c .1) .1
+        find-mem (λ c. edge p c) (order n edge) (met (c .0) (B .whole p (c .0) (c .1))) (c .1) .1

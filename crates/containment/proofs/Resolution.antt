@@ -13,7 +13,7 @@ use Rattle.containment.specs.Tree.{Visit, node, shadow, whole, visits}
 use Rattle.containment.specs.Parts.{place, marks, isShadow, shadows, shadowList, placeList}
 use Rattle.containment.specs.Index.{parenthesesOf, visitsOf, Room, Indexed}
 use Rattle.containment.specs.Steps.{Walked, Resolvable, Resolved}
-use Rattle.containment.proofs.Numbers.{_∈_}
+use Rattle.lists.proofs.Numbers.{_∈_}
 use Rattle.containment.proofs.Below.{piece}
 use Rattle.containment.proofs.Sizes.{pieces}
 use Rattle.containment.proofs.Packing.{by-places, by-bits}

@@ -10,9 +10,9 @@ use lib.ListN.{length, getD, take, drop, set, length-take, drop-of-length-le}
 use native.Mathlib.Decide.{ℕ-discrete}
 use borrow.Author.Tests.{eq-eqb}
 use lib.Seq.{getD-set-same, getD-set-other, take-suc, drop-cons, getD-take, take-take, take-append-le, drop-append-le, length-take-le}
-use Rattle.containment.specs.Numbers.{range, keep, find}
+use Rattle.lists.specs.Numbers.{range, keep, find}
 use Rattle.containment.specs.Breadth.{breadth, order, parent}
-use Rattle.containment.proofs.Numbers.{_∈_, which, keep-yes, keep-lengths, find-mem, range-mem, range-length, keep-mem}
+use Rattle.lists.proofs.Numbers.{_∈_, which, keep-yes, keep-lengths, find-mem, range-mem, range-length, keep-mem}
 use Rattle.containment.specs.Pairs.{Book}
 use Rattle.containment.proofs.Reached.{met, parent-edge}
 use Rattle.containment.specs.Steps.{fresh, unmet, Spread}
@@ -90,7 +90,7 @@ module _ (n : ℕ) (edge : ℕ → ℕ → Bool) where
 
           there-is : parent n edge q ∈ order n edge
           there-is = unfold parent in let c = B .held q pos h in
-              find-mem (λ c. edge q c) (order n edge) (met n edge B (c .0) (omega (arith, B .lower q (c .0) (c .1)))) (c .1) .0
+              find-mem (λ c. edge q c) (order n edge) (met n edge B (c .0) (B .whole q (c .0) (c .1))) (c .1) .0
 
           go : (fresh par q ≡ true) ⊎ (fresh par q ≡ false) → getD par q 0 ≡ parent n edge q
           go (inl f) = absurd (true≢false (sym (parent-edge n edge B q pos h) ∙ R .unknown q h f (parent n edge q) (rw over at there-is)))

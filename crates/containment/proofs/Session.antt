@@ -1,6 +1,6 @@
 -- The printed session's book: its index, by computation. Assumes nothing.
 use mathlib.Core.Path.{_≡_, refl}
-use mathlib.Core.Bool.{Bool, true, false, _&&_}
+use mathlib.Core.Bool.{Bool, _&&_}
 use mathlib.Core.List.{List, [], _∷_}
 use Prim.Native.Nat.{ℕ}
 use lib.Dec.{eqb}
@@ -8,7 +8,7 @@ use Rattle.lists.specs.Any.{any, anyBelow}
 use Rattle.lists.specs.Tab.{tab}
 use Rattle.parentheses.specs.Forest.{enc}
 use Rattle.parentheses.specs.Padded.{padded}
-use Rattle.containment.specs.Numbers.{range, keep, find}
+use Rattle.lists.specs.Numbers.{range, keep, find}
 use Rattle.containment.specs.Pairs.{joined, parts}
 use Rattle.containment.specs.Breadth.{breadth, order, parent}
 use Rattle.containment.specs.Tree.{hang, under, whole, visits}

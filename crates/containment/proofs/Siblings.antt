@@ -75,7 +75,7 @@ module _ {bs : List Bool} {vs : List Visit} {q : ℕ} where
         }
 
 -- the trees that hang from a piece
-pub hangs : (n : ℕ) (edge : ℕ → ℕ → Bool) (B : Book n edge) (h : ℕ) (l : h < n) (S : Stand n edge h) (Z : List Bool)
+pub hangs : (n : ℕ) (edge : ℕ → ℕ → Bool) (B : Book n edge) (h : ℕ) (l : h < n) (S : Stand n edge (B .level) h) (Z : List Bool)
     → Stands (parens (whole n edge) ++ Z) (visits (whole n edge)) (place (visits (whole n edge)) h + 1) (under n edge (S .deep) h)
 hangs n edge B h l S Z =
     record {

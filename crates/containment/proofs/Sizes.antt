@@ -5,22 +5,18 @@ use mathlib.Core.Bool.{Bool, true, false}
 use mathlib.Core.List.{List, [], _∷_, _++_, List·Memᴰ·head as here, List·Memᴰ·tail as there, List·Memᴰ·cases-cons, List·Memᴰ·not-nil, List·Memᴰ·append-cases}
 use Prim.Native.Nat.{ℕ, zero, suc, _+_, _*_, _-_, _≤_, _<_}
 use native.Mathlib.Omega.{arith}
-use native.Mathlib.Nat.{eq-or-lt-of-le}
 use lib.Dec.{eqb}
-use Rattle.lists.specs.Tab.{tab}
 use lib.ListN.{length, length-append}
-use borrow.Author.Tests.{eq-eqb, ne-eqb}
-use Rattle.parentheses.specs.Rank.{num}
-use Rattle.containment.specs.Numbers.{sum, range}
+use Rattle.lists.specs.Tally.{num}
+use Rattle.lists.specs.Numbers.{sum, range}
 use Rattle.containment.specs.Breadth.{parent}
 use Rattle.containment.specs.Tree.{Visit, node, shadow, Forest, hang, under, whole, visits}
 use Rattle.containment.specs.Parts.{isNode, shadows}
-use Rattle.containment.proofs.Numbers.{_∈_, which, range-mem}
+use Rattle.lists.proofs.Numbers.{_∈_, which, range-mem}
+use Rattle.lists.proofs.Sums.{sum-eq, sum-add, sum-none, sum-at, sum-ones}
 use Rattle.containment.specs.Pairs.{parts, pairs, Book}
 use Rattle.containment.proofs.Nodes.{times, hang-node, hang-shadow, parts-mem, once}
 use Rattle.containment.proofs.Below.{piece, under-mem}
-
--- ## Sums
 
 -- g summed over the pieces of the nodes
 unfoldable pub total : (ℕ → ℕ) → List Visit → ℕ
@@ -33,37 +29,6 @@ unfolding total
 total-append g [] ys = omega arith
 total-append g (node p ∷ xs) ys = omega (arith, total-append g xs ys)
 total-append g (shadow p ∷ xs) ys = total-append g xs ys
-
-pub sum-eq : (f g : ℕ → ℕ) (xs : List ℕ) → ((x : ℕ) → x ∈ xs → f x ≡ g x) → sum f xs ≡ sum g xs
-unfolding sum
-sum-eq f g [] h = refl
-sum-eq f g (x ∷ xs) h = omega (arith, h x (here refl), sum-eq f g xs (λ y m. h y (there m)))
-
-pub sum-add : (f g : ℕ → ℕ) (xs : List ℕ) → sum (λ x. f x + g x) xs ≡ sum f xs + sum g xs
-unfolding sum
-sum-add f g [] = refl
-sum-add f g (x ∷ xs) = omega (arith, sum-add f g xs)
-
-pub sum-none : (f : ℕ → ℕ) (xs : List ℕ) → ((x : ℕ) → x ∈ xs → f x ≡ 0) → sum f xs ≡ 0
-unfolding sum
-sum-none f [] h = refl
-sum-none f (x ∷ xs) h = omega (arith, h x (here refl), sum-none f xs (λ y m. h y (there m)))
-
--- the sum of what is g q at q alone
-pub sum-at : (g : ℕ → ℕ) (q k m : ℕ) → k ≤ q → q < k + m → sum (λ p. num (eqb p q) * g p) (range k m) ≡ g q
-unfolding sum range tab
-sum-at g q k zero a b = absurd (omega arith)
-sum-at g q k (suc m) a b = go (eq-or-lt-of-le a) (λ (h : k < q). sum-at g q (suc k) m h (omega arith))
-  where
-    go : (k ≡ q) ⊎ (k < q) → (k < q → sum (λ p. num (eqb p q) * g p) (range (suc k) m) ≡ g q)
-        → num (eqb k q) * g k + sum (λ p. num (eqb p q) * g p) (range (suc k) m) ≡ g q
-    go (inl e) r = rw (eq-eqb k q e) (omega (
-      arith,
-      ap g e,
-      sum-none (λ p. num (eqb p q) * g p) (range (suc k) m)
-          (λ x h. let b = range-mem (suc k) m h in rw (ne-eqb x q (λ w. omega arith)) (omega arith)),
-    ))
-    go (inr h) r = rw (ne-eqb k q (λ w. omega arith)) (omega (arith, r h))
 
 -- over a list of visits, node by node or piece by piece
 total-sum : (g : ℕ → ℕ) (n : ℕ) (vs : List Visit) → ((v : Visit) → v ∈ vs → piece v < n) → total g vs ≡ sum (λ p. times p vs * g p) (range 0 n)
@@ -79,11 +44,6 @@ total-sum g n (node q ∷ vs) h =
     )
 total-sum g n (shadow q ∷ vs) h =
     total-sum g n vs (λ v m. h v (there m)) ∙ sum-eq (λ p. times p vs * g p) (λ p. (0 + times p vs) * g p) (range 0 n) (λ x m. omega arith)
-
-sum-ones : (k m : ℕ) → sum (λ p. 1) (range k m) ≡ m
-unfolding sum range tab
-sum-ones k zero = refl
-sum-ones k (suc m) = omega (arith, sum-ones (suc k) m)
 
 -- a visit is at a node or at a shadow
 pub node-or-shadow : (vs : List Visit) → total (λ p. 1) vs + length (shadows vs) ≡ length vs
@@ -117,9 +77,9 @@ module _ (n : ℕ) (edge : ℕ → ℕ → Bool) where
             (omega (arith, h q (here refl), length-append (visits (below q)) (visits rest), total-append degree (visits (below q)) (visits rest)))
         go (inr e) r = rw (hang-shadow n edge below c q qs e) (omega arith)
 
-    size-under : (k c : ℕ) → n ≤ c + k → length (visits (under n edge k c)) ≡ degree c + total degree (visits (under n edge k c))
+    size-under : (k c : ℕ) → n ≤ B .level c + k → length (visits (under n edge k c)) ≡ degree c + total degree (visits (under n edge k c))
     unfolding under visits total degree
-    size-under zero c l = omega (arith, none (parts n edge c) (λ q m. omega (arith, B .lower q c (parts-mem n edge B c m), B .piece q c (parts-mem n edge B c m))))
+    size-under zero c l = omega (arith, none (parts n edge c) (λ q m. omega (arith, B .lower q c (parts-mem n edge B c m), B .fits q (B .piece q c (parts-mem n edge B c m)))))
       where
         none : (qs : List ℕ) → ((q : ℕ) → q ∈ qs → ⊥) → length qs ≡ 0
         none [] h = refl

@@ -22,7 +22,7 @@ use Rattle.containment.specs.Parts.{shape, place, isShadow, shadowList}
 use Rattle.containment.specs.Index.{parenthesesOf, visitsOf}
 use Rattle.containment.specs.Contents.{Stored, Contents, leads, Apart, StandsFor, Balanced}
 use Rattle.containment.specs.Filling.{visited, Setting, FilledTo}
-use Rattle.containment.proofs.Numbers.{_∈_}
+use Rattle.lists.proofs.Numbers.{_∈_}
 use Rattle.containment.proofs.Nodes.{once}
 use Rattle.containment.proofs.Below.{piece, under-mem}
 use Rattle.containment.proofs.Contains.{node-at, place-small, place-only, shadow-at}
@@ -213,11 +213,11 @@ module _ (n nodes : ℕ) (parens marks shadows places : List ℕ) (S : Stored n 
     rows-hold rows F =
         record {
           inside = λ h g a b.
-              let f = F .from h (omega arith) (omega arith) .filled (F .own h a) .1 g (omega arith) in
+              let f = F .from h (omega arith) .filled (F .own h a) .1 g (omega arith) in
               let i = contains-lent n (S .edge) (S .book) parens marks shadows places nodes (S .shadowed) (S .room) (S .index) h g a b in
               (λ t. i .1 (f .0 t), λ t. f .1 (i .0 t));
           no-row = λ h g a b d. bare h g b d a (known (bitOf rows h h));
-          no-column = λ h g a b d. not-true (bitOf rows h g) (λ t. let l = small (F .from h (omega arith) (omega arith) .filled (F .own h a) .1 g d .0 t) a in omega arith);
+          no-column = λ h g a b d. not-true (bitOf rows h g) (λ t. let l = small (F .from h (omega arith) .filled (F .own h a) .1 g d .0 t) a in omega arith);
         }
       where
         small : {g h : ℕ} → Within (S .edge) g h → h < n → g < n
@@ -225,8 +225,8 @@ module _ (n nodes : ℕ) (parens marks shadows places : List ℕ) (S : Stored n 
         small (step {g = g} {c = c} e w) l = S .book .piece g c e
 
         bare : (h g : ℕ) → h < 2048 → g < 2048 → n ≤ h → Known (bitOf rows h h) → bitOf rows h g ≡ false
-        bare h g b d a (is-true t) = let l = F .from h (omega arith) b .filled t .0 in absurd (omega arith)
-        bare h g b d a (is-false t) = F .from h (omega arith) b .empty t g d
+        bare h g b d a (is-true t) = let l = F .from h b .filled t .0 in absurd (omega arith)
+        bare h g b d a (is-false t) = F .from h b .empty t g d
 
     pub table : Table n parens marks shadows places ends pieces₂
     unfolding setting

@@ -107,10 +107,10 @@ module _ {n : ℕ} {edge : ℕ → ℕ → Bool} {par : List ℕ} {lb lm ls lp :
 
   module _ {ps mks sh pl : List ℕ} {c from at k m : ℕ} (G : Walking n edge lb lm ls lp ps mks sh pl c from at k m) {p : ℕ} (N : Next n edge c from p) where
     its-parent : p < n → getD par p 0 ≡ parent n edge p
-    its-parent l = R .parents p (omega (arith, R .book .lower p c (N .hit l))) l
+    its-parent l = R .parents p (R .book .below p c (N .hit l)) l
 
-    node-next : p < n → getD par p 0 ≡ c → rest n edge c from ≡ enter (node p) ∷ rest n edge p (p + 1)
-    node-next l x = step-next n edge (R .book) c from p N ∙ rw (add-one p) (step-node n edge (R .book) c p l (G .inner) (N .hit l) (sym (its-parent l) ∙ x))
+    node-next : p < n → getD par p 0 ≡ c → rest n edge c from ≡ enter (node p) ∷ rest n edge p 1
+    node-next l x = step-next n edge (R .book) c from p N ∙ (step-node n edge (R .book) c p l (G .inner) (N .hit l) (sym (its-parent l) ∙ x))
 
     shadow-next : p < n → (getD par p 0 ≡ c → ⊥) → rest n edge c from ≡ enter (shadow p) ∷ leave ∷ rest n edge c (p + 1)
     shadow-next l x = step-next n edge (R .book) c from p N ∙ rw (add-one p) (step-shadow n edge (R .book) c p l (N .hit l) (λ y. x (its-parent l ∙ y)))
@@ -126,14 +126,14 @@ module _ {n : ℕ} {edge : ℕ → ℕ → Bool} {par : List ℕ} {lb lm ls lp :
         go (yes x) = sized (bit-room (P n edge) (U n edge) ps mks sh pl at k m _ (node p) (rw (node-next l x) at (G .state)))
         go (no x) = sized (bit-room (P n edge) (U n edge) ps mks sh pl at k m _ (shadow p) (rw (shadow-next l x) at (G .state)))
 
-    pub walk-less : p < n → getD par p 0 ≡ c → left n edge p (p + 1) < left n edge c from
+    pub walk-less : p < n → getD par p 0 ≡ c → left n edge p 1 < left n edge c from
     unfolding left
     walk-less l x = omega (arith, ap length (node-next l x))
 
     pub place-room : p < n → p < length pl
     place-room l = omega (arith, G .lenPlaces, R .placeRoom)
 
-    pub walk-node : p < n → getD par p 0 ≡ c → {ps′ : List ℕ} → Put ps ps′ at → Walking n edge lb lm ls lp ps′ mks sh (set pl p k) p (p + 1) (at + 1) (k + 1) m
+    pub walk-node : p < n → getD par p 0 ≡ c → {ps′ : List ℕ} → Put ps ps′ at → Walking n edge lb lm ls lp ps′ mks sh (set pl p k) p 1 (at + 1) (k + 1) m
     walk-node l x {ps′} w =
         record {
           inner = l;
@@ -143,7 +143,7 @@ module _ {n : ℕ} {edge : ℕ → ℕ → Bool} {par : List ℕ} {lb lm ls lp :
           lenShadows = G .lenShadows;
           lenPlaces = length-set pl p k ∙ G .lenPlaces;
           spare = λ q h. getD-set-other pl p q k 0 (λ y. omega arith) ∙ G .spare q h;
-          state = written-node (P n edge) (U n edge) ps mks sh pl at k m (rest n edge p (p + 1)) p ps′ (rw (node-next l x) at (G .state)) w (once n edge (R .book) p l) (place-room l);
+          state = written-node (P n edge) (U n edge) ps mks sh pl at k m (rest n edge p 1) p ps′ (rw (node-next l x) at (G .state)) w (once n edge (R .book) p l) (place-room l);
         }
 
     module _ (l : p < n) (x : getD par p 0 ≡ c → ⊥) where
@@ -196,7 +196,7 @@ module _ {n : ℕ} {edge : ℕ → ℕ → Bool} {par : List ℕ} {lb lm ls lp :
             inner = omega (
               arith,
               R .parents c (omega arith) (G .inner),
-              R .book .lower c (parent n edge c) (parent-edge n edge (R .book) c (omega arith) (G .inner)),
+              R .book .whole c (parent n edge c) (parent-edge n edge (R .book) c (omega arith) (G .inner)),
               G .inner,
             );
             upto = omega (arith, G .inner);

@@ -2,7 +2,7 @@
 use mathlib.Core.Bool.{Bool, not}
 use mathlib.Core.List.{List, [], _∷_, _++_}
 use Prim.Native.Nat.{ℕ, zero, suc, _-_}
-use Rattle.containment.specs.Numbers.{range, keep, find}
+use Rattle.lists.specs.Numbers.{range, keep, find}
 
 module _ (n : ℕ) (edge : ℕ → ℕ → Bool) where
   -- take c off the queue, and put those of its parts that no one has met yet at the queue's end; k bounds the steps

@@ -1,12 +1,12 @@
 -- The pairs as a bit matrix, which the builder is given: bit p of row c says that p is a part of c. Assumes nothing.
 use mathlib.Core.Path.{_≡_}
-use mathlib.Core.Bool.{Bool, true, _&&_}
+use mathlib.Core.Bool.{Bool, _&&_}
 use mathlib.Core.List.{List}
 use Prim.Native.Nat.{ℕ, _<_, _≤_}
 use lib.Dec.{ltb}
 use lib.ListN.{length}
 use Rattle.relation.specs.Matrix.{bitOf}
-use Rattle.containment.specs.Pairs.{joined}
+use Rattle.containment.specs.Pairs.{joined, Book}
 use Rattle.containment.specs.Index.{visitsOf, Room}
 
 -- the pairs whose part is one of the n pieces; bits from n on say nothing
@@ -18,7 +18,7 @@ pub record Buildable (n : ℕ) (m : List ℕ) (bytes markBytes shadowCount place
   pub some : 0 < n
   pub small : n ≤ 2048
   pub matrix : length m ≡ 65536
-  pub lower : (p c : ℕ) → pairOf n m p c ≡ true → c < p
+  pub book : Book n (joined n (pairOf n m))
   pub room : Room n (joined n (pairOf n m)) bytes markBytes shadowCount placeCount
   pub few : length (visitsOf n (joined n (pairOf n m))) ≤ 65536
 

@@ -6,7 +6,7 @@ use Prim.Native.Nat.{ℕ, _<_}
 use lib.Dec.{eqb, ltb}
 use lib.ListN.{length}
 use Rattle.lists.specs.Any.{anyBelow}
-use Rattle.containment.specs.Numbers.{range, keep, sum}
+use Rattle.lists.specs.Numbers.{range, keep, sum}
 
 -- each piece but 0 that is nobody's part is joined to 0
 unfoldable pub joined : ℕ → (ℕ → ℕ → Bool) → ℕ → ℕ → Bool
@@ -21,11 +21,15 @@ module _ (n : ℕ) (edge : ℕ → ℕ → Bool) where
   unfoldable pub pairs : ℕ
   pairs = sum (λ c. length (parts c)) (range 0 n)
 
--- what is asked of the pairs with the joins: containers are lower, parts are pieces, and each piece but 0 has a container
+-- what is asked of the pairs with the joins: levels rise from container to part, both are pieces, 0 is nobody's part, and each other piece has a container
 pub record Book (n : ℕ) (edge : ℕ → ℕ → Bool) : Type 0 where
   pub some : 0 < n
-  pub lower : (p c : ℕ) → edge p c ≡ true → c < p
+  pub level : ℕ → ℕ
+  pub lower : (p c : ℕ) → edge p c ≡ true → level c < level p
+  pub fits : (p : ℕ) → p < n → level p < n
   pub piece : (p c : ℕ) → edge p c ≡ true → p < n
+  pub whole : (p c : ℕ) → edge p c ≡ true → c < n
+  pub below : (p c : ℕ) → edge p c ≡ true → 0 < p
   pub held : (p : ℕ) → 0 < p → p < n → (c : ℕ) × (edge p c ≡ true)
 
 -- g lies within h: by a path of pairs from g up to h

@@ -5,7 +5,7 @@ use Prim.Native.Nat.{ℕ, suc, _+_, _*_}
 use lib.Dec.{eqb}
 use lib.ListN.{take, drop}
 use Rattle.lists.specs.Tab.{tab}
-use Rattle.parentheses.specs.Rank.{num}
+use Rattle.lists.specs.Tally.{num}
 use Rattle.parentheses.specs.Forest as on
 use Rattle.parentheses.specs.Forest.{enc}
 use Rattle.containment.specs.Tree.{Visit, node, shadow, Forest, end, tree}

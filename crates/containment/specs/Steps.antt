@@ -8,9 +8,9 @@ use lib.Dec.{eqb}
 use lib.ListN.{length, getD, take}
 use Rattle.lists.specs.Any.{anyBelow}
 use Rattle.parentheses.specs.Bits.{bits}
-use Rattle.parentheses.specs.Rank.{num}
+use Rattle.lists.specs.Tally.{num}
 use Rattle.relation.specs.Matrix.{bitOf}
-use Rattle.containment.specs.Numbers.{range, keep}
+use Rattle.lists.specs.Numbers.{range, keep}
 use Rattle.containment.specs.Pairs.{Book}
 use Rattle.containment.specs.Breadth.{parent}
 use Rattle.containment.specs.Parts.{place, marks, shadows}

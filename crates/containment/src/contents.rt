@@ -2,7 +2,7 @@
 ghost use mathlib.Core.Path.{_≡_};
 ghost use Prim.Native.Nat.{ℕ, _*_, _<_, _≤_};
 ghost use lib.ListN.{length, getD};
-ghost use Rattle.containment.specs.Filling.{Setting, Fillable, From, Filled, FilledTo, Ready};
+ghost use Rattle.containment.specs.Filling.{Setting, Fillable, From, All, Filled, FilledTo, Ready};
 ghost use Rattle.containment.specs.Contents.{Stored, Contents, leads, Apart, StandsFor, Balanced};
 ghost use Rattle.parentheses.specs.Subtree.{after};
 ghost use Rattle.parentheses.specs.Bits.{bits};
@@ -103,7 +103,7 @@ fn subtree_ends(nodes: usize, parens: &[u8], opened: &mut [u16], ends: &mut [u16
 // Fills the row of each piece below n.
 fn fill_all(n: usize, places: &[u16], ends: &[u16], pieces: &[u16], rows: &mut [u64])
     requires { ⌜ (length (now rows) ≡ 65536) × Ready n (now places) (now ends) (now pieces) (now rows) ⌝ }
-    ensures { λ _. ⌜ ((s : Setting (now (places .entry)) (now (ends .entry)) (now (pieces .entry))) → n ≡ s .n → From s (now (rows .entry)) 0 → FilledTo s (now (rows .exit)) n) ⌝ }
+    ensures { λ _. ⌜ ((s : Setting (now (places .entry)) (now (ends .entry)) (now (pieces .entry))) → n ≡ s .n → All s (now (rows .entry)) → FilledTo s (now (rows .exit)) n) ⌝ }
 {
     let mut h: usize = 0;
     while h < n {

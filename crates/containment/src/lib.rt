@@ -2,7 +2,7 @@
 pub mod contents;
 
 ghost use mathlib.Core.Path.{_≡_};
-ghost use Prim.Native.Nat.{ℕ, _+_, _-_, _*_, _<_, _≤_};
+ghost use Prim.Native.Nat.{ℕ, _+_, _-_, _<_, _≤_};
 ghost use lib.ListN.{length, getD, set, replicate};
 ghost use Rattle.containment.specs.Pairs.{joined};
 ghost use Rattle.containment.specs.Index.{Indexed};
@@ -186,7 +186,7 @@ fn walk(
                 at += 1;
                 k += 1;
                 c = p;
-                from = p + 1;
+                from = 1;
             } else {
                 parentheses::put(marks, k);
                 shadows[m] = narrow(p);

@@ -73,9 +73,6 @@ add-k c =
     let N = next-part _ _ (L .c) (L .from) _ (L .inv .0 .small) (omega (arith, L .inv .1 .upto, L .inv .0 .small)) (c .before .before .before .before .before .before .before .before .before .before .before .before .next-bit .ensures) in
     omega (arith, walk-room R (L .inv .1) N (omega arith) .2)
 
-add-from : tie.Need-add-from Inv-loop μ-loop
-add-from c = omega arith
-
 loop-less : tie.Need-loop-less Inv-loop μ-loop
 loop-less c =
     let L = c .before .before .before .before .before .before .before .before .before .before .before .before .before .loop in
@@ -135,8 +132,8 @@ add-m c =
     let N = next-part _ _ (L .c) (L .from) _ (L .inv .0 .small) (omega (arith, L .inv .1 .upto, L .inv .0 .small)) (c .before .before .before .before .before .before .before .before .before .before .before .before .before .next-bit .ensures) in
     omega (arith, mark-room R (L .inv .1) N (omega arith) (λ x. c .before .before .before .before .before .if2 .left (c .before .before .before .before .before .before .wide .ensures ∙ x)) .2)
 
-add-from-2 : tie.Need-add-from-2 Inv-loop μ-loop
-add-from-2 c = omega arith
+add-from : tie.Need-add-from Inv-loop μ-loop
+add-from c = omega arith
 
 loop-less-2 : tie.Need-loop-less-2 Inv-loop μ-loop
 loop-less-2 c =
@@ -178,8 +175,8 @@ add-at-3 c =
     let N = next-part _ _ (L .c) (L .from) _ (L .inv .0 .small) (omega (arith, L .inv .1 .upto, L .inv .0 .small)) (c .before .before .next-bit .ensures) in
     omega (arith, leave-room R (L .inv .1) N (omega arith) (c .if3 .left))
 
-add-from-3 : tie.Need-add-from-3 Inv-loop μ-loop
-add-from-3 c = let L = c .before .before .before .loop in omega (arith, L .inv .1 .inner, L .inv .0 .small)
+add-from-2 : tie.Need-add-from-2 Inv-loop μ-loop
+add-from-2 c = let L = c .before .before .before .loop in omega (arith, L .inv .1 .inner, L .inv .0 .small)
 
 mul-wide-2 : tie.Need-mul-wide-2 Inv-loop μ-loop
 mul-wide-2 c = let L = c .before .before .before .loop in omega (arith, L .inv .1 .inner, L .inv .0 .small)
@@ -221,7 +218,6 @@ walk-spec =
     set-place-requires-2
     add-at
     add-k
-    add-from
     loop-less
     loop-again
     put-requires-3
@@ -231,7 +227,7 @@ walk-spec =
     add-at-2
     add-k-2
     add-m
-    add-from-2
+    add-from
     loop-less-2
     loop-again-2
     same-length
@@ -240,7 +236,7 @@ walk-spec =
     same-length-4
     returns
     add-at-3
-    add-from-3
+    add-from-2
     mul-wide-2
     shared-slice-read-wide-2
     wide-requires-2

@@ -2,10 +2,10 @@ use borrow.Author.Needs.{needs}
 use native.Mathlib.Omega.{arith}
 use mathlib.Core.List.{List, _∷_}
 use mathlib.Core.Path.{_≡_, refl, sym, _∙_}
-use Prim.Native.Nat.{ℕ, _<_, _≤_, _-_, _+_, _*_}
-use lib.ListN.{length, getD}
+use Prim.Native.Nat.{ℕ, _<_, _-_, _+_}
+use lib.ListN.{length}
 use Rattle.containment.specs.Filling.{Setting, From}
-use Rattle.containment.proofs.Rows.{Started, started, Walking, Part, place-small-at, begin, uncover, above, small, from-it, more, done}
+use Rattle.containment.proofs.Rows.{Started, started, Walking, Part, place-small-at, begin, uncover, small, from-it, more, done, unfilled, fewer}
 use borrow.Fn.Kinds.{In}
 use borrow.Fn.PlainCycle.{Measures, is, falls, and}
 use Rattle.containment.proofs.contents.fill.Reads as fill
@@ -21,7 +21,7 @@ use Rattle.containment.proofs.contents.+fill.{statement}
 use Rattle.containment.proofs.contents.+fill.Tie.{close}
 
 abbrev μ-fill : Measures 4 fill-kinds.ps ℕ
-μ-fill κs a = 2048 - a .1 .1 .1 .1 .0 .0
+μ-fill κs a = unfilled (a .1 .1 .1 .0 .now)
 
 abbrev fill-at : ℕ → In 4 fill-kinds.ps
 fill-at t = and 4 fill-kinds.ps (is 4 fill-kinds.ps μ-fill t) fill.Pre
@@ -97,7 +97,7 @@ module _ (t : ℕ) where
   same-length c = refl
 
   returns : fill-lts.Need-returns (calls t) (fill-at t) fill.Post Inv μ
-  returns c = λ s F l. record { own = sym (c .before .test .ensures) ∙ c .if1 .taken; from = F; kept = λ r j a b. refl }
+  returns c = λ s F l. record { own = sym (c .before .test .ensures) ∙ c .if1 .taken; from = F; kept = λ r j a b. refl; grown = λ r d i. i }
 
   insert-requires : fill-lts.Need-insert-requires (calls t) (fill-at t) fill.Post Inv μ
   insert-requires c κs = let e = c .before .before .before .before .before .before .before .before in (e .pre .1 .0, in-rows e, in-rows e)
@@ -133,7 +133,7 @@ module _ (t : ℕ) where
       let w = walk l in
       let b = o .loop-test .taken in
       let is = c .before .piece-at .ensures in (
-        omega (arith, above _ _ _ w b is, small _ _ _ w b is, setting e .few, e .pre .0),
+        omega (arith, fewer _ _ _ w (e .args .rows .now) (sym (set-at l .before .before .before .test .ensures) ∙ set-at l .before .before .if1 .left) (set-at l .insert .ensures), e .pre .0),
         (l .loop .inv .0, record { setting = setting e; below = small _ _ _ w b is; from = from-it _ _ _ w b is }),
       )
 

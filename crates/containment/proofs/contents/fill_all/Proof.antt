@@ -3,13 +3,13 @@ use native.Mathlib.Omega.{arith}
 use mathlib.Core.Path.{_≡_, refl}
 use Prim.Native.Nat.{_≤_, _<_, _-_}
 use lib.ListN.{length}
-use Rattle.containment.specs.Filling.{Setting, From, FilledTo}
+use Rattle.containment.specs.Filling.{Setting, All, FilledTo}
 use Rattle.containment.proofs.Rows.{filled-none, filled-more}
 use Rattle.containment.proofs.contents.fill_all.Statement.{statement}
 use Rattle.containment.proofs.contents.fill_all.Tie as tie
 
 abbrev Inv-loop : tie.InvT-loop
-Inv-loop n places ends pieces rows₀ h₀ rows h = (h ≤ n) × (length rows ≡ length rows₀) × ((s : Setting places ends pieces) → n ≡ s .n → From s rows₀ 0 → FilledTo s rows h)
+Inv-loop n places ends pieces rows₀ h₀ rows h = (h ≤ n) × (length rows ≡ length rows₀) × ((s : Setting places ends pieces) → n ≡ s .n → All s rows₀ → FilledTo s rows h)
 
 abbrev μ-loop : tie.MeasureT-loop
 μ-loop n places ends pieces rows₀ h₀ rows h = n - h
@@ -23,7 +23,7 @@ fill-requires c κs =
     let A = c .before .before .before .before .before .before .before in
     let s = A .pre .1 .setting in
     let T = L .inv .2 s (A .pre .1 .count) (A .pre .1 .from) in
-    (omega arith, record { setting = s; below = omega (arith, A .pre .1 .count); from = λ r a d. T .from r (omega arith) d })
+    (omega arith, record { setting = s; below = omega (arith, A .pre .1 .count); from = λ r a d. T .from r d })
 
 add-h : tie.Need-add-h Inv-loop μ-loop
 add-h c = search needs
@@ -39,7 +39,7 @@ loop-again c =
       λ s e F.
           let T = L .inv .2 s e F in
           let l : L .h < s .n = omega arith in
-          filled-more s _ _ _ l T (c .before .before .fill .ensures s (λ r a d. T .from r (omega arith) d) l),
+          filled-more s _ _ _ l T (c .before .before .fill .ensures s (λ r a d. T .from r d) l),
     )
 
 same-length : tie.Need-same-length Inv-loop μ-loop

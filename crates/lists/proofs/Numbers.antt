@@ -6,12 +6,12 @@ use mathlib.Core.List.{List, [], _∷_, List·Memᴰ, List·Memᴰ·head as here
 use Prim.Native.Nat.{ℕ, zero, suc, _+_, _≤_, _<_}
 use native.Mathlib.Omega.{arith}
 use native.Mathlib.Nat.{eq-or-lt-of-le}
 use Rattle.lists.specs.Tab.{tab}
 use lib.Dec.{ltb}
 use borrow.Author.Tests.{ltb-true, ltb-false, lt-ltb, le-ltb}
 use lib.ListN.{length}
 use Rattle.lists.proofs.Tabs.{tab-length}
-use Rattle.containment.specs.Numbers.{range, keep, find}
+use Rattle.lists.specs.Numbers.{range, keep, find}
 
 infix 40 _∈_
 abbrev pub _∈_ : {A : Type 0} → A → List A → Type 0
