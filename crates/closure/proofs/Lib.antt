@@ -10,3 +10,5 @@ pub mod Steps
 pub mod Halving
 pub mod Accepting
 pub mod Orders
+pub mod FactIndex
+pub mod Loads

@@ -7,3 +7,5 @@ pub mod Opened
 pub mod Tells
 pub mod Answers
 pub mod Order
+pub mod PartIn
+pub mod Loaded

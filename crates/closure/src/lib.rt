@@ -8,9 +8,9 @@ ghost use Rattle.rules.specs.Fact.{AllWithin};
 ghost use Rattle.rules.specs.Follows.{clash};
 ghost use Rattle.rules.specs.Entries.{shortestClash};
 ghost use Rattle.records.specs.Facts.{entries, facts};
-ghost use Rattle.containment.specs.Pairs.{joined};
-ghost use Rattle.containment.specs.Index.{Indexed};
-ghost use Rattle.containment.specs.Stored.{partIn};
+ghost use Rattle.index.specs.Pairs.{joined};
+ghost use Rattle.index.specs.Index.{Indexed};
+ghost use Rattle.closure.specs.PartIn.{partIn};
 ghost use Rattle.closure.specs.Stored.{storedBit, meetBit, edgeBit};
 ghost use Rattle.closure.specs.Closed.{Grown, Holds, partBit, wholeBit, towardBit, awayBit, outBit};
 ghost use Rattle.closure.specs.Bounded.{Bounded};
@@ -272,12 +272,12 @@ pub fn index_of(
     marks: &mut [u8],
     shadows: &mut [u16],
     places: &mut [u16],
-) -> containment::Counts
+) -> index::Counts
     requires { ⌜ Bounded n (facts (now run)) × Ordered (facts (now run)) × Roomy n (length (now run) / 6) (length (now parens)) (length (now marks)) (length (now shadows)) (length (now places)) × (length (now x) ≡ 65536) ⌝ }
     ensures { λ r. ⌜ Indexed n (joined n (partIn (facts (now (run .entry))))) (now (parens .exit)) (now (marks .exit)) (now (shadows .exit)) (now (places .exit)) (r .nodes) (r .shadows) ⌝ }
 {
     store(run, 1, false, true, x);
-    containment::build(n, x, parens, marks, shadows, places)
+    index::build(n, x, parens, marks, shadows, places)
 }
 
 // The same, and D read off the index.
@@ -290,13 +290,13 @@ pub fn contained(
     shadows: &mut [u16],
     places: &mut [u16],
     d: &mut [u64],
-) -> containment::Counts
+) -> index::Counts
     requires { ⌜ Bounded n (facts (now run)) × Ordered (facts (now run)) × Roomy n (length (now run) / 6) (length (now parens)) (length (now marks)) (length (now shadows)) (length (now places)) × (length (now x) ≡ 65536) × (length (now d) ≡ 65536) ⌝ }
     ensures { λ r. ⌜ Indexed n (joined n (partIn (facts (now (run .entry))))) (now (parens .exit)) (now (marks .exit)) (now (shadows .exit)) (now (places .exit)) (r .nodes) (r .shadows) × Holds (now (d .exit)) (partBit n (facts (now (run .entry)))) ⌝ }
 {
     let counts = index_of(run, n, x, parens, marks, shadows, places);
     let nodes = counts.nodes;
-    containment::contents::contents(n, nodes, parens, marks, shadows, places, d);
+    containment::contents(n, nodes, parens, marks, shadows, places, d);
     counts
 }
 

@@ -8,20 +8,20 @@ use native.Mathlib.Omega.{arith}
 use native.Mathlib.Nat.{zero-add}
 use native.Mathlib.Numerals.{one-add}
 use lib.ListN.{length, getD, length-append, length-map, List·getD-map, List·getD-append}
-use lib.Seq.{getD-append-add, getD-append-seam}
-use borrow.Author.Tests.{eq-eqb}
-use Rattle.containment.specs.Tree.{Visit, node, shadow, under, whole, visits}
-use Rattle.containment.specs.Parts.{parens, isNode, isShadow, place, marks, shadows, shadowList}
-use Rattle.lists.proofs.Numbers.{_∈_, which}
+use lib.Seq.{getD-append-add}
+use Rattle.index.specs.Tree.{Visit, node, shadow, under, whole, visits}
+use Rattle.index.specs.Parts.{parens, isShadow, place, marks, shadows, shadowList}
+use Rattle.lists.proofs.Numbers.{_∈_}
 use Rattle.parentheses.specs.Rank.{rank}
 use Rattle.parentheses.specs.Subtree.{after}
 use Rattle.parentheses.proofs.Ranks.{rank-zero}
 use Rattle.parentheses.proofs.Trees.{rank-cons}
-use Rattle.containment.specs.Pairs.{Book, Within, self, step}
-use Rattle.containment.proofs.Nodes.{times, once}
-use Rattle.containment.proofs.Below.{piece, within-trans, within-le, Seen, under-mem, part-seen, node-part-seen}
+use Rattle.index.specs.Pairs.{Book, Within, self, step}
+use Rattle.index.proofs.Nodes.{once}
+use Rattle.index.proofs.Below.{piece, within-trans, within-le, Seen, under-mem, part-seen, node-part-seen}
 use Rattle.containment.specs.Inside.{Inside, below, through}
-use Rattle.containment.proofs.Places.{Stand, stand, stand-place, stand-after}
+use Rattle.index.proofs.Places.{Stand, stand, stand-place, stand-after}
+use Rattle.index.proofs.Standing.{place-only, node-at}
 
 -- ## Lists of visits
 
@@ -52,23 +52,6 @@ shadow-at f (shadow p ∷ vs) Y zs zero h e = let q : p ≡ h = cc in rw (rank-z
 shadow-at f (node p ∷ vs) Y zs (suc s) h e = rw (rank-cons false (marks vs ++ Y) s, zero-add (rank (marks vs ++ Y) s)) (shadow-at f vs Y zs s h e)
 shadow-at f (shadow p ∷ vs) Y zs (suc s) h e = rw (rank-cons true (marks vs ++ Y) s, one-add (rank (marks vs ++ Y) s)) (shadow-at f vs Y zs s h e)
 
--- where a node stands is its place, if it stands once
-times-at : (g : ℕ) (vs : List Visit) (s : ℕ) → s < length vs → at vs s ≡ node g → 1 ≤ times g vs
-unfolding times isNode
-times-at g [] s l e = absurd (omega arith)
-times-at g (v ∷ vs) zero l e = rw (e, eq-eqb g g refl) (omega arith)
-times-at g (v ∷ vs) (suc s) l e = omega (arith, times-at g vs s (omega arith) e)
-
-pub place-only : (g : ℕ) (vs : List Visit) (s : ℕ) → times g vs ≡ 1 → s < length vs → at vs s ≡ node g → place vs g ≡ s
-unfolding times isNode place
-place-only g [] s t l e = absurd (omega arith)
-place-only g (v ∷ vs) zero t l e = rw (e, eq-eqb g g refl, place)
-place-only g (v ∷ vs) (suc s) t l e = go (which (isNode g v)) (λ (u : times g vs ≡ 1). place-only g vs s u (omega arith) e)
-  where
-    go : (isNode g v ≡ true) ⊎ (isNode g v ≡ false) → (times g vs ≡ 1 → place vs g ≡ s) → place (v ∷ vs) g ≡ suc s
-    go (inl w) r = absurd (omega (arith, rw w at t, times-at g vs s (omega arith) e))
-    go (inr w) r = rw (w, place) (ap suc (r (omega (arith, rw w at t))))
-
 shadow-of : (v : Visit) → isShadow v ≡ true → (h : ℕ) × (v ≡ shadow h)
 unfolding isShadow
 shadow-of (node p) e = absurd (true≢false (sym e))
@@ -81,15 +64,6 @@ module _ (n : ℕ) (edge : ℕ → ℕ → Bool) where
   W = visits (whole n edge)
 
   module _ (B : Book n edge) where
-    pub node-at : (g : ℕ) → g < n → at W (place W g) ≡ node g
-    node-at g l = let S = stand n edge B g l in
-        rw (stand-place n edge B g l S) (ap (λ (vs : List Visit). at vs (length (S .before))) (S .visited)
-        ∙ getD-append-seam (S .before) (node g) (visits (under n edge (S .deep) g) ++ S .beyond) (node 0))
-
-    pub place-small : (g : ℕ) → g < n → place W g < length W
-    place-small g l = let S = stand n edge B g l in
-        omega (arith, stand-place n edge B g l S, ap length (S .visited), length-append (S .before) (node g ∷ (visits (under n edge (S .deep) g) ++ S .beyond)))
-
     -- whatever stands after the parts of the index, as the zeros of lent parts do
     module _ (Z Y : List Bool) (zs : List ℕ) where
       abbrev P : List Bool
@@ -177,7 +151,7 @@ module _ (n : ℕ) (edge : ℕ → ℕ → Bool) where
       inside-within : {p q : ℕ} → InIndex p q → (h g : ℕ) → h < n → g < n → p ≡ place W h → q ≡ place W g → Within edge g h
       inside-within (below a b) h g lh lg eh eg =
           let S = stand n edge B h lh in
-          tree-within (S .deep) h g (Memᴰ·cast (sym (node-at g lg)) (range-tree h lh S (place W g) (omega arith) (rw (eh, eg) at b)))
+          tree-within (S .deep) h g (Memᴰ·cast (sym (node-at n edge B g lg)) (range-tree h lh S (place W g) (omega arith) (rw (eh, eg) at b)))
       inside-within (through s a b m i) h g lh lg eh eg =
           let t = target h lh s (omega arith) (rw eh at b) m in
           within-trans (inside-within i (t .0) g (t .1) lg (t .4) eg) (t .2)
@@ -210,7 +184,7 @@ module _ (n : ℕ) (edge : ℕ → ℕ → Bool) where
 
       inside-part : {p q : ℕ} → InIndex p q → (h c g : ℕ) → h < n → c < n → g < n → edge g c ≡ true → p ≡ place W h → q ≡ place W c → InIndex p (place W g)
       inside-part (below a b) h c g lh lc lg e eh ec =
-          rw eh (split (List·Memᴰ·cases-cons (Memᴰ·cast (sym (node-at c lc)) (range-tree h lh S (place W c) (omega arith) (rw (eh, ec) at b)))))
+          rw eh (split (List·Memᴰ·cases-cons (Memᴰ·cast (sym (node-at n edge B c lc)) (range-tree h lh S (place W c) (omega arith) (rw (eh, ec) at b)))))
         where
           S : Stand n edge (B .level) h
           S = stand n edge B h lh

@@ -10,14 +10,14 @@ use Rattle.lists.proofs.Tabs.{tab-at}
 use Rattle.parentheses.specs.Bits.{bits}
 use Rattle.parentheses.specs.Padded.{padded}
 use Rattle.parentheses.specs.Subtree.{after}
-use Rattle.containment.specs.Pairs.{Book, Within}
-use Rattle.containment.specs.Tree.{whole, visits, under}
-use Rattle.containment.specs.Parts as on
-use Rattle.containment.specs.Parts.{place, placeList, shadowList}
-use Rattle.containment.specs.Index.{parenthesesOf, visitsOf, Room, Indexed}
+use Rattle.index.specs.Pairs.{Book, Within}
+use Rattle.index.specs.Tree.{whole, visits, under}
+use Rattle.index.specs.Parts as on
+use Rattle.index.specs.Parts.{place, placeList, shadowList}
+use Rattle.index.specs.Index.{parenthesesOf, visitsOf, Room, Indexed}
 use Rattle.containment.specs.Inside.{Inside}
-use Rattle.containment.proofs.Packing.{packed-is, padded-at}
-use Rattle.containment.proofs.Places.{stand, stand-after}
+use Rattle.index.proofs.Packing.{packed-is, padded-at}
+use Rattle.index.proofs.Places.{stand, stand-after}
 use Rattle.containment.proofs.Contains.{contains}
 
 module _

@@ -12,19 +12,19 @@ use lib.ListN.{length, getD, replicate, length-append}
 use Rattle.lists.proofs.Bools.{or-either, left-or, right-or}
 use Rattle.relation.proofs.Cleared.{cleared}
 use Rattle.relation.specs.Matrix.{bitOf, Inserted, United}
-use Rattle.containment.specs.Pairs.{parts, Within, self, step}
-use Rattle.containment.specs.Breadth.{parent}
-use Rattle.containment.specs.Tree.{Visit, node, shadow, Forest, tree, hang, under, whole, visits}
-use Rattle.containment.specs.Parts as on
-use Rattle.containment.specs.Parts.{place}
+use Rattle.index.specs.Pairs.{parts, Within, self, step}
+use Rattle.index.specs.Breadth.{parent}
+use Rattle.index.specs.Tree.{Visit, node, shadow, Forest, tree, hang, under, whole, visits}
+use Rattle.index.specs.Parts as on
+use Rattle.index.specs.Parts.{place}
 use Rattle.lists.specs.Tally.{tally}
 use Rattle.lists.proofs.Tallies.{tally-more}
 use Rattle.containment.specs.Filling.{visited, Setting, Row, From, All, Filled, FilledTo}
 use Rattle.lists.proofs.Numbers.{_∈_, which}
-use Rattle.containment.proofs.Nodes.{hang-node, hang-shadow, parts-mem, mem-parts}
-use Rattle.containment.proofs.Below.{within-trans}
-use Rattle.containment.proofs.Places.{Stand, stand, stand-after}
-use Rattle.containment.proofs.Contains.{place-small}
+use Rattle.index.proofs.Nodes.{hang-node, hang-shadow, parts-mem, mem-parts}
+use Rattle.index.proofs.Below.{within-trans}
+use Rattle.index.proofs.Places.{Stand, stand, stand-after}
+use Rattle.index.proofs.Standing.{place-small}
 use Rattle.containment.proofs.Siblings.{Stands, visit-at, in-visits, ends-at, next, hangs}
 
 -- ---- paths

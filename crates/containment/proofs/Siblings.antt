@@ -10,11 +10,11 @@ use Rattle.parentheses.specs.Forest.{enc}
 use Rattle.parentheses.specs.Subtree.{after}
 use Rattle.parentheses.proofs.Ranks.{rank-zero}
 use Rattle.parentheses.proofs.Trees.{rank-cons, ones, ones-append}
-use Rattle.containment.specs.Pairs.{Book}
-use Rattle.containment.specs.Tree.{Visit, node, Forest, tree, under, whole, visits}
-use Rattle.containment.specs.Parts.{shape, parens, place}
-use Rattle.containment.proofs.Ranges.{ones-parens, after-at}
-use Rattle.containment.proofs.Places.{Stand, stand-place}
+use Rattle.index.specs.Pairs.{Book}
+use Rattle.index.specs.Tree.{Visit, node, Forest, tree, under, whole, visits}
+use Rattle.index.specs.Parts.{shape, parens, place}
+use Rattle.index.proofs.Ranges.{ones-parens, after-at}
+use Rattle.index.proofs.Places.{Stand, stand-place}
 
 -- from place q on stand the trees f, and then a parenthesis closes
 pub record Stands (bs : List Bool) (vs : List Visit) (q : ℕ) (f : Forest) : Type 0 where

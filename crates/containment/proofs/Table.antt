@@ -15,19 +15,20 @@ use Rattle.parentheses.specs.Subtree.{after}
 use Rattle.parentheses.proofs.Ranks.{rank-zero}
 use Rattle.parentheses.proofs.Trees.{rank-cons, rank-front, Dyck, dyck-enc}
 use Rattle.relation.specs.Matrix.{bitOf}
-use Rattle.containment.specs.Pairs.{Within, self, step}
-use Rattle.containment.specs.Tree.{Visit, node, shadow, under, whole, visits}
-use Rattle.containment.specs.Parts as on
-use Rattle.containment.specs.Parts.{shape, place, isShadow, shadowList}
-use Rattle.containment.specs.Index.{parenthesesOf, visitsOf}
+use Rattle.index.specs.Pairs.{Within, self, step}
+use Rattle.index.specs.Tree.{Visit, node, shadow, under, whole, visits}
+use Rattle.index.specs.Parts as on
+use Rattle.index.specs.Parts.{shape, place, isShadow, shadowList}
+use Rattle.index.specs.Index.{parenthesesOf, visitsOf}
 use Rattle.containment.specs.Contents.{Stored, Contents, leads, Apart, StandsFor, Balanced}
 use Rattle.containment.specs.Filling.{visited, Setting, FilledTo}
 use Rattle.lists.proofs.Numbers.{_∈_}
-use Rattle.containment.proofs.Nodes.{once}
-use Rattle.containment.proofs.Below.{piece, under-mem}
-use Rattle.containment.proofs.Contains.{node-at, place-small, place-only, shadow-at}
+use Rattle.index.proofs.Nodes.{once}
+use Rattle.index.proofs.Below.{piece, under-mem}
+use Rattle.index.proofs.Standing.{node-at, place-small, place-only}
+use Rattle.containment.proofs.Contains.{shadow-at}
 use Rattle.containment.proofs.Lent.{parens-bits, marks-bits, placed, contains-lent}
-use Rattle.containment.proofs.Ranges.{parens-length, ones-parens}
+use Rattle.index.proofs.Ranges.{parens-length, ones-parens}
 use Rattle.containment.proofs.Pieces.{leads-node, leads-shadow}
 
 -- a shadow has its number in the list of shadows

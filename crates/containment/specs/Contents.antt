@@ -8,8 +8,8 @@ use lib.ListN.{length, getD}
 use Rattle.parentheses.specs.Bits.{bits}
 use Rattle.parentheses.specs.Rank.{rank}
 use Rattle.relation.specs.Matrix.{bitOf}
-use Rattle.containment.specs.Pairs.{Book}
-use Rattle.containment.specs.Index.{Room, Indexed}
+use Rattle.index.specs.Pairs.{Book}
+use Rattle.index.specs.Index.{Room, Indexed}
 use Rattle.containment.specs.Inside.{Inside}
 
 -- the parts hold the index of some pairs

@@ -8,10 +8,10 @@ use Prim.Native.Nat.{ℕ, _≤_, _<_}
 use lib.ListN.{length, getD}
 use Rattle.parentheses.specs.Subtree.{after}
 use Rattle.relation.specs.Matrix.{bitOf}
-use Rattle.containment.specs.Pairs.{Book, Within}
-use Rattle.containment.specs.Tree.{Visit, node, shadow, whole, visits}
-use Rattle.containment.specs.Parts as on
-use Rattle.containment.specs.Parts.{place}
+use Rattle.index.specs.Pairs.{Book, Within}
+use Rattle.index.specs.Tree.{Visit, node, shadow, whole, visits}
+use Rattle.index.specs.Parts as on
+use Rattle.index.specs.Parts.{place}
 
 -- the piece that is visited, or for which the shadow that is visited stands
 unfoldable pub visited : Visit → ℕ

@@ -16,9 +16,9 @@ use Rattle.records.specs.Facts.{entries, facts}
 use Rattle.records.proofs.Runs.{entries-length}
 use Rattle.records.proofs.Accepted.{AcceptedBook, accepted, accepted-within, accepted-order, accepted-positive, accepted-pieces}
 use Rattle.records.specs.declared.Refusal.the-variants.{Contradiction}
-use Rattle.containment.specs.Index.{Indexed, visitsOf, parenthesesOf}
+use Rattle.index.specs.Index.{Indexed, visitsOf, parenthesesOf}
 use Rattle.parentheses.specs.Padded.{padded}
-use Rattle.containment.specs.Parts as on
+use Rattle.index.specs.Parts as on
 use Rattle.closure.specs.Bounded.{Bounded}
 use Rattle.closure.specs.Ordered.{Ordered, Roomy}
 use Rattle.piecebook.specs.Lent.{Lent, lent, front}

@@ -18,8 +18,8 @@ use Rattle.closure.specs.Stored.{edgeBit}
 use Rattle.closure.specs.Closed.{Holds, Closed, partBit, towardBit}
 use Rattle.piecebook.specs.Lent.{Lent}
 use Rattle.parentheses.specs.Padded.{padded}
-use Rattle.containment.specs.Index.{visitsOf}
-use Rattle.containment.specs.Parts as on
+use Rattle.index.specs.Index.{visitsOf}
+use Rattle.index.specs.Parts as on
 use Rattle.piecebook.specs.Call.{edges, claimed, byRuns, left}
 use Rattle.piecebook.specs.declared.Outcome.{Outcome}
 use Rattle.piecebook.specs.declared.Outcome.the-variants.{Accepted, Refused}
