@@ -1,13 +1,16 @@
 // What each piece contains, read off the index: bit g of row h of a matrix for "g lies within h".
 ghost use mathlib.Core.Path.{_≡_};
-ghost use Prim.Native.Nat.{ℕ, _*_, _<_, _≤_};
+ghost use mathlib.Core.Bool.{true, false, not};
+ghost use Prim.Native.Nat.{ℕ, _+_, _*_, _<_, _≤_};
 ghost use lib.ListN.{length, getD};
 ghost use Rattle.containment.specs.Filling.{Setting, Fillable, From, All, Filled, FilledTo, Ready};
-ghost use Rattle.containment.specs.Contents.{Stored, Contents, leads, Apart, StandsFor, Balanced};
+ghost use Rattle.containment.specs.Contents.{Stored, Contents, leads, Apart, StandsFor};
+ghost use Rattle.parentheses.specs.Rank.{rank};
 ghost use Rattle.parentheses.specs.Subtree.{after};
 ghost use Rattle.parentheses.specs.Bits.{bits};
 use index::DatasetId;
 use index::TreeId;
+use parentheses::Found;
 
 // The piece at a place, by the place list turned round.
 fn piece_at(pieces: &[u16], q: TreeId) -> DatasetId
@@ -76,26 +79,49 @@ fn number_shadows(nodes: usize, marks: &[u8], shadows: &[u16], pieces: &mut [u16
     }
 }
 
-// Of each place, the first one past its subtree: at each closing parenthesis, of the node that was opened last.
-fn subtree_ends(nodes: usize, parens: &[u8], opened: &mut [u16], ends: &mut [u16])
-    requires { ⌜ (nodes ≤ length (now opened)) × (nodes ≤ length (now ends)) × (nodes < 65536) × (2 * nodes ≤ 8 * length (now parens)) × Balanced nodes (bits (now parens)) ⌝ }
+// Whether the node that opens at p is a leaf, as every shadow is: no node opens next.
+fn is_leaf(parens: &[u8], p: usize) -> bool
+    requires { ⌜ (p < 8 * length (now parens)) × (8 * length (now parens) < 65536) ⌝ }
+    ensures { λ b. ⌜ b ≡ not (getD (bits (now (parens .entry))) (p + 1) false) ⌝ }
+{
+    let next = p + 1;
+    if next == parens.len() * 8 {
+        return true;
+    }
+    !parentheses::get(parens, next)
+}
+
+// The first place past the subtree of the node at place q, which opens at p. From there to where it closes, every second bit opens.
+fn end_of(parens: &[u8], q: TreeId, p: usize) -> TreeId
+    requires { ⌜ (p < 8 * length (now parens)) × (8 * length (now parens) < 65536) × (getD (bits (now parens)) p false ≡ true) × (rank (bits (now parens)) p ≡ q .0) ⌝ }
+    ensures { λ r. ⌜ r .0 ≡ after (bits (now (parens .entry))) (q .0) ⌝ }
+{
+    let place = q.0;
+    if is_leaf(parens, p) {
+        return TreeId(place + 1);
+    }
+    let Found::At(close) = parentheses::find_close(parens, p) else {
+        return TreeId(parentheses::ones_before(parens, parens.len() * 8));
+    };
+    TreeId(place + (close - p + 1) / 2)
+}
+
+// Of each place, the first one past its subtree.
+fn subtree_ends(nodes: usize, parens: &[u8], ends: &mut [u16])
+    requires { ⌜ (nodes ≤ length (now ends)) × (8 * length (now parens) < 65536) × (nodes ≤ rank (bits (now parens)) (8 * length (now parens))) ⌝ }
     ensures { λ _. ⌜ ((q : ℕ) → q < nodes → getD (now (ends .exit)) q 0 ≡ after (bits (now (parens .entry))) q) ⌝ }
 {
-    let end = 2 * nodes;
-    let mut depth: usize = 0;
     let mut q: usize = 0;
     let mut p: usize = 0;
-    while p < end {
-        if parentheses::get(parens, p) {
-            opened[depth] = index::narrow(q);
-            depth += 1;
-            q += 1;
+    while q < nodes {
+        if !parentheses::get(parens, p) {
             p += 1;
             continue;
         }
-        depth -= 1;
-        let last = index::wide(opened[depth]);
-        ends[last] = index::narrow(q);
+        let end = end_of(parens, TreeId(q), p);
+        let k = end.0;
+        ends[q] = index::narrow(k);
+        q += 1;
         p += 1;
     }
 }
@@ -126,10 +152,10 @@ pub fn contents(
     requires { ⌜ (n ≤ 2048) × (nodes ≤ 18432) × (length (now rows) ≡ 65536) × Stored n nodes (now parens) (now marks) (now shadows) (now places) ⌝ }
     ensures { λ _. ⌜ Contents n (now (parens .entry)) (now (marks .entry)) (now (shadows .entry)) (now (places .entry)) (now (rows .exit)) ⌝ }
 {
-    let mut opened = [0u16; 18432];
     let mut ends = [0u16; 18432];
     let mut pieces = [0u16; 18432];
-    subtree_ends(nodes, parens, &mut opened, &mut ends);
+    let bytes = (nodes + 3) / 4;
+    subtree_ends(nodes, &parens[..bytes], &mut ends);
     number_nodes(n, places, &mut pieces);
     number_shadows(nodes, marks, shadows, &mut pieces);
     relation::clear(rows);

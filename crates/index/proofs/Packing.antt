@@ -10,7 +10,7 @@ use lib.Dec.{eqb}
 use lib.ListN.{length, getD, take, drop, replicate, getD-replicate, length-take, List·getD-append, List·getD-eq-default}
 use lib.Pow.{shr-shr, pow-mono}
 use lib.Seq.{ext-getD, getD-take, getD-drop, getD-append-add}
-use Rattle.lists.proofs.Tabs.{tab-at, tab-length}
+use Rattle.lists.proofs.Tabs.{tab-at, tab-length, take-tab}
 use Rattle.parentheses.specs.Bits.{bits, bitOf, digit}
 use Rattle.lists.specs.Tally.{num}
 use Rattle.parentheses.specs.Padded.{padded}
@@ -99,6 +99,11 @@ module _ (len : ℕ) (bs : List Bool) where
         e,
       )
       (one-is (getD bs k false))
+
+  -- fewer bytes
+  pub packed-cut : (k : ℕ) → k ≤ len → take k (packed len bs) ≡ packed k bs
+  unfolding packed
+  packed-cut k l = take-tab (λ j. value (take 8 (drop (8 * j) bs))) 0 len k l
 
   -- the bits of packed bytes: the bits, and zeros
   pub packed-is : length bs ≤ 8 * len → bits (packed len bs) ≡ padded false (8 * len) bs

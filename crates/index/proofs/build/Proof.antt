@@ -1,4 +1,4 @@
--- `containment::build` meets its contract.
+-- `index::build` meets its contract.
 -- Assumes nothing.
 use Rattle.index.proofs.Buildings.{sized, walkable, indexed}
 use borrow.Author.Needs.{needs}

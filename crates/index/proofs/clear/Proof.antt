@@ -1,4 +1,4 @@
--- `containment::clear` meets its contract: what is before `done` is 0, and the rest is as it was.
+-- `index::clear` meets its contract: what is before `done` is 0, and the rest is as it was.
 -- Assumes nothing.
 use mathlib.Core.Path.{_≡_, refl, _∙_}
 use mathlib.Core.List.{_++_, append-nil}

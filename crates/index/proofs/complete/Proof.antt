@@ -1,4 +1,4 @@
--- `containment::complete` meets its contract.
+-- `index::complete` meets its contract.
 -- Assumes nothing.
 use mathlib.Core.Path.{refl}
 use Rattle.index.proofs.Walking.{cleared}

@@ -1,4 +1,4 @@
--- `containment::fill` meets its contract.
+-- `index::fill` meets its contract.
 -- Assumes nothing.
 use mathlib.Core.Path.{_∙_}
 use native.Mathlib.Omega.{arith}

@@ -1,4 +1,4 @@
--- `containment::find_parents` meets its contract: the rounds of the walk, one for each piece of the queue.
+-- `index::find_parents` meets its contract: the rounds of the walk, one for each piece of the queue.
 -- Assumes nothing.
 use mathlib.Core.Path.{_≡_, refl, _∙_}
 use Prim.Native.Nat.{_-_}

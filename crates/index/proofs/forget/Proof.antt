@@ -1,4 +1,4 @@
--- `containment::forget` meets its contract.
+-- `index::forget` meets its contract.
 -- Assumes nothing.
 use mathlib.Core.Path.{_≡_, refl, _∙_}
 use Prim.Native.Nat.{ℕ, _-_, _≤_, _<_}

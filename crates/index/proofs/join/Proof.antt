@@ -1,4 +1,4 @@
--- `containment::join` meets its contract: the joins of the pieces below `p` are made.
+-- `index::join` meets its contract: the joins of the pieces below `p` are made.
 -- Assumes nothing.
 use mathlib.Core.Path.{_≡_, refl, _∙_}
 use Prim.Native.Nat.{_-_, _≤_}

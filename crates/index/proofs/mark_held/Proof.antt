@@ -1,4 +1,4 @@
--- `containment::mark_held` meets its contract: the parts of the pieces below `c` are marked.
+-- `index::mark_held` meets its contract: the parts of the pieces below `c` are marked.
 -- Assumes nothing.
 use mathlib.Core.Path.{_≡_, refl, _∙_}
 use Prim.Native.Nat.{_-_, _≤_}

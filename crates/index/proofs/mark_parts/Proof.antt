@@ -1,4 +1,4 @@
--- `containment::mark_parts` meets its contract: the parts below `p` are marked, and `p` is the next one.
+-- `index::mark_parts` meets its contract: the parts below `p` are marked, and `p` is the next one.
 -- Assumes nothing.
 use mathlib.Core.Path.{_≡_, refl, _∙_}
 use mathlib.Core.Bool.{true}

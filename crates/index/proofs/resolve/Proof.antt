@@ -1,4 +1,4 @@
--- `containment::resolve` meets its contract: the shadows before `j` have their places.
+-- `index::resolve` meets its contract: the shadows before `j` have their places.
 -- Assumes nothing.
 use mathlib.Core.Path.{_≡_}
 use Prim.Native.Nat.{_-_, _≤_}

@@ -1,4 +1,4 @@
--- `containment::set_place` meets its contract.
+-- `index::set_place` meets its contract.
 -- Assumes nothing.
 use borrow.Author.Needs.{needs}
 use Rattle.index.proofs.set_place.Statement.{statement}

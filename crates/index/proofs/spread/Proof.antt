@@ -1,4 +1,4 @@
--- `containment::spread` meets its contract: the parts of c below `p` are met, and `p` is the next one.
+-- `index::spread` meets its contract: the parts of c below `p` are met, and `p` is the next one.
 -- Assumes nothing.
 use mathlib.Core.Path.{_≡_}
 use mathlib.Core.Bool.{true}

@@ -1,4 +1,4 @@
--- `containment::walk` meets its contract: each turn enters a part of c or leaves c, and writes what that asks.
+-- `index::walk` meets its contract: each turn enters a part of c or leaves c, and writes what that asks.
 -- Assumes nothing.
 use mathlib.Core.Path.{refl, sym, _∙_}
 use native.Mathlib.Omega.{arith}
