@@ -11,7 +11,6 @@ void relation_union_row(uint64_t *, size_t, size_t, const uint64_t *, size_t, si
 void relation_union_within(uint64_t *, size_t, size_t, size_t);
 bool relation_meet(const uint64_t *, size_t, size_t, const uint64_t *, size_t, size_t);
 void relation_product(uint64_t *, size_t, const uint64_t *, size_t, const uint64_t *, size_t, size_t);
-void relation_transpose(uint64_t *, size_t, const uint64_t *, size_t, size_t);
 
 static uint64_t a[WORDS], b[WORDS], c[WORDS], d[WORDS];
 
@@ -45,16 +44,6 @@ __attribute__((noinline)) static void c_product(uint64_t *dst, const uint64_t *x
       for (uint64_t v = x[r * 32 + w]; v; v &= v - 1) {
         size_t s = w * 64 + __builtin_ctzll(v);
         for (size_t i = 0; i < 32; i++) dst[r * 32 + i] |= y[s * 32 + i];
-      }
-}
-
-__attribute__((noinline)) static void c_transpose(uint64_t *dst, const uint64_t *src, size_t n) {
-  memset(dst, 0, WORDS * 8);
-  for (size_t r = 0; r < n; r++)
-    for (size_t w = 0; w < 32; w++)
-      for (uint64_t v = src[r * 32 + w]; v; v &= v - 1) {
-        size_t s = w * 64 + __builtin_ctzll(v);
-        dst[s * 32 + r / 64] |= (uint64_t)1 << (r % 64);
       }
 }
 
@@ -108,11 +97,6 @@ int main(void) {
     BEST(plain, 1, c_product(d, a, b, 2048));
     if (memcmp(c, d, sizeof c)) return 1;
     sprintf(what, "product, one bit in %u", 2 * rare[i]);
-    report(what, ours, plain);
-    BEST(ours, 1, relation_transpose(c, WORDS, a, WORDS, 2048));
-    BEST(plain, 1, c_transpose(d, a, 2048));
-    if (memcmp(c, d, sizeof c)) return 1;
-    sprintf(what, "transposition, one bit in %u", 2 * rare[i]);
     report(what, ours, plain);
   }
   return 0;

@@ -11,7 +11,7 @@ use Rattle.lists.proofs.Tabs.{tab-length}
 use Rattle.lists.proofs.Bools.{Known, is-true, is-false, known}
 use Rattle.records.specs.Record.{records}
 use Rattle.records.specs.Refusal.{refusalNumber}
-use Rattle.containment.specs.Parts as on
+use Rattle.index.specs.Parts as on
 use Rattle.parentheses.proofs.Paddeds.{padded-length}
 use Rattle.answers.specs.Lent.{Lent, lent, front}
 use Rattle.answers.specs.Fitting.{Fits}

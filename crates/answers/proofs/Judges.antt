@@ -14,9 +14,9 @@ use Rattle.records.specs.Facts.{entries, facts}
 use Rattle.records.specs.Check.{bookCheck}
 use Rattle.records.specs.declared.BookCheck.the-variants as book
 use Rattle.records.specs.declared.Refusal.the-variants.{Contradiction}
-use Rattle.containment.specs.Index.{Indexed, visitsOf, parenthesesOf}
+use Rattle.index.specs.Index.{Indexed, visitsOf, parenthesesOf}
 use Rattle.parentheses.specs.Padded.{padded}
-use Rattle.containment.specs.Parts as on
+use Rattle.index.specs.Parts as on
 use Rattle.closure.specs.Opened.{Opened}
 use Rattle.closure.specs.Settled.{Settleable, Clashed}
 use Rattle.closure.proofs.Settling.{settleable, settleable-in, free-beyond, clashed-within}

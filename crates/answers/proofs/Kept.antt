@@ -23,8 +23,8 @@ use Rattle.records.specs.Refusal.{refusalNumber}
 use Rattle.records.specs.Facts.{entries, facts}
 use Rattle.records.specs.Pieces.{pieceCount}
 use Rattle.records.proofs.Accepted.{accepted, accepted-claims}
-use Rattle.containment.specs.Index.{visitsOf}
-use Rattle.containment.specs.Parts as on
+use Rattle.index.specs.Index.{visitsOf}
+use Rattle.index.specs.Parts as on
 use Rattle.closure.specs.Contradiction.{Contradiction}
 use Rattle.closure.specs.Settled.{Settleable, Clashed}
 use Rattle.closure.proofs.Settling.{settleable, settled-room, beyond-free, free-consistent, free-model, within-clashed, clashed-no-model, clashed-first}

@@ -13,7 +13,7 @@ use Rattle.records.specs.Refusal.{refusalNumber, row, judge, scan}
 use Rattle.records.specs.Rows.{emptyBook, ragged, moreThan, kindRow, tagRow, pieceRow, orderRow, repeatRow, beyondRow}
 use Rattle.records.specs.Check.{formFinding, recordFinding, recordsCheck, bookCheck, claimsCheck, claimAt, claimFinding}
 use Rattle.records.specs.Facts.{entries}
-use Rattle.containment.specs.Index.{visitsOf}
+use Rattle.index.specs.Index.{visitsOf}
 use Rattle.records.specs.declared.Record.{Record}
 use Rattle.records.specs.declared.Refusal.{Refusal}
 use Rattle.records.specs.declared.Refusal.the-variants.{ShortBuffer, EmptyBook, BookLength, TooManyRecords, Kind, Tag, PieceNumber, Order, Repeat, ClaimsLength, TooManyClaims, ClaimFormat, ClaimPiece, Contradiction}

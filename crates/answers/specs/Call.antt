@@ -19,11 +19,11 @@ use Rattle.records.specs.declared.BookCheck.{BookCheck}
 use Rattle.records.specs.declared.BookCheck.the-variants as book
 use Rattle.records.specs.declared.ClaimsCheck.{ClaimsCheck}
 use Rattle.records.specs.declared.ClaimsCheck.the-variants as claims
-use Rattle.containment.specs.Pairs.{joined}
-use Rattle.containment.specs.Stored.{partIn}
-use Rattle.containment.specs.Index.{parenthesesOf, visitsOf}
+use Rattle.index.specs.Pairs.{joined}
+use Rattle.closure.specs.PartIn.{partIn}
+use Rattle.index.specs.Index.{parenthesesOf, visitsOf}
 use Rattle.parentheses.specs.Padded.{padded}
-use Rattle.containment.specs.Parts as on
+use Rattle.index.specs.Parts as on
 use Rattle.answers.specs.Lent.{Lent, shortLent, front}
 use Rattle.answers.specs.declared.Outcome.{Outcome}
 use Rattle.answers.specs.declared.Outcome.the-variants.{Accepted, Refused}

@@ -4,8 +4,8 @@ use mathlib.Core.List.{List}
 use Prim.Native.Nat.{ℕ, _≤_}
 use lib.ListN.{length}
 use Rattle.records.specs.Pieces.{pieceCount}
-use Rattle.containment.specs.Index.{visitsOf}
-use Rattle.containment.specs.Parts as on
+use Rattle.index.specs.Index.{visitsOf}
+use Rattle.index.specs.Parts as on
 use Rattle.answers.specs.Call.{edges}
 
 pub record Fits (n : ℕ) (book : List ℕ) (nodes : ℕ) : Type 0 where

@@ -86,8 +86,8 @@ fn clear_index(parens: &mut [u8], marks: &mut [u8], shadows: &mut [u16], places:
 {
     parentheses::clear(parens);
     parentheses::clear(marks);
-    containment::clear(shadows);
-    containment::clear(places);
+    index::clear(shadows);
+    index::clear(places);
 }
 
 // Row 14, the index and the answers, for a book and claims that pass the rows before, in lent parts of document 01's lengths.

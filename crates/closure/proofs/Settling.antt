@@ -19,9 +19,9 @@ use Rattle.records.specs.Check.{bookCheck}
 use Rattle.records.specs.Facts.{entries, facts}
 use Rattle.records.specs.declared.BookCheck.the-variants as book
 use Rattle.records.proofs.Accepted.{AcceptedBook, accepted, accepted-within, accepted-order, accepted-positive, accepted-pieces}
-use Rattle.containment.specs.Pairs.{joined}
-use Rattle.containment.specs.Stored.{partIn}
-use Rattle.containment.specs.Index.{Room}
+use Rattle.index.specs.Pairs.{joined}
+use Rattle.closure.specs.PartIn.{partIn}
+use Rattle.index.specs.Index.{Room}
 use Rattle.closure.specs.Opened.{Opened}
 use Rattle.closure.specs.Settled.{Settleable, Clashed, Settles}
 use Rattle.closure.specs.declared.Settled.{Settled}

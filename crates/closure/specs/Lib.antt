@@ -8,3 +8,6 @@ pub mod Settled
 pub mod Contradiction
 pub mod Tells
 pub mod Answers
+pub mod Order
+pub mod PartIn
+pub mod Loaded

@@ -3,7 +3,7 @@
 ghost use mathlib.Core.Path.{_≡_};
 ghost use Prim.Native.Nat.{_<_, _≤_};
 ghost use lib.ListN.{length};
-ghost use Rattle.containment.specs.Loaded.{Loaded};
+ghost use Rattle.closure.specs.Loaded.{Loaded};
 
 fn number(x: u16) -> usize {
     x as usize
@@ -73,5 +73,5 @@ pub extern "C" fn containment_build(
         return 0;
     }
     load(n, parts, containers, edges);
-    containment::build(n, edges, parens, marks, shadows, places).nodes
+    index::build(n, edges, parens, marks, shadows, places).nodes
 }

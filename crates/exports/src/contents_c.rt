@@ -4,7 +4,7 @@ ghost use mathlib.Core.Path.{_≡_};
 ghost use Prim.Native.Nat.{_<_, _≤_};
 ghost use lib.ListN.{length};
 ghost use Rattle.containment.specs.Contents.{Stored};
-ghost use Rattle.containment.specs.Loaded.{Loaded};
+ghost use Rattle.closure.specs.Loaded.{Loaded};
 
 fn index(
     n: usize,
@@ -18,7 +18,7 @@ fn index(
     requires { ⌜ Loaded n (now edges) k × (length (now parens) ≡ 2560) × (length (now marks) ≡ 1280) × (length (now shadows) ≡ 8192) × (length (now places) ≡ 2048) ⌝ }
     ensures { λ r. ⌜ (r ≤ 18432) × Stored n r (now (parens .exit)) (now (marks .exit)) (now (shadows .exit)) (now (places .exit)) ⌝ }
 {
-    containment::build(n, edges, parens, marks, shadows, places).nodes
+    index::build(n, edges, parens, marks, shadows, places).nodes
 }
 
 fn fill(
@@ -35,7 +35,7 @@ fn fill(
 {
     let mut i: usize = 0;
     while i < times {
-        containment::contents::contents(n, nodes, parens, marks, shadows, places, rows);
+        containment::contents(n, nodes, parens, marks, shadows, places, rows);
         i += 1;
     }
 }

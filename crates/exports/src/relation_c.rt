@@ -64,17 +64,3 @@ pub extern "C" fn relation_product(dst: &mut [u64], a: &[u64], b: &[u64], n: usi
     }
     relation::product(dst, a, b, n);
 }
-
-#[no_mangle]
-pub extern "C" fn relation_transpose(dst: &mut [u64], src: &[u64], n: usize) {
-    if dst.len() != 65536 {
-        return;
-    }
-    if src.len() != 65536 {
-        return;
-    }
-    if 2048 < n {
-        return;
-    }
-    relation::transpose(dst, src, n);
-}

@@ -1,5 +1,9 @@
 pub mod Bools
 pub mod Tabs
 pub mod Firsts
+pub mod Searches
 pub mod Anys
 pub mod Members
+pub mod Numbers
+pub mod Tallies
+pub mod Sums

@@ -1,3 +1,5 @@
 pub mod Tab
 pub mod First
 pub mod Any
+pub mod Numbers
+pub mod Tally

@@ -1,7 +1,7 @@
 -- `exports::containment_c::containment_build` meets its contract.
 -- Assumes nothing.
 use native.Mathlib.Omega.{arith}
-use Rattle.containment.proofs.Loads.{ready}
+use Rattle.closure.proofs.Loads.{ready}
 use borrow.Author.Needs.{needs}
 use Rattle.exports.proofs.containment_c.containment_build.Statement.{statement}
 use Rattle.exports.proofs.containment_c.containment_build.Tie as tie

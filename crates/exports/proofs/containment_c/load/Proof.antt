@@ -4,8 +4,8 @@ use mathlib.Core.Path.{_≡_, refl, ap, _∙_}
 use Prim.Native.Nat.{ℕ, _-_, _≤_}
 use native.Mathlib.Omega.{arith}
 use lib.ListN.{length, replicate}
-use Rattle.containment.specs.Loaded.{Loaded}
-use Rattle.containment.proofs.Loads.{none, more}
+use Rattle.closure.specs.Loaded.{Loaded}
+use Rattle.closure.proofs.Loads.{none, more}
 use Rattle.exports.proofs.containment_c.load.Statement.{statement}
 use Rattle.exports.proofs.containment_c.load.Tie as tie
 

@@ -7,7 +7,7 @@ use Rattle.exports.proofs.contents_c.fill.Statement.{statement}
 use Rattle.exports.proofs.contents_c.fill.Tie as tie
 use Rattle.exports.proofs.contents_c.fill.Reads as reads
 use Rattle.exports.proofs.contents_c.fill.Lts as lts
-use Rattle.containment.proofs.contents.contents.Reads as contents-reads
+use Rattle.containment.proofs.contents.Reads as contents-reads
 
 abbrev Inv-loop : tie.InvT-loop
 Inv-loop times n nodes parens marks shadows places rows₀ i₀ rows i = (i ≤ times) × (length rows ≡ 65536)

@@ -1,13 +1,13 @@
 use borrow.Author.Needs.{needs}
 use native.Mathlib.Omega.{arith}
-use Rattle.containment.proofs.Loads.{ready}
+use Rattle.closure.proofs.Loads.{ready}
 use Rattle.containment.proofs.Built.{built}
 use Rattle.containment.proofs.Table.{marked-room}
 use Rattle.exports.proofs.contents_c.index.Statement.{statement}
 use Rattle.exports.proofs.contents_c.index.Tie as tie
 use Rattle.exports.proofs.contents_c.index.Reads as reads
 use Rattle.exports.proofs.contents_c.index.Lts as lts
-use Rattle.containment.proofs.build.Reads as build-reads
+use Rattle.index.proofs.build.Reads as build-reads
 
 build-requires : tie.Need-build-requires
 build-requires c κs = let s = c .before .before .before .before .before .before .before .before .before .before in ready _ _ (s .args .k) (s .pre .0) (s .pre .1) (s .pre .2) (s .pre .3) (s .pre .4)
