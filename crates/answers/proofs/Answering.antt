@@ -1,7 +1,6 @@
 -- The answers, claim after claim. Assumes nothing.
-use Prim.Native.Nat.{ℕ, _+_, _*_, _≤_, _<_}
-use mathlib.Core.Path.{_≡_, refl, sym, ap, _∙_}
-use mathlib.Core.Bool.{Bool, true}
+use Prim.Native.Nat.{ℕ, _+_, _≤_, _<_}
+use mathlib.Core.Path.{_≡_, sym, _∙_}
 use mathlib.Core.List.{List}
 use native.Mathlib.Omega.{arith}
 use native.Mathlib.Decide.{ℕ-discrete}
@@ -12,7 +11,7 @@ use lib.Seq.{getD-set-same, getD-set-other, ext-getD}
 use Rattle.lists.specs.Tab.{tab}
 use Rattle.lists.proofs.Tabs.{tab-at, tab-length}
 use Rattle.lists.proofs.Bools.{and-both}
-use Rattle.rules.specs.Fact.{Fact, factOf}
+use Rattle.rules.specs.Fact.{Fact}
 use Rattle.rules.specs.Verdict.{verdict}
 use Rattle.records.specs.Record.{recordAt, records}
 use Rattle.records.specs.Pieces.{stated}
@@ -20,7 +19,7 @@ use Rattle.records.specs.Facts.{saying}
 use Rattle.records.specs.Check.{claimsCheck}
 use Rattle.records.specs.declared.Record.{Record}
 use Rattle.records.specs.declared.ClaimsCheck.the-variants as claims
-use Rattle.records.proofs.Accepted.{AcceptedClaims, accepted-claims, says-left, says-right}
+use Rattle.records.proofs.Accepted.{accepted-claims, says-left, says-right}
 use Rattle.closure.specs.Bounded.{Bounded}
 use Rattle.closure.specs.Closed.{Closed}
 use Rattle.closure.specs.Tells.{Answered}

@@ -1,14 +1,12 @@
 -- Lent buffers and their fronts. Assumes nothing.
 use Prim.Native.Nat.{ℕ, _≤_}
-use mathlib.Core.Path.{_≡_, refl, sym, ap, ap₂, _∙_}
+use mathlib.Core.Path.{_≡_, sym, ap, _∙_}
 use mathlib.Core.Bool.{Bool, true, false}
-use mathlib.Core.List.{List, [], _++_, append-nil, append-assoc}
-use native.Mathlib.Omega.{arith}
+use mathlib.Core.List.{List, _++_, append-nil}
 use lib.Dec.{eqb}
-use lib.ListN.{length, take, drop, replicate, length-replicate, take-append-drop}
+use lib.ListN.{length, take, drop, length-replicate, take-append-drop}
 use lib.Seq.{length-take-le, drop-length}
 use Rattle.lists.proofs.Tabs.{tab-length}
-use Rattle.lists.proofs.Bools.{Known, is-true, is-false, known}
 use Rattle.records.specs.Record.{records}
 use Rattle.records.specs.Refusal.{refusalNumber}
 use Rattle.index.specs.Parts as on

@@ -1,12 +1,12 @@
 -- What the whole call promises, row by row. Assumes nothing.
-use Prim.Native.Nat.{ℕ, _≤_}
+use Prim.Native.Nat.{ℕ}
 use mathlib.Core.Path.{_≡_, refl, sym, ap, subst, _∙_}
 use mathlib.Core.Bool.{Bool, true, false, _||_, false≢true}
 use mathlib.Core.List.{List, [], _∷_}
 use native.Mathlib.Omega.{arith}
 use borrow.Author.Tests.{ltb-false, ne-eqb}
-use lib.Dec.{eqb, ltb}
-use lib.ListN.{length, take}
+use lib.Dec.{ltb}
+use lib.ListN.{length}
 use lib.Seq.{length-take-le}
 use Rattle.records.specs.Record.{records}
 use Rattle.records.specs.Refusal.{refusalNumber}
@@ -22,7 +22,7 @@ use Rattle.answers.specs.Demands.{Demand2, Demand3, Contradicted}
 use Rattle.answers.specs.Fitting.{Fitting}
 use Rattle.answers.specs.Judging.{Exact, Judged}
 use Rattle.answers.specs.declared.Outcome.{Outcome}
-use Rattle.answers.specs.declared.Outcome.the-variants.{Accepted, Refused}
+use Rattle.answers.specs.declared.Outcome.the-variants.{Refused}
 use Rattle.answers.proofs.Outcomes.{Other, book-other, claims-other, Told, runs-told, passed-outcome}
 use Rattle.answers.proofs.Kept.{fitted, kept2, kept3, kept-place, kept-size}
 use Rattle.answers.proofs.Buffers.{cut, put-back, Long, left-back}

@@ -1,11 +1,10 @@
 -- Row 14's outcome and what it leaves, in buffers of exactly the lengths that are written. Assumes nothing.
-use Prim.Native.Nat.{ℕ, suc, _+_, _-_, _/_, _≤_, _<_}
+use Prim.Native.Nat.{ℕ, _-_}
 use mathlib.Core.Path.{_≡_, refl, sym, ap, _∙_}
-use mathlib.Core.Bool.{Bool, true, false, false≢true}
+use mathlib.Core.Bool.{false}
 use mathlib.Core.List.{List}
 use native.Mathlib.Omega.{arith}
 use borrow.Author.Tests.{le-leb, lt-leb}
-use lib.Dec.{leb}
 use lib.ListN.{length, replicate, length-replicate}
 use Rattle.rules.specs.Follows.{clash}
 use Rattle.rules.specs.Entries.{shortestClash}
@@ -14,7 +13,7 @@ use Rattle.records.specs.Facts.{entries, facts}
 use Rattle.records.specs.Check.{bookCheck}
 use Rattle.records.specs.declared.BookCheck.the-variants as book
 use Rattle.records.specs.declared.Refusal.the-variants.{Contradiction}
-use Rattle.index.specs.Index.{Indexed, visitsOf, parenthesesOf}
+use Rattle.index.specs.Index.{visitsOf, parenthesesOf}
 use Rattle.parentheses.specs.Padded.{padded}
 use Rattle.index.specs.Parts as on
 use Rattle.closure.specs.Opened.{Opened}
@@ -23,7 +22,6 @@ use Rattle.closure.proofs.Settling.{settleable, settleable-in, free-beyond, cla
 use Rattle.answers.specs.Lent.{Lent, lent, front}
 use Rattle.answers.specs.Call.{edges, byRuns, answersTo, indexed, cleared, left}
 use Rattle.answers.specs.Judging.{Cleared, Exact, Judged}
-use Rattle.answers.specs.declared.Outcome.{Outcome}
 use Rattle.answers.specs.declared.Outcome.the-variants.{Accepted, Refused}
 use Rattle.answers.proofs.Buffers.{front-whole, packed-long, answers-long, same-lent}
 

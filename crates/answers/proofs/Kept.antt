@@ -1,6 +1,6 @@
 -- A determined call keeps demands 2 and 3, names the place of a contradiction, and fits. Assumes nothing.
-use Prim.Native.Nat.{ℕ, _-_, _≤_, _<_}
-use mathlib.Core.Path.{_≡_, refl, sym, ap, subst, _∙_}
+use Prim.Native.Nat.{ℕ, _-_, _<_}
+use mathlib.Core.Path.{_≡_, refl, subst, _∙_}
 use mathlib.Core.Logic.{_↔_}
 use mathlib.Core.Bool.{true, false}
 use mathlib.Core.List.{List}
@@ -8,7 +8,6 @@ use native.Mathlib.Omega.{arith}
 use borrow.Author.Tests.{leb-true, leb-false}
 use lib.Dec.{leb}
 use lib.ListN.{length, getD, length-map, List·getD-append}
-use Rattle.lists.specs.Tab.{tab}
 use Rattle.lists.proofs.Tabs.{tab-at, tab-length}
 use Rattle.lists.proofs.Bools.{Known, is-true, is-false, known}
 use Rattle.rules.specs.Fact.{Within}
@@ -19,7 +18,6 @@ use Rattle.rules.specs.Verdict.{verdict}
 use Rattle.rules.specs.Entries.{shortestClash}
 use Rattle.rules.proofs.Verdicts.{verdict-follows, verdict-denied, verdict-open, verdict-follows-everywhere, verdict-denied-everywhere, verdict-open-iff}
 use Rattle.records.specs.Record.{records}
-use Rattle.records.specs.Refusal.{refusalNumber}
 use Rattle.records.specs.Facts.{entries, facts}
 use Rattle.records.specs.Pieces.{pieceCount}
 use Rattle.records.proofs.Accepted.{accepted, accepted-claims}
@@ -30,7 +28,7 @@ use Rattle.closure.specs.Settled.{Settleable, Clashed}
 use Rattle.closure.proofs.Settling.{settleable, settled-room, beyond-free, free-consistent, free-model, within-clashed, clashed-no-model, clashed-first}
 use Rattle.answers.specs.Lent.{Lent, front}
 use Rattle.answers.specs.Outcome as of
-use Rattle.answers.specs.Call.{edges, byRuns, outcome, Passed, claimed, answersTo, indexed, left, Determined}
+use Rattle.answers.specs.Call.{edges, byRuns, Passed, claimed, answersTo, indexed, left, Determined}
 use Rattle.answers.specs.Demands.{Derived, Entailed, Demand2, Demand3, Contradicted}
 use Rattle.answers.specs.Fitting.{Fits, Fitting}
 use Rattle.answers.specs.declared.Outcome.{Outcome}

@@ -1,5 +1,5 @@
 -- The lent buffers and document 01's lengths for them. Assumes nothing.
-use Prim.Native.Nat.{ℕ, _/_}
+use Prim.Native.Nat.{ℕ}
 use mathlib.Core.Bool.{Bool, _||_}
 use mathlib.Core.List.{List, _++_}
 use lib.Dec.{ltb}

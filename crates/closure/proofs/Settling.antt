@@ -1,6 +1,6 @@
 -- Which runs can be settled, and what a settled run is: the room of its index, its contradiction or its model. Assumes nothing.
 use Prim.Native.Nat.{ℕ, _+_, _-_, _*_, _/_, _≤_, _<_}
-use mathlib.Core.Path.{_≡_, sym, ap, subst, _∙_}
+use mathlib.Core.Path.{_≡_, sym, ap, _∙_}
 use mathlib.Core.Bool.{true, false, false≢true}
 use mathlib.Core.List.{List}
 use native.Mathlib.Omega.{arith}
@@ -9,7 +9,7 @@ use Rattle.lists.proofs.Bools.{not-true, Known, is-true, is-false, known}
 use Rattle.rules.specs.Derives.{Contradictory}
 use Rattle.rules.specs.Model.{Model, keepsAll}
 use Rattle.rules.specs.Follows.{clash}
-use Rattle.rules.specs.Entries.{Entry, factsOf, shortestClash}
+use Rattle.rules.specs.Entries.{factsOf, shortestClash}
 use Rattle.rules.proofs.Models.{clash-iff, consistent-model}
 use Rattle.rules.proofs.Sound.{no-model}
 use Rattle.rules.proofs.Runs.{shortest-is, shortest-none, shortest-positive}
@@ -18,13 +18,12 @@ use Rattle.records.proofs.Runs.{entries-length, run-entries}
 use Rattle.records.specs.Check.{bookCheck}
 use Rattle.records.specs.Facts.{entries, facts}
 use Rattle.records.specs.declared.BookCheck.the-variants as book
-use Rattle.records.proofs.Accepted.{AcceptedBook, accepted, accepted-within, accepted-order, accepted-positive, accepted-pieces}
+use Rattle.records.proofs.Accepted.{accepted, accepted-within, accepted-order, accepted-positive, accepted-pieces}
 use Rattle.index.specs.Pairs.{joined}
 use Rattle.closure.specs.PartIn.{partIn}
 use Rattle.index.specs.Index.{Room}
 use Rattle.closure.specs.Opened.{Opened}
 use Rattle.closure.specs.Settled.{Settleable, Clashed, Settles}
-use Rattle.closure.specs.declared.Settled.{Settled}
 use Rattle.closure.specs.declared.Settled.the-variants.{Free, Clash}
 use Rattle.closure.specs.Contradiction.{Contradiction}
 use Rattle.closure.proofs.Halving.{facts-roomy}

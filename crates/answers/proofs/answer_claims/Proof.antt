@@ -1,12 +1,10 @@
 use borrow.Author.Needs.{needs}
-use native.Mathlib.Omega.{arith}
 use mathlib.Core.Path.{sym, _∙_}
 use Prim.Native.Nat.{_/_}
 use lib.ListN.{length}
 use lib.Seq.{length-take-le}
 use Rattle.answers.specs.Lent.{lent, shortLent}
 use Rattle.answers.proofs.Calls.{long, short-refused, book-refused, claims-refused, exact, judged}
-use borrow.Author.Needs.{needs}
 use Rattle.answers.proofs.answer_claims.Statement.{statement}
 use Rattle.answers.proofs.answer_claims.Tie as tie
 

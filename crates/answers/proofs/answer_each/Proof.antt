@@ -1,9 +1,9 @@
 use borrow.Author.Needs.{needs}
 use native.Mathlib.Omega.{arith}
-use mathlib.Core.Path.{_≡_, refl, sym}
+use mathlib.Core.Path.{_≡_, refl}
 use Prim.Native.Nat.{_≤_, _-_, _/_}
 use lib.ListN.{length, length-set}
-use Rattle.answers.proofs.Answering.{Standing, Asked, asked, standing-none, standing-read, standing-all}
+use Rattle.answers.proofs.Answering.{Standing, asked, standing-none, standing-read, standing-all}
 use Rattle.answers.proofs.answer_each.Statement.{statement}
 use Rattle.answers.proofs.answer_each.Tie as tie
 

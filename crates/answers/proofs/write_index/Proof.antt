@@ -1,6 +1,5 @@
 use borrow.Author.Needs.{needs}
 use Rattle.answers.proofs.Calls.{alone}
-use borrow.Author.Needs.{needs}
 use Rattle.answers.proofs.write_index.Statement.{statement}
 use Rattle.answers.proofs.write_index.Tie as tie
 
