@@ -2,7 +2,7 @@
 ghost use mathlib.Core.Path.{_≡_};
 ghost use mathlib.Core.Bool.{true, false, not};
 ghost use Prim.Native.Nat.{ℕ, _+_, _*_, _<_, _≤_};
-ghost use lib.ListN.{length, getD};
+ghost use lib.ListN.{length, getD, set};
 ghost use Rattle.containment.specs.Filling.{Setting, Fillable, From, All, Filled, FilledTo, Ready};
 ghost use Rattle.containment.specs.Contents.{Stored, Contents, leads, Apart, StandsFor};
 ghost use Rattle.parentheses.specs.Rank.{rank};
@@ -12,21 +12,21 @@ use index::DatasetId;
 use index::TreeId;
 use parentheses::Found;
 
-// The piece at a place, by the place list turned round.
-fn piece_at(pieces: &[u16], q: TreeId) -> DatasetId
-    requires { ⌜ q .0 < length (now pieces) ⌝ }
-    ensures { λ r. ⌜ r .0 ≡ getD (now (pieces .entry)) (q .0) 0 ⌝ }
+// The piece at a place: `turned` is the place list turned round, with the shadows put in.
+fn piece_at(turned: &[u16], q: TreeId) -> DatasetId
+    requires { ⌜ q .0 < length (now turned) ⌝ }
+    ensures { λ r. ⌜ r .0 ≡ getD (now (turned .entry)) (q .0) 0 ⌝ }
 {
     let k = q.0;
-    DatasetId(index::wide(pieces[k]))
+    DatasetId(index::wide(turned[k]))
 }
 
 // Fills the row of h, unless it is filled: h itself, and the row of each part that hangs from its node. A part that hangs there
-// as a shadow is the piece that the shadow stands for, so containment calls itself through shadow targets. Parts have higher
-// numbers, and a row that is filled is filled for good.
-fn fill(places: &[u16], ends: &[u16], pieces: &[u16], rows: &mut [u64], h: DatasetId)
-    requires { ⌜ (length (now rows) ≡ 65536) × Fillable (now places) (now ends) (now pieces) (now rows) (h .0) ⌝ }
-    ensures { λ _. ⌜ ((s : Setting (now (places .entry)) (now (ends .entry)) (now (pieces .entry))) → From s (now (rows .entry)) (h .0) → h .0 < s .n → Filled s (now (rows .entry)) (now (rows .exit)) (h .0)) ⌝ }
+// as a shadow is the piece that the shadow stands for, so containment calls itself through shadow targets. Levels rise
+// from container to part, and a row that is filled is filled for good.
+fn fill(places: &[u16], ends: &[u16], turned: &[u16], rows: &mut [u64], h: DatasetId)
+    requires { ⌜ (length (now rows) ≡ 65536) × Fillable (now places) (now ends) (now turned) (now rows) (h .0) ⌝ }
+    ensures { λ _. ⌜ ((s : Setting (now (places .entry)) (now (ends .entry)) (now (turned .entry))) → From s (now (rows .entry)) (h .0) → h .0 < s .n → Filled s (now (rows .entry)) (now (rows .exit)) (h .0)) ⌝ }
 {
     let x = h.0;
     if relation::test(rows, x, x) {
@@ -34,36 +34,50 @@ fn fill(places: &[u16], ends: &[u16], pieces: &[u16], rows: &mut [u64], h: Datas
     }
     relation::insert(rows, x, x);
     let place = index::place_of(places, h);
-    let at = place.0;
-    let end = index::wide(ends[at]);
-    let mut q = at + 1;
-    while q < end {
-        let t = piece_at(pieces, TreeId(q));
-        fill(places, ends, pieces, rows, t);
-        let y = t.0;
-        relation::union_within(rows, x, y);
-        q = index::wide(ends[q]);
+    let mut q = TreeId(place.0 + 1);
+    let end = end_at(ends, place);
+    while q.0 < end.0 {
+        let t = piece_at(turned, TreeId(q.0));
+        fill(places, ends, turned, rows, DatasetId(t.0));
+        relation::union_within(rows, x, t.0);
+        q = end_at(ends, q);
     }
 }
 
+// The first place past the subtree of a place, by the table of ends.
+fn end_at(ends: &[u16], q: TreeId) -> TreeId
+    requires { ⌜ q .0 < length (now ends) ⌝ }
+    ensures { λ r. ⌜ r .0 ≡ getD (now (ends .entry)) (q .0) 0 ⌝ }
+{
+    let k = q.0;
+    TreeId(index::wide(ends[k]))
+}
+
+fn set_piece(turned: &mut [u16], q: TreeId, g: DatasetId)
+    requires { ⌜ (q .0 < length (now turned)) × (g .0 < 65536) ⌝ }
+    ensures { λ _. ⌜ now (turned .exit) ≡ set (now (turned .entry)) (q .0) (g .0) ⌝ }
+{
+    let k = q.0;
+    turned[k] = index::narrow(g.0);
+}
+
 // Of the place of each piece below n, the piece: the place list turned round.
-fn number_nodes(n: usize, places: &[u16], pieces: &mut [u16])
-    requires { ⌜ (n ≤ 2048) × Apart n (now places) (length (now pieces)) ⌝ }
-    ensures { λ _. ⌜ ((g : ℕ) → g < n → getD (now (pieces .exit)) (getD (now (places .entry)) g 0) 0 ≡ g) ⌝ }
+fn number_nodes(n: usize, places: &[u16], turned: &mut [u16])
+    requires { ⌜ (n ≤ 2048) × Apart n (now places) (length (now turned)) ⌝ }
+    ensures { λ _. ⌜ ((g : ℕ) → g < n → getD (now (turned .exit)) (getD (now (places .entry)) g 0) 0 ≡ g) ⌝ }
 {
     let mut g: usize = 0;
     while g < n {
         let place = index::place_of(places, DatasetId(g));
-        let q = place.0;
-        pieces[q] = g as u16;
+        set_piece(turned, place, DatasetId(g));
         g += 1;
     }
 }
 
 // Of the place of each shadow, the piece at the place for which it stands.
-fn number_shadows(nodes: usize, marks: &[u8], shadows: &[u16], pieces: &mut [u16])
-    requires { ⌜ (nodes ≤ length (now pieces)) × (nodes ≤ 8 * length (now marks)) × StandsFor nodes (bits (now marks)) (now shadows) ⌝ }
-    ensures { λ _. ⌜ ((s : ℕ) → s < nodes → getD (now (pieces .exit)) s 0 ≡ getD (now (pieces .entry)) (leads (bits (now (marks .entry))) (now (shadows .entry)) s) 0) ⌝ }
+fn number_shadows(nodes: usize, marks: &[u8], shadows: &[u16], turned: &mut [u16])
+    requires { ⌜ (nodes ≤ length (now turned)) × (nodes ≤ 8 * length (now marks)) × StandsFor nodes (bits (now marks)) (now shadows) ⌝ }
+    ensures { λ _. ⌜ ((s : ℕ) → s < nodes → getD (now (turned .exit)) s 0 ≡ getD (now (turned .entry)) (leads (bits (now (marks .entry))) (now (shadows .entry)) s) 0) ⌝ }
 {
     let mut j: usize = 0;
     let mut q: usize = 0;
@@ -73,7 +87,7 @@ fn number_shadows(nodes: usize, marks: &[u8], shadows: &[u16], pieces: &mut [u16
             continue;
         }
         let t = index::wide(shadows[j]);
-        pieces[q] = pieces[t];
+        turned[q] = turned[t];
         j += 1;
         q += 1;
     }
@@ -127,13 +141,13 @@ fn subtree_ends(nodes: usize, parens: &[u8], ends: &mut [u16])
 }
 
 // Fills the row of each piece below n.
-fn fill_all(n: usize, places: &[u16], ends: &[u16], pieces: &[u16], rows: &mut [u64])
-    requires { ⌜ (length (now rows) ≡ 65536) × Ready n (now places) (now ends) (now pieces) (now rows) ⌝ }
-    ensures { λ _. ⌜ ((s : Setting (now (places .entry)) (now (ends .entry)) (now (pieces .entry))) → n ≡ s .n → All s (now (rows .entry)) → FilledTo s (now (rows .exit)) n) ⌝ }
+fn fill_all(n: usize, places: &[u16], ends: &[u16], turned: &[u16], rows: &mut [u64])
+    requires { ⌜ (length (now rows) ≡ 65536) × Ready n (now places) (now ends) (now turned) (now rows) ⌝ }
+    ensures { λ _. ⌜ ((s : Setting (now (places .entry)) (now (ends .entry)) (now (turned .entry))) → n ≡ s .n → All s (now (rows .entry)) → FilledTo s (now (rows .exit)) n) ⌝ }
 {
     let mut h: usize = 0;
     while h < n {
-        fill(places, ends, pieces, rows, DatasetId(h));
+        fill(places, ends, turned, rows, DatasetId(h));
         h += 1;
     }
 }
@@ -153,11 +167,11 @@ pub fn contents(
     ensures { λ _. ⌜ Contents n (now (parens .entry)) (now (marks .entry)) (now (shadows .entry)) (now (places .entry)) (now (rows .exit)) ⌝ }
 {
     let mut ends = [0u16; 18432];
-    let mut pieces = [0u16; 18432];
+    let mut turned = [0u16; 18432];
     let bytes = (nodes + 3) / 4;
     subtree_ends(nodes, &parens[..bytes], &mut ends);
-    number_nodes(n, places, &mut pieces);
-    number_shadows(nodes, marks, shadows, &mut pieces);
+    number_nodes(n, places, &mut turned);
+    number_shadows(nodes, marks, shadows, &mut turned);
     relation::clear(rows);
-    fill_all(n, places, &ends, &pieces, rows);
+    fill_all(n, places, &ends, &turned, rows);
 }

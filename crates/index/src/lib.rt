@@ -170,39 +170,40 @@ fn walk(
 {
     parentheses::put(parens, 0);
     set_place(places, DatasetId(0), TreeId(0));
-    let mut c: usize = 0;
+    let mut c = DatasetId(0);
     let mut from: usize = 1;
     let mut at: usize = 1;
-    let mut k: usize = 1;
+    let mut k = TreeId(1);
     let mut m: usize = 0;
     loop {
-        let p = relation::next_bit(edges, c, from);
+        let p = relation::next_bit(edges, c.0, from);
         if p < n {
             parentheses::put(parens, at);
-            if wide(parent[p]) == c {
-                set_place(places, DatasetId(p), TreeId(k));
+            if wide(parent[p]) == c.0 {
+                set_place(places, DatasetId(p), TreeId(k.0));
                 at += 1;
-                k += 1;
-                c = p;
+                k = TreeId(k.0 + 1);
+                c = DatasetId(p);
                 from = 1;
             } else {
-                parentheses::put(marks, k);
+                parentheses::put(marks, k.0);
                 shadows[m] = narrow(p);
                 at += 2;
-                k += 1;
+                k = TreeId(k.0 + 1);
                 m += 1;
                 from = p + 1;
             }
         } else {
-            if c == 0 {
+            if c.0 == 0 {
                 return Counts {
-                    nodes: k,
+                    nodes: k.0,
                     shadows: m,
                 };
             }
             at += 1;
-            from = c + 1;
-            c = wide(parent[c]);
+            let done = c.0;
+            from = done + 1;
+            c = DatasetId(wide(parent[done]));
         }
     }
 }
@@ -214,10 +215,9 @@ fn resolve(shadows: &mut [u16], places: &[u16], m: usize)
 {
     let mut j: usize = 0;
     while j < m {
-        let g = wide(shadows[j]);
-        let t = place_of(places, DatasetId(g));
-        let k = t.0;
-        shadows[j] = narrow(k);
+        let g = DatasetId(wide(shadows[j]));
+        let t = place_of(places, g);
+        shadows[j] = narrow(t.0);
         j += 1;
     }
 }

@@ -1,3 +1,4 @@
+-- `containment::fill` meets its contract: by how many rows are not filled. Assumes nothing.
 use borrow.Author.Needs.{needs}
 use native.Mathlib.Omega.{arith}
 use mathlib.Core.List.{List, _∷_}
@@ -11,9 +12,9 @@ use borrow.Fn.PlainCycle.{Measures, is, falls, and}
 use Rattle.containment.proofs.fill.Reads as fill
 use Rattle.containment.proofs.fill.Kinds as fill-kinds
 use Rattle.containment.proofs.+fill.Lts-fill as fill-lts
+use Rattle.containment.proofs.end_at.Reads as end-at-reads
 use Rattle.containment.proofs.piece_at.Reads as piece-at-reads
 use Rattle.index.proofs.place_of.Reads as place-of-reads
-use Rattle.index.proofs.wide.Reads as wide-reads
 use Rattle.relation.proofs.insert.Reads as insert-reads
 use Rattle.relation.proofs.test.Reads as test-reads
 use Rattle.relation.proofs.union_within.Reads as union-within-reads
@@ -30,14 +31,14 @@ abbrev fill-below : ℕ → In 4 fill-kinds.ps
 fill-below t = and 4 fill-kinds.ps (falls 4 fill-kinds.ps _<_ μ-fill t) fill.Pre
 
 abbrev Inv : fill-lts.InvT-loop
-Inv places ends pieces rows₀ x at end q₀ rows q =
-    (length rows ≡ 65536) × ((s : Setting places ends pieces) (l : x < s .n) → Started s x l rows₀ → Walking s x l rows₀ rows end q)
+Inv places ends turned rows₀ x q₀ end rows q =
+    (length rows ≡ 65536) × ((s : Setting places ends turned) (l : x < s .n) → Started s x l rows₀ → Walking s x l rows₀ rows (end .0) (q .0))
 
 abbrev μ : fill-lts.MeasureT-loop
-μ places ends pieces rows₀ x at end q₀ rows q = end - q
+μ places ends turned rows₀ x q₀ end rows q = end .0 - q .0
 
 abbrev calls : ℕ → fill-lts.Claims
-calls t = (test-reads.Asked, test-reads.Learnt, insert-reads.Asked, insert-reads.Learnt, place-of-reads.Asked, place-of-reads.Learnt, wide-reads.Asked, wide-reads.Learnt, piece-at-reads.Asked, piece-at-reads.Learnt, fill-below t, fill.Post, union-within-reads.Asked, union-within-reads.Learnt)
+calls t = (test-reads.Asked, test-reads.Learnt, insert-reads.Asked, insert-reads.Learnt, place-of-reads.Asked, place-of-reads.Learnt, end-at-reads.Asked, end-at-reads.Learnt, piece-at-reads.Asked, piece-at-reads.Learnt, fill-below t, fill.Post, union-within-reads.Asked, union-within-reads.Learnt)
 
 module _ (t : ℕ) where
   abbrev Begin : Type 0
@@ -53,7 +54,7 @@ module _ (t : ℕ) where
   Placed = fill-lts.After-place-of (calls t) (fill-at t) fill.Post Inv μ
 
   abbrev In-loop : Type 0
-  In-loop = fill-lts.In-loop (calls t) (fill-at t) fill.Post Inv μ
+  In-loop = fill-lts.Then2 (calls t) (fill-at t) fill.Post Inv μ
 
   -- where the function begins, and where the own bit of h is set
   abbrev entry : Set → Begin
@@ -62,7 +63,7 @@ module _ (t : ℕ) where
   abbrev set-at : At → Set
   set-at c = c .before .before .before .before .before .before
 
-  abbrev setting : (c : Begin) → Setting (c .args .places .now) (c .args .ends .now) (c .args .pieces .now)
+  abbrev setting : (c : Begin) → Setting (c .args .places .now) (c .args .ends .now) (c .args .turned .now)
   setting c = c .pre .1 .1 .setting
 
   in-rows : (c : Begin) → c .args .h .0 < 2048
@@ -70,7 +71,7 @@ module _ (t : ℕ) where
 
   -- the row of h has its own bit alone
   begun :
-      (c : Set) (s : Setting (entry c .args .places .now) (entry c .args .ends .now) (entry c .args .pieces .now)) (l : entry c .args .h .0 < s .n)
+      (c : Set) (s : Setting (entry c .args .places .now) (entry c .args .ends .now) (entry c .args .turned .now)) (l : entry c .args .h .0 < s .n)
       → From s (entry c .args .rows .now) (entry c .args .h .0) → Started s (entry c .args .h .0) l (c .insert .last .0)
   begun c s l F = started s (entry c .args .h .0) l (entry c .args .rows .now) (c .insert .last .0) F (sym (c .before .before .before .test .ensures) ∙ c .before .before .if1 .left) (c .insert .ensures)
 
@@ -80,15 +81,18 @@ module _ (t : ℕ) where
 
   walk :
       (c : At)
-      → Walking (setting (entry (set-at c))) (entry (set-at c) .args .h .0) (entry (set-at c) .pre .1 .1 .below) (set-at c .insert .last .0) (c .loop .rows) (c .before .wide .result) (c .loop .q)
+      → Walking (setting (entry (set-at c))) (entry (set-at c) .args .h .0) (entry (set-at c) .pre .1 .1 .below) (set-at c .insert .last .0) (c .loop .rows) (c .before .end-at .result .0) (c .loop .q .0)
   walk c = c .loop .inv .1 (setting (entry (set-at c))) (entry (set-at c) .pre .1 .1 .below) (begun (set-at c) _ _ (entry (set-at c) .pre .1 .1 .from))
+
+  abbrev loop-at : In-loop → At
+  loop-at c = c .before .before .before
 
   -- the part of h whose tree is there
   abbrev part-at :
       (c : In-loop) →
-      let e = entry (set-at (c .before)) in
-      (x : ℕ) × (xs : List ℕ) × (walk (c .before) .todo ≡ x ∷ xs) × Part (setting e) (e .args .h .0) (e .pre .1 .1 .below) (c .before .loop .q) x xs (walk (c .before) .deep)
-  part-at c = uncover _ _ _ (walk (c .before)) (c .loop-test .taken)
+      let e = entry (set-at (loop-at c)) in
+      (x : ℕ) × (xs : List ℕ) × (walk (loop-at c) .todo ≡ x ∷ xs) × Part (setting e) (e .args .h .0) (e .pre .1 .1 .below) (loop-at c .loop .q .0) x xs (walk (loop-at c) .deep)
+  part-at c = uncover _ _ _ (walk (loop-at c)) (c .if2 .taken)
 
   test-requires : fill-lts.Need-test-requires (calls t) (fill-at t) fill.Post Inv μ
   test-requires c κs = let e = c .before .before .before .before .before in (e .pre .1 .0, in-rows e, in-rows e)
@@ -105,22 +109,16 @@ module _ (t : ℕ) where
   place-of-requires : fill-lts.Need-place-of-requires (calls t) (fill-at t) fill.Post Inv μ
   place-of-requires c κs = let e = c .before .before .before .before .before .before .before .before .before .before .before in omega (arith, e .pre .1 .1 .below, setting e .room)
 
-  mul-wide : fill-lts.Need-mul-wide (calls t) (fill-at t) fill.Post Inv μ
-  mul-wide c = omega (arith, in-ends c, entry (c .before .before .before) .good .1 .0)
+  add-t17 : fill-lts.Need-add-t17 (calls t) (fill-at t) fill.Post Inv μ
+  add-t17 c = omega (arith, in-ends (c .before), entry (c .before .before .before .before) .good .1 .0)
 
-  shared-slice-read-wide : fill-lts.Need-shared-slice-read-wide (calls t) (fill-at t) fill.Post Inv μ
-  shared-slice-read-wide c = in-ends (c .before)
-
-  wide-requires : fill-lts.Need-wide-requires (calls t) (fill-at t) fill.Post Inv μ
-  wide-requires c κs = search needs
-
-  add-q : fill-lts.Need-add-q (calls t) (fill-at t) fill.Post Inv μ
-  add-q c = omega (arith, in-ends (c .before .before), entry (c .before .before .before .before .before) .good .1 .0)
+  end-at-requires : fill-lts.Need-end-at-requires (calls t) (fill-at t) fill.Post Inv μ
+  end-at-requires c κs = in-ends (c .before)
 
   loop-holds : fill-lts.Need-loop-holds (calls t) (fill-at t) fill.Post Inv μ
   loop-holds c =
       let d = c .before .before .before .before .before in
-      (d .insert .kept .0 ∙ entry d .pre .1 .0, λ s l S. begin s _ l _ _ _ (c .before .before .place-of .ensures) (c .wide .ensures) S)
+      (d .insert .kept .0 ∙ entry d .pre .1 .0, λ s l S. begin s _ l _ _ _ (c .before .before .place-of .ensures) (c .end-at .ensures) S)
 
   piece-at-requires : fill-lts.Need-piece-at-requires (calls t) (fill-at t) fill.Post Inv μ
   piece-at-requires c κs = part-at c .3 .in-pieces
@@ -128,10 +126,10 @@ module _ (t : ℕ) where
   fill-requires : fill-lts.Need-fill-requires (calls t) (fill-at t) fill.Post Inv μ
   fill-requires c κs =
       let o = c .before .before in
-      let l = o .before in
+      let l = loop-at o in
       let e = entry (set-at l) in
       let w = walk l in
-      let b = o .loop-test .taken in
+      let b = o .if2 .taken in
       let is = c .before .piece-at .ensures in (
         omega (arith, fewer _ _ _ w (e .args .rows .now) (sym (set-at l .before .before .before .test .ensures) ∙ set-at l .before .before .if1 .left) (set-at l .insert .ensures), e .pre .0),
         (l .loop .inv .0, record { setting = setting e; below = small _ _ _ w b is; from = from-it _ _ _ w b is }),
@@ -141,45 +139,39 @@ module _ (t : ℕ) where
   union-within-requires c κs =
       let f = c .before .before .before in
       let o = f .before .before .before in
-      let l = o .before in
+      let l = loop-at o in
       let e = entry (set-at l) in
-      (f .fill .kept .1 .1 .1 .0 ∙ l .loop .inv .0, in-rows e, omega (arith, small _ _ _ (walk l) (o .loop-test .taken) (f .before .before .piece-at .ensures), setting e .few))
+      (f .fill .kept .1 .1 .1 .0 ∙ l .loop .inv .0, in-rows e, omega (arith, small _ _ _ (walk l) (o .if2 .taken) (f .before .before .piece-at .ensures), setting e .few))
 
-  mul-wide-2 : fill-lts.Need-mul-wide-2 (calls t) (fill-at t) fill.Post Inv μ
-  mul-wide-2 c = omega (arith, part-at (c .before .before .before .before .before .before .before .before .before) .3 .in-ends, entry (set-at (c .before .before .before .before .before .before .before .before .before .before)) .good .1 .0)
-
-  shared-slice-read-wide-2 : fill-lts.Need-shared-slice-read-wide-2 (calls t) (fill-at t) fill.Post Inv μ
-  shared-slice-read-wide-2 c = part-at (c .before .before .before .before .before .before .before .before .before .before) .3 .in-ends
-
-  wide-requires-2 : fill-lts.Need-wide-requires-2 (calls t) (fill-at t) fill.Post Inv μ
-  wide-requires-2 c κs = search needs
+  end-at-requires-2 : fill-lts.Need-end-at-requires-2 (calls t) (fill-at t) fill.Post Inv μ
+  end-at-requires-2 c κs = part-at (c .before .before .before .before .before .before .before .before .before) .3 .in-ends
 
   loop-less : fill-lts.Need-loop-less (calls t) (fill-at t) fill.Post Inv μ
-  loop-less c = let o = c .before .before .before .before .before .before .before .before .before .before .before in omega (arith, o .loop-test .taken, part-at o .3 .forth, c .wide2 .ensures, part-at o .3 .end-is)
+  loop-less c = let o = c .before .before .before .before .before .before .before .before .before .before in omega (arith, o .if2 .taken, part-at o .3 .forth, c .end-at2 .ensures, part-at o .3 .end-is)
 
   loop-again : fill-lts.Need-loop-again (calls t) (fill-at t) fill.Post Inv μ
   loop-again c =
-      let o = c .before .before .before .before .before .before .before .before .before .before .before in
-      let f = c .before .before .before .before .before .before .before .before in
-      let u = c .before .before .before .before in
-      let b = o .loop-test .taken in
+      let o = c .before .before .before .before .before .before .before .before .before .before in
+      let f = c .before .before .before .before .before .before .before in
+      let u = c .before .before .before in
+      let b = o .if2 .taken in
       let is = f .before .before .piece-at .ensures in
-      let l = o .before in (
+      let l = loop-at o in (
         u .union-within .kept .0 ∙ f .fill .kept .1 .1 .1 .0 ∙ l .loop .inv .0,
         λ s k S.
             let w = l .loop .inv .1 s k S in
-            more s _ k w b is (f .fill .ensures s (from-it s _ k w b is) (small s _ k w b is)) (u .union-within .ensures) _ (c .wide2 .ensures),
+            more s _ k w b is (f .fill .ensures s (from-it s _ k w b is) (small s _ k w b is)) (u .union-within .ensures) _ (c .end-at2 .ensures),
       )
 
   same-length-2 : fill-lts.Need-same-length-2 (calls t) (fill-at t) fill.Post Inv μ
-  same-length-2 c = c .before .loop .inv .0 ∙ sym (entry (set-at (c .before)) .pre .1 .0)
+  same-length-2 c = let l = c .before .before .before in l .loop .inv .0 ∙ sym (entry (set-at l) .pre .1 .0)
 
   returns-2 : fill-lts.Need-returns-2 (calls t) (fill-at t) fill.Post Inv μ
   returns-2 c =
-      let l = c .before in
+      let l = c .before .before .before in
       λ s F k. done s _ k (l .loop .inv .1 s k (begun (set-at l) s k F)) _ (omega arith) (set-at l .insert .ensures)
 
 pub +fill-spec : {M : Type 1} → statement M
 +fill-spec =
     close μ-fill λ t. fill-lts.spec (calls t) (fill-at t) fill.Post Inv μ
-    (test-requires t) (same-length t) (returns t) (insert-requires t) (place-of-requires t) (mul-wide t) (shared-slice-read-wide t) (wide-requires t) (add-q t) (loop-holds t) (piece-at-requires t) (fill-requires t) (union-within-requires t) (mul-wide-2 t) (shared-slice-read-wide-2 t) (wide-requires-2 t) (loop-less t) (loop-again t) (same-length-2 t) (returns-2 t)
+    (test-requires t) (same-length t) (returns t) (insert-requires t) (place-of-requires t) (add-t17 t) (end-at-requires t) (loop-holds t) (piece-at-requires t) (fill-requires t) (union-within-requires t) (end-at-requires-2 t) (loop-less t) (loop-again t) (same-length-2 t) (returns-2 t)

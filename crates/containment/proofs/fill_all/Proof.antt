@@ -9,10 +9,10 @@ use Rattle.containment.proofs.fill_all.Statement.{statement}
 use Rattle.containment.proofs.fill_all.Tie as tie
 
 abbrev Inv-loop : tie.InvT-loop
-Inv-loop n places ends pieces rows₀ h₀ rows h = (h ≤ n) × (length rows ≡ length rows₀) × ((s : Setting places ends pieces) → n ≡ s .n → All s rows₀ → FilledTo s rows h)
+Inv-loop n places ends turned rows₀ h₀ rows h = (h ≤ n) × (length rows ≡ length rows₀) × ((s : Setting places ends turned) → n ≡ s .n → All s rows₀ → FilledTo s rows h)
 
 abbrev μ-loop : tie.MeasureT-loop
-μ-loop n places ends pieces rows₀ h₀ rows h = n - h
+μ-loop n places ends turned rows₀ h₀ rows h = n - h
 
 loop-holds : tie.Need-loop-holds Inv-loop μ-loop
 loop-holds c = (search needs, refl, λ s e F. filled-none s _ F)

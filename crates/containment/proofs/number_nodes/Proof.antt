@@ -2,17 +2,17 @@ use borrow.Author.Needs.{needs}
 use native.Mathlib.Omega.{arith}
 use mathlib.Core.Path.{_≡_, refl}
 use Prim.Native.Nat.{_≤_, _<_, _-_}
-use lib.ListN.{length, length-set}
+use lib.ListN.{length}
 use Rattle.containment.proofs.Pieces.{Turned, turned-more}
 use borrow.Author.Count.{below-none}
 use Rattle.containment.proofs.number_nodes.Statement.{statement}
 use Rattle.containment.proofs.number_nodes.Tie as tie
 
 abbrev Inv-loop : tie.InvT-loop
-Inv-loop n places pieces₀ g₀ pieces g = (g ≤ n) × (length pieces ≡ length pieces₀) × Turned places pieces g
+Inv-loop n places pieces₀ g₀ turned g = (g ≤ n) × (length turned ≡ length pieces₀) × Turned places turned g
 
 abbrev μ-loop : tie.MeasureT-loop
-μ-loop n places pieces₀ g₀ pieces g = n - g
+μ-loop n places pieces₀ g₀ turned g = n - g
 
 loop-holds : tie.Need-loop-holds Inv-loop μ-loop
 loop-holds c = (search needs, refl, below-none _)
@@ -20,20 +20,14 @@ loop-holds c = (search needs, refl, below-none _)
 place-of-requires : tie.Need-place-of-requires Inv-loop μ-loop
 place-of-requires c κs = search needs
 
-cast-pieces : tie.Need-cast-pieces Inv-loop μ-loop
-cast-pieces c = search needs
-
 -- the place of a piece is in the table
-in-table : (c : tie.After-place-of Inv-loop μ-loop) → c .place-of .result .0 < length (c .before .before .loop .pieces)
+in-table : (c : tie.After-place-of Inv-loop μ-loop) → c .place-of .result .0 < length (c .before .before .loop .turned)
 in-table c =
     let A = c .before .before .before .before .before in
     omega (arith, c .place-of .ensures, A .pre .1 .small (c .before .before .loop .g) (omega arith))
 
-mul-pieces : tie.Need-mul-pieces Inv-loop μ-loop
-mul-pieces c = omega (arith, in-table c)
-
-slice-write-pieces : tie.Need-slice-write-pieces Inv-loop μ-loop
-slice-write-pieces c = in-table c
+set-piece-requires : tie.Need-set-piece-requires Inv-loop μ-loop
+set-piece-requires c κs = let A = c .before .before .before .before .before .before in (in-table (c .before), omega (arith, A .pre .0))
 
 add-g : tie.Need-add-g Inv-loop μ-loop
 add-g c = search needs
@@ -43,10 +37,12 @@ loop-less c = search needs
 
 loop-again : tie.Need-loop-again Inv-loop μ-loop
 loop-again c =
-    let A = c .before .before .before .before .before in (
+    let p = c .before .before .before .before in
+    let A = p .before .before .before .before .before in (
       search needs,
-      simp length-set (omega arith),
-      turned-more (A .args .n) _ _ (c .before .before .loop .pieces) _ _ (A .pre .1) (omega arith) (in-table c) (c .place-of .ensures) (c .before .before .loop .inv .2),
+      search needs,
+      rw (c .before .before .set-piece .ensures)
+          (turned-more (A .args .n) _ _ (p .before .before .loop .turned) _ _ (A .pre .1) (omega arith) (in-table p) (p .place-of .ensures) (p .before .before .loop .inv .2)),
     )
 
 same-length : tie.Need-same-length Inv-loop μ-loop
@@ -63,9 +59,7 @@ number-nodes-spec =
     μ-loop
     loop-holds
     place-of-requires
-    cast-pieces
-    mul-pieces
-    slice-write-pieces
+    set-piece-requires
     add-g
     loop-less
     loop-again

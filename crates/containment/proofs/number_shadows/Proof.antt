@@ -11,10 +11,10 @@ use Rattle.containment.proofs.number_shadows.Statement.{statement}
 use Rattle.containment.proofs.number_shadows.Tie as tie
 
 abbrev Inv-loop : tie.InvT-loop
-Inv-loop nodes marks shadows pieces₀ j₀ q₀ pieces j q = (q ≤ nodes) × (j ≤ q) × (length pieces ≡ length pieces₀) × Shadowed (bits marks) shadows pieces₀ pieces q j
+Inv-loop nodes marks shadows turned₀ j₀ q₀ turned j q = (q ≤ nodes) × (j ≤ q) × (length turned ≡ length turned₀) × Shadowed (bits marks) shadows turned₀ turned q j
 
 abbrev μ-loop : tie.MeasureT-loop
-μ-loop nodes marks shadows pieces₀ j₀ q₀ pieces j q = nodes - q
+μ-loop nodes marks shadows turned₀ j₀ q₀ turned j q = nodes - q
 
 loop-holds : tie.Need-loop-holds Inv-loop μ-loop
 loop-holds c = (search needs, search needs, refl, shadows-none 0 _ _ _)
@@ -44,7 +44,7 @@ marked : (c : tie.Else1 Inv-loop μ-loop) → getD (bits (c .before .before .bef
 marked c = sym (c .before .get .ensures) ∙ not-false _ (c .if1 .left)
 
 -- and the place for which it stands is in the table
-target : (c : tie.After-wide Inv-loop μ-loop) → c .wide .result < length (c .before .before .before .before .before .loop .pieces)
+target : (c : tie.After-wide Inv-loop μ-loop) → c .wide .result < length (c .before .before .before .before .before .loop .turned)
 target c =
     let e = c .before .before in
     let L = e .before .before .before .loop in
@@ -60,17 +60,17 @@ shared-slice-read-wide c =
 wide-requires : tie.Need-wide-requires Inv-loop μ-loop
 wide-requires c κs = search needs
 
-mul-pieces : tie.Need-mul-pieces Inv-loop μ-loop
-mul-pieces c = omega (arith, target c)
+mul-turned : tie.Need-mul-turned Inv-loop μ-loop
+mul-turned c = omega (arith, target c)
 
-slice-read-pieces : tie.Need-slice-read-pieces Inv-loop μ-loop
-slice-read-pieces c = omega (arith, target (c .before))
+slice-read-turned : tie.Need-slice-read-turned Inv-loop μ-loop
+slice-read-turned c = omega (arith, target (c .before))
 
-mul-pieces-2 : tie.Need-mul-pieces-2 Inv-loop μ-loop
-mul-pieces-2 c = search needs
+mul-turned-2 : tie.Need-mul-turned-2 Inv-loop μ-loop
+mul-turned-2 c = search needs
 
-slice-write-pieces : tie.Need-slice-write-pieces Inv-loop μ-loop
-slice-write-pieces c = search needs
+slice-write-turned : tie.Need-slice-write-turned Inv-loop μ-loop
+slice-write-turned c = search needs
 
 add-j : tie.Need-add-j Inv-loop μ-loop
 add-j c = search needs
@@ -112,10 +112,10 @@ number-shadows-spec =
     mul-wide
     shared-slice-read-wide
     wide-requires
-    mul-pieces
-    slice-read-pieces
-    mul-pieces-2
-    slice-write-pieces
+    mul-turned
+    slice-read-turned
+    mul-turned-2
+    slice-write-turned
     add-j
     add-q-2
     loop-less-2
