@@ -1,4 +1,4 @@
-// Rows 2 to 9 at 8,192 records: our function beside the same check in plain C, with the same filter in front of row 9, on the same book;
+// Rows 3 to 9 at 8,192 records: our function beside the same check in plain C, with the same filter in front of row 9, on the same book;
 // and beside C without the filter on the books that the filter serves worst.
 #include <stdint.h>
 #include <stdio.h>
@@ -22,7 +22,6 @@ static double now(void) {
 static inline __attribute__((always_inline)) int check(const uint8_t *s, size_t length, int filter) {
   static uint64_t keys[RECORDS];
   uint64_t seen[4096] = {0};
-  if (length == 0) return 2;
   if (length % 6) return 3;
   size_t n = length / 6;
   if (RECORDS < n) return 4;
@@ -107,14 +106,14 @@ static void scatter(void) {
 
 int main(void) {
   for (size_t i = 0; i < RECORDS; i++) put(i, 5, i % 2048, i);
-  compare("rows 2 to 9, 8192 TRAY records", c_check_book);
+  compare("rows 3 to 9, 8192 TRAY records", c_check_book);
   for (size_t i = 0; i < RECORDS; i++) put(i, 2 + i / 4096, i % 2048, i / 2048);
-  compare("rows 2 to 9, 8192 APART and MEETS records", c_check_book);
+  compare("rows 3 to 9, 8192 APART and MEETS records", c_check_book);
   put(RECORDS - 1, 2, 0, 0);
-  compare("rows 2 to 9, the last record repeats the first", c_check_book);
+  compare("rows 3 to 9, the last record repeats the first", c_check_book);
   scatter();
-  compare("rows 2 to 9, 8192 random records", c_check_book);
+  compare("rows 3 to 9, 8192 random records", c_check_book);
   crowd();
-  compare("rows 2 to 9, keys on 16 bits", c_check_book);
-  compare("rows 2 to 9, keys on 16 bits, C without a filter", c_check_unfiltered);
+  compare("rows 3 to 9, keys on 16 bits", c_check_book);
+  compare("rows 3 to 9, keys on 16 bits, C without a filter", c_check_unfiltered);
 }

@@ -19,7 +19,8 @@ extern "C" {
 /* The answer bytes. */
 enum { PIECEBOOK_FOLLOWS = 1, PIECEBOOK_DENIED = 2, PIECEBOOK_OPEN = 3 };
 
-/* number is 0 for an accepted book, or the number of the refusal, 1 to 14, whose record or claim is place; the counts are 0 for a refusal. */
+/* number is 0 for an accepted book, or the number of the refusal, 1 or 3 to 14, whose record or claim is place; the counts are 0 for a refusal.
+   A book of no bytes is piece 0 alone: accepted, with counts 1, 1 and 0. */
 typedef struct {
     size_t number;
     size_t place;

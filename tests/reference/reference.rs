@@ -66,11 +66,10 @@ fn fact(record: &Record) -> Option<Fact> {
     Some(Fact { kind, a: record.a, b: record.b })
 }
 
-/// Rows 2 to 9; the facts of a book that passes them, none for a TRAY, and the number of its pieces.
+/// Rows 3 to 9; the facts of a book that passes them, none for a TRAY, and the number of its pieces.
 fn read_book(book: &[u8]) -> Result<(Vec<Option<Fact>>, usize), Refusal> {
     let whole = |number| Err((number, 0));
     match book.len() {
-        0 => return whole(2),
         length if length % 6 != 0 => return whole(3),
         length if length > 8192 * 6 => return whole(4),
         _ => {}

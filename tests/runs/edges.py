@@ -1,4 +1,4 @@
-"""Document 01's edges: what each book must come to, from that document's rows and its list of edges."""
+"""Document 01's edges: what each book must come to, from that document's rows and its list of edges. A book of no bytes is piece 0 alone (R-1)."""
 
 
 def refused(number, place=0):
@@ -12,7 +12,9 @@ def accepted(pieces, pairs=0):
 
 
 EDGES = [
-    ("no-bytes", refused(2)),
+    ("no-bytes", accepted(1)),
+    ("no-bytes-claim-piece-0", accepted(1)),
+    ("no-bytes-claim-piece-1", refused(13)),
     ("ragged", refused(3)),
     ("8192-records", accepted(1)),
     ("8193-records", refused(4)),

@@ -1,4 +1,4 @@
-"""What records_run must print: document 01's rows 2 to 13 on books and claims that meet each of them.
+"""What records_run must print: document 01's rows 3 to 13 on books and claims that meet each of them.
 
 Every row is a condition on a whole record, taken from the table; a book's outcome is the least (place, row) that refuses.
 """
@@ -40,7 +40,7 @@ def claim_rows(claim, pieces):
 
 
 def book(data):
-    lengths = {2: not data, 3: len(data) % 6 != 0, 4: len(data) // 6 > 8192}
+    lengths = {3: len(data) % 6 != 0, 4: len(data) // 6 > 8192}
     for row in sorted(lengths):
         if lengths[row]:
             return f"{row} 0"
@@ -54,7 +54,7 @@ def book(data):
     if refusals:
         place, row = min(refusals)
         return f"{row} {place}"
-    return f"0 {max(pieces) + 1}"
+    return f"0 {max(pieces, default=0) + 1}"
 
 
 def claims(data, pieces):

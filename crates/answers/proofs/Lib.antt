@@ -4,3 +4,4 @@ pub mod Kept
 pub mod Judges
 pub mod Answering
 pub mod Calls
+pub mod Empty

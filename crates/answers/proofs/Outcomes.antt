@@ -10,13 +10,13 @@ use Rattle.lists.proofs.Bools.{Known, is-true, is-false, known}
 use Rattle.rules.specs.Entries.{shortestClash}
 use Rattle.records.specs.Record.{recordAt, records}
 use Rattle.records.specs.Refusal.{refusalNumber, row, judge, scan}
-use Rattle.records.specs.Rows.{emptyBook, ragged, moreThan, kindRow, tagRow, pieceRow, orderRow, repeatRow, beyondRow}
+use Rattle.records.specs.Rows.{ragged, moreThan, kindRow, tagRow, pieceRow, orderRow, repeatRow, beyondRow}
 use Rattle.records.specs.Check.{formFinding, recordFinding, bookCheck, claimsCheck, claimAt, claimFinding}
 use Rattle.records.specs.Facts.{entries}
 use Rattle.index.specs.Index.{visitsOf}
 use Rattle.records.specs.declared.Record.{Record}
 use Rattle.records.specs.declared.Refusal.{Refusal}
-use Rattle.records.specs.declared.Refusal.the-variants.{ShortBuffer, EmptyBook, BookLength, TooManyRecords, Kind, Tag, PieceNumber, Order, Repeat, ClaimsLength, TooManyClaims, ClaimFormat, ClaimPiece, Contradiction}
+use Rattle.records.specs.declared.Refusal.the-variants.{ShortBuffer, BookLength, TooManyRecords, Kind, Tag, PieceNumber, Order, Repeat, ClaimsLength, TooManyClaims, ClaimFormat, ClaimPiece, Contradiction}
 use Rattle.records.specs.declared.Finding.{Finding}
 use Rattle.records.specs.declared.Finding.the-variants.{Fit, Unfit}
 use Rattle.records.specs.declared.Claim.{Claim}
@@ -80,7 +80,7 @@ pub book-other : (s : List ℕ) → BookOther (bookCheck s)
 unfolding bookCheck
 book-other s =
     judged BookOther book.Refused (λ r i o. o) 0 _ (scanned BookOther book.Refused (λ r i o. o) _ tt (recordFinding s) (record-other s) 0 (records s)) _
-    (row-other (emptyBook s) EmptyBook _ (omega arith) (row-other (ragged s) BookLength _ (omega arith) (row-other (moreThan 8192 s) TooManyRecords _ (omega arith) fit-other)))
+    (row-other (ragged s) BookLength _ (omega arith) (row-other (moreThan 8192 s) TooManyRecords _ (omega arith) fit-other))
 
 abbrev pub ClaimsOther : ClaimsCheck → Type 0
 ClaimsOther claims.Accepted = Unit {0}
@@ -95,7 +95,6 @@ claims-other n cs =
 -- and none gives 0
 pub refused-positive : (r : Refusal) → refusalNumber r ≡ 0 → ⊥
 refused-positive ShortBuffer e = omega arith
-refused-positive EmptyBook e = omega arith
 refused-positive BookLength e = omega arith
 refused-positive TooManyRecords e = omega arith
 refused-positive Kind e = omega arith

@@ -157,6 +157,8 @@ fn contradicted() {
 
 fn main() {
     ask(b"no-bytes", b"", b"");
+    ask(b"no-bytes-claim-piece-0", b"", &[3u8, 0, 0, 0, 0, 0]);
+    ask(b"no-bytes-claim-piece-1", b"", &[3u8, 0, 0, 0, 1, 0]);
     ask(b"ragged", &[5u8, 0, 0, 0, 0], b"");
     full();
     ask(b"kind-6", &[6u8, 0, 0, 0, 0, 0], b"");

@@ -4,7 +4,7 @@ ghost use Rattle.records.specs.Check.{bookCheck};
 ghost use Rattle.exports.specs.Records.{bookNumber};
 use records::BookCheck;
 
-// The number of a book's first refusal by rows 2 to 9, or 0.
+// The number of a book's first refusal by rows 3 to 9, or 0.
 #[no_mangle]
 pub extern "C" fn records_check_book(book: &[u8]) -> u8
     ensures { λ n. ⌜ n ≡ bookNumber (bookCheck (now (book .entry))) ⌝ }

@@ -9,7 +9,7 @@ use libc::STDIN_FILENO;
 use libc::STDOUT_FILENO;
 use records::Record;
 
-// As much of the file book.rec as fits; nothing where it cannot be opened.
+// As much of the file book.rec as fits; nothing, the empty book, where it cannot be opened.
 fn read_book(book: &mut [u8]) -> usize
     ensures { λ r. ⌜ (Counts r (now (book .exit))) × (length (now (book .exit)) ≡ length (now (book .entry))) ⌝ }
 {

@@ -20,7 +20,7 @@ use Rattle.records.specs.declared.ClaimsCheck.the-variants as claims
 use Rattle.records.specs.Record.{recordAt, records}
 use Rattle.records.specs.Refusal.{row, scan}
 use Rattle.records.specs.Pieces.{stated, largest, pieceCount}
-use Rattle.records.specs.Rows.{emptyBook, ragged, moreThan, sameBytes, repeatRow, claimRow, beyondRow}
+use Rattle.records.specs.Rows.{ragged, moreThan, sameBytes, repeatRow, claimRow, beyondRow}
 use Rattle.records.specs.Check.{bookLength, formFinding, recordFinding, recordsCheck, bookCheck, read, claimAt, claimFinding, claimsLength, claimsCheck}
 use Rattle.records.specs.Facts.{saying, facts}
 use Rattle.records.proofs.Rows.{Formed, formed, row-fit, both-largest}
@@ -75,7 +75,6 @@ facts-within s f m =
 
 -- An accepted book of p pieces.
 pub record AcceptedBook (s : List ℕ) (p : ℕ) : Type 0 where
-  pub some : 1 ≤ records s
   pub few : records s ≤ 8192
   pub whole : length s ≡ 6 * records s
   pub count : p ≡ pieceCount s
@@ -95,15 +94,12 @@ pub accepted : (s : List ℕ) (p : ℕ) → bookCheck s ≡ book.Accepted p → 
 unfolding bookCheck
 accepted s p e =
     let j = judged (λ r. book.Refused r 0) (recordsCheck s (records s)) (bookLength s) (λ r. no-acceptance p r 0) e in
-    let l = row-fit (emptyBook s) _ _ (j .0) in
-    let m = row-fit (ragged s) _ _ (l .1) in
+    let m = row-fit (ragged s) _ _ (j .0) in
     let n = ltb-false 8192 (records s) (row-fit (moreThan 8192 s) _ _ (m .1) .0) in
-    let z = eqb-false (length s) 0 (l .0) in
     let w = eqb-true (length s % 6) 0 (not-false (eqb (length s % 6) 0) (m .0)) in
     let a = all-fit book.Refused (book.Accepted (pieceCount s)) (recordFinding s) (no-acceptance p) (records s) (j .1) in
     let q = a .0 in
     record {
-      some = omega arith;
       few = n;
       whole = omega arith;
       count = cc;

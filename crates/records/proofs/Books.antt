@@ -8,7 +8,7 @@ use native.Mathlib.Numerals.{add-one}
 use borrow.Author.Tests.{eq-eqb, ne-eqb, lt-ltb, le-ltb}
 use lib.ListN.{length}
 use Rattle.records.specs.declared.Refusal.{Refusal}
-use Rattle.records.specs.declared.Refusal.the-variants.{EmptyBook, BookLength, TooManyRecords, Repeat}
+use Rattle.records.specs.declared.Refusal.the-variants.{BookLength, TooManyRecords, Repeat}
 use Rattle.records.specs.declared.Finding.the-variants.{Fit, Unfit}
 use Rattle.records.specs.declared.BookCheck.the-variants.{Accepted, Refused}
 use Rattle.records.specs.Record.{recordAt, records}
@@ -57,22 +57,17 @@ module _ (s : List ℕ) (n : ℕ) where
     pub goes-on : i < n → recordFinding s i ≡ Fit → Left (i + 1)
     goes-on h e = sym (scan-pass Refused (Accepted (piecesUpTo s n)) (recordFinding s) i n h e) ∙ left
 
--- Rows 2 to 4, and a book that passes them.
+-- Rows 3 and 4, and a book that passes them.
 module _ (s : List ℕ) where
-  pub no-bytes : length s ≡ 0 → Refused EmptyBook 0 ≡ bookCheck s
+  pub uneven : (length s % 6 ≡ 0 → ⊥) → Refused BookLength 0 ≡ bookCheck s
   unfolding bookCheck
-  no-bytes e = simp (eq-eqb (length s) 0 e)
+  uneven r = simp (ne-eqb (length s % 6) 0 r)
 
-  module _ (some : length s ≡ 0 → ⊥) where
-    pub uneven : (length s % 6 ≡ 0 → ⊥) → Refused BookLength 0 ≡ bookCheck s
+  module _ (whole : length s % 6 ≡ 0) where
+    pub too-long : 8192 < records s → Refused TooManyRecords 0 ≡ bookCheck s
     unfolding bookCheck
-    uneven r = simp (ne-eqb (length s) 0 some, ne-eqb (length s % 6) 0 r)
+    too-long m = simp (eq-eqb (length s % 6) 0 whole, lt-ltb 8192 (records s) m)
 
-    module _ (whole : length s % 6 ≡ 0) where
-      pub too-long : 8192 < records s → Refused TooManyRecords 0 ≡ bookCheck s
-      unfolding bookCheck
-      too-long m = simp (ne-eqb (length s) 0 some, eq-eqb (length s % 6) 0 whole, lt-ltb 8192 (records s) m)
-
-      pub measured : records s ≤ 8192 → recordsCheck s (records s) ≡ bookCheck s
-      unfolding bookCheck
-      measured m = simp (ne-eqb (length s) 0 some, eq-eqb (length s % 6) 0 whole, le-ltb 8192 (records s) m)
+    pub measured : records s ≤ 8192 → recordsCheck s (records s) ≡ bookCheck s
+    unfolding bookCheck
+    measured m = simp (eq-eqb (length s % 6) 0 whole, le-ltb 8192 (records s) m)

@@ -6,7 +6,7 @@ use Rattle.lists.specs.Tab.{tab}
 use Rattle.lists.specs.Any.{anyBelow}
 use Rattle.rules.specs.Fact.{factOf}
 use Rattle.rules.specs.Examples.{session}
-use Rattle.records.specs.declared.Refusal.the-variants.{EmptyBook, BookLength, Kind, Tag, PieceNumber, Order, Repeat, ClaimsLength, ClaimFormat, ClaimPiece}
+use Rattle.records.specs.declared.Refusal.the-variants.{BookLength, Kind, Tag, PieceNumber, Order, Repeat, ClaimsLength, ClaimFormat, ClaimPiece}
 use Rattle.records.specs.declared.BookCheck.{BookCheck}
 use Rattle.records.specs.declared.BookCheck.the-variants.{Accepted, Refused}
 use Rattle.records.specs.declared.ClaimsCheck.{ClaimsCheck}
@@ -39,7 +39,7 @@ outcomes =
 
 outcomes-are :
     outcomes
-    ≡ Accepted 6 ∷ Refused EmptyBook 0 ∷ Refused BookLength 0 ∷ Accepted 2048 ∷ Refused PieceNumber 0 ∷ Refused PieceNumber 0 ∷ Accepted 4 ∷ Refused Order 0 ∷ Refused Order 0
+    ≡ Accepted 6 ∷ Accepted 1 ∷ Refused BookLength 0 ∷ Accepted 2048 ∷ Refused PieceNumber 0 ∷ Refused PieceNumber 0 ∷ Accepted 4 ∷ Refused Order 0 ∷ Refused Order 0
     ∷ Accepted 5 ∷ Refused Repeat 2 ∷ Refused Kind 1 ∷ Refused Kind 1 ∷ Refused Tag 0 ∷ Refused PieceNumber 0 ∷ []
 unfolding bookCheck scan recordFinding formFinding recordAt stated largest piecesUpTo sameBytes anyBelow
 outcomes-are = refl

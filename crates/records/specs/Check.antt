@@ -4,7 +4,7 @@ use Prim.Native.Nat.{ℕ}
 use mathlib.Core.Bool.{Bool, true, false}
 use mathlib.Core.List.{List}
 use Rattle.records.specs.declared.Record.{Record}
-use Rattle.records.specs.declared.Refusal.the-variants.{EmptyBook, BookLength, TooManyRecords, Kind, Tag, PieceNumber, Order, Repeat, ClaimsLength, TooManyClaims, ClaimFormat, ClaimPiece}
+use Rattle.records.specs.declared.Refusal.the-variants.{BookLength, TooManyRecords, Kind, Tag, PieceNumber, Order, Repeat, ClaimsLength, TooManyClaims, ClaimFormat, ClaimPiece}
 use Rattle.records.specs.declared.Finding.{Finding}
 use Rattle.records.specs.declared.Finding.the-variants.{Fit, Unfit}
 use Rattle.records.specs.declared.BookCheck.{BookCheck}
@@ -16,11 +16,11 @@ use Rattle.records.specs.declared.Claim.the-variants.{Sound, Unsound}
 use Rattle.records.specs.Record.{recordAt, records}
 use Rattle.records.specs.Refusal.{row, judge, scan}
 use Rattle.records.specs.Pieces.{piecesUpTo}
-use Rattle.records.specs.Rows.{emptyBook, ragged, moreThan, kindRow, tagRow, pieceRow, orderRow, repeatRow, claimRow, beyondRow}
+use Rattle.records.specs.Rows.{ragged, moreThan, kindRow, tagRow, pieceRow, orderRow, repeatRow, claimRow, beyondRow}
 
--- rows 2 to 4
+-- rows 3 and 4
 abbrev pub bookLength : List ℕ → Finding
-bookLength s = row (emptyBook s) EmptyBook (row (ragged s) BookLength (row (moreThan 8192 s) TooManyRecords Fit))
+bookLength s = row (ragged s) BookLength (row (moreThan 8192 s) TooManyRecords Fit)
 
 -- rows 5 to 8, which look at one record alone
 unfoldable pub formFinding : Record → Finding
@@ -34,7 +34,7 @@ recordFinding s i = judge Unfit (row (repeatRow s i) Repeat Fit) (formFinding (r
 abbrev pub recordsCheck : List ℕ → ℕ → BookCheck
 recordsCheck s n = scan book.Refused (book.Accepted (piecesUpTo s n)) (recordFinding s) 0 n
 
--- rows 2 to 9 of a book
+-- rows 3 to 9 of a book
 unfoldable pub bookCheck : List ℕ → BookCheck
 bookCheck s = judge (λ r. book.Refused r 0) (recordsCheck s (records s)) (bookLength s)
 

@@ -1,15 +1,14 @@
--- The numbers of the refusals, one for each row of document 01's table, and what one row says.
+-- The numbers of the refusals, one for each row of document 01's table but 2, which R-1 took away, and what one row says.
 -- Assumes nothing.
 use Prim.Native.Nat.{ℕ, zero, suc}
 use mathlib.Core.Bool.{Bool, true, false}
 use Rattle.records.specs.declared.Refusal.{Refusal}
-use Rattle.records.specs.declared.Refusal.the-variants.{ShortBuffer, EmptyBook, BookLength, TooManyRecords, Kind, Tag, PieceNumber, Order, Repeat, ClaimsLength, TooManyClaims, ClaimFormat, ClaimPiece, Contradiction}
+use Rattle.records.specs.declared.Refusal.the-variants.{ShortBuffer, BookLength, TooManyRecords, Kind, Tag, PieceNumber, Order, Repeat, ClaimsLength, TooManyClaims, ClaimFormat, ClaimPiece, Contradiction}
 use Rattle.records.specs.declared.Finding.{Finding}
 use Rattle.records.specs.declared.Finding.the-variants.{Fit, Unfit}
 
 abbrev pub refusalNumber : Refusal → ℕ
 refusalNumber ShortBuffer = 1
-refusalNumber EmptyBook = 2
 refusalNumber BookLength = 3
 refusalNumber TooManyRecords = 4
 refusalNumber Kind = 5

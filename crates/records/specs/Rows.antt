@@ -1,4 +1,4 @@
--- Document 01's rows 2 to 13, one definition each: true where the row refuses. Assumes nothing.
+-- Document 01's rows 3 to 13, one definition each: true where the row refuses. Assumes nothing.
 use Prim.Native.Nat.{ℕ, zero, suc, _+_, _*_, _%_}
 use mathlib.Core.Bool.{Bool, true, _&&_, _||_, not}
 use mathlib.Core.List.{List}
@@ -8,10 +8,6 @@ use Rattle.lists.specs.Any.{anyBelow}
 use Rattle.records.specs.declared.Record.{Record}
 use Rattle.records.specs.Record.{records}
 use Rattle.records.specs.Pieces.{stated, largest}
-
--- 2: no bytes
-abbrev pub emptyBook : List ℕ → Bool
-emptyBook s = eqb (length s) 0
 
 -- 3 and 10: not a multiple of 6
 abbrev pub ragged : List ℕ → Bool

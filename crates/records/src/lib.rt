@@ -1,4 +1,4 @@
-// The six-byte format: records and claims read from bytes, and rows 2 to 13 of document 01's table.
+// The six-byte format: records and claims read from bytes, and rows 3 to 13 of document 01's table.
 ghost use mathlib.Core.Path.{_≡_};
 ghost use Prim.Native.Nat.{ℕ, suc, max, _+_, _*_, _≤_, _<_};
 ghost use lib.ListN.{length, getD};
@@ -17,10 +17,9 @@ pub struct Record {
     pub b: usize,
 }
 
-// The rows of document 01's table, in order.
+// The rows of document 01's table, in order. Row 2 is gone: a book without records is piece 0 alone.
 pub enum Refusal {
     ShortBuffer,
-    EmptyBook,
     BookLength,
     TooManyRecords,
     Kind,
@@ -63,7 +62,6 @@ pub fn refusal_number(r: Refusal) -> u8
 {
     match r {
         Refusal::ShortBuffer => 1,
-        Refusal::EmptyBook => 2,
         Refusal::BookLength => 3,
         Refusal::TooManyRecords => 4,
         Refusal::Kind => 5,
@@ -230,13 +228,10 @@ fn check_records(book: &[u8], n: usize) -> BookCheck
     }
 }
 
-// Rows 2 to 9 of a book.
+// Rows 3 to 9 of a book.
 pub fn check_book(book: &[u8]) -> BookCheck
     ensures { λ r. ⌜ r ≡ bookCheck (now (book .entry)) ⌝ }
 {
-    if book.len() == 0 {
-        return BookCheck::Refused(Refusal::EmptyBook, 0);
-    }
     if book.len() % 6 != 0 {
         return BookCheck::Refused(Refusal::BookLength, 0);
     }

@@ -1,25 +1,22 @@
--- `records::check_book` meets its contract: rows 2 to 4 in order, then the records. Assumes nothing.
+-- `records::check_book` meets its contract: rows 3 and 4 in order, then the records. Assumes nothing.
 use mathlib.Core.Path.{_∙_}
 use native.Mathlib.Omega.{arith}
-use Rattle.records.proofs.Books.{no-bytes, uneven, too-long, measured}
+use Rattle.records.proofs.Books.{uneven, too-long, measured}
 use borrow.Author.Needs.{needs}
 use Rattle.records.proofs.check_book.Statement.{statement}
 use Rattle.records.proofs.check_book.Tie as tie
 
 returns : tie.Need-returns
-returns c = no-bytes _ (omega arith)
+returns c = uneven _ (λ e. omega arith)
 
 returns-2 : tie.Need-returns-2
-returns-2 c = uneven _ (λ e. omega arith) (λ e. omega arith)
-
-returns-3 : tie.Need-returns-3
-returns-3 c = too-long _ (λ e. omega arith) (omega arith) (omega arith)
+returns-2 c = too-long _ (omega arith) (omega arith)
 
 check-records-requires : tie.Need-check-records-requires
 check-records-requires c κs = search needs
 
-returns-4 : tie.Need-returns-4
-returns-4 c = c .check-records .ensures ∙ measured _ (λ e. omega arith) (omega arith) (omega arith)
+returns-3 : tie.Need-returns-3
+returns-3 c = c .check-records .ensures ∙ measured _ (omega arith) (omega arith)
 
 pub check-book-spec : {M : Type 1} → statement M
-check-book-spec = tie.close (tie.spec returns returns-2 returns-3 check-records-requires returns-4)
+check-book-spec = tie.close (tie.spec returns returns-2 check-records-requires returns-3)
