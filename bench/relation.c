@@ -7,13 +7,10 @@
 #include <time.h>
 
 #define WORDS 65536
-void relation_union_row(uint64_t *, size_t, size_t, const uint64_t *, size_t, size_t);
 void relation_union_within(uint64_t *, size_t, size_t, size_t);
 bool relation_meet(const uint64_t *, size_t, size_t, const uint64_t *, size_t, size_t);
-void relation_product(uint64_t *, size_t, const uint64_t *, size_t, const uint64_t *, size_t, size_t);
-void relation_transpose(uint64_t *, size_t, const uint64_t *, size_t, size_t);
 
-static uint64_t a[WORDS], b[WORDS], c[WORDS], d[WORDS];
+static uint64_t a[WORDS], b[WORDS], c[WORDS];
 
 static double now(void) {
   struct timespec t;
@@ -37,25 +34,6 @@ __attribute__((noinline)) static bool c_meet(const uint64_t *m, size_t r, const 
   for (size_t i = 0; i < 32; i++)
     if (m[r * 32 + i] & n[s * 32 + i]) return true;
   return false;
-}
-
-__attribute__((noinline)) static void c_product(uint64_t *dst, const uint64_t *x, const uint64_t *y, size_t n) {
-  for (size_t r = 0; r < n; r++)
-    for (size_t w = 0; w < 32; w++)
-      for (uint64_t v = x[r * 32 + w]; v; v &= v - 1) {
-        size_t s = w * 64 + __builtin_ctzll(v);
-        for (size_t i = 0; i < 32; i++) dst[r * 32 + i] |= y[s * 32 + i];
-      }
-}
-
-__attribute__((noinline)) static void c_transpose(uint64_t *dst, const uint64_t *src, size_t n) {
-  memset(dst, 0, WORDS * 8);
-  for (size_t r = 0; r < n; r++)
-    for (size_t w = 0; w < 32; w++)
-      for (uint64_t v = src[r * 32 + w]; v; v &= v - 1) {
-        size_t s = w * 64 + __builtin_ctzll(v);
-        dst[s * 32 + r / 64] |= (uint64_t)1 << (r % 64);
-      }
 }
 
 // the lower triangle, every one in `rare` bits of it
@@ -88,9 +66,6 @@ int main(void) {
   fill(a, 2);
   fill(b, 2);
   memset(c, 0, sizeof c);
-  BEST(ours, 100000, relation_union_row(c, WORDS, k % 2048, b, WORDS, (k * 7) % 2048));
-  BEST(plain, 100000, c_union_row(c, k % 2048, b, (k * 7) % 2048));
-  report("union of two rows", ours, plain);
   BEST(ours, 100000, relation_union_within(c, WORDS, k % 2048, (k * 7) % 2048));
   BEST(plain, 100000, c_union_row(c, k % 2048, c, (k * 7) % 2048));
   report("union of two rows of one matrix", ours, plain);
@@ -98,22 +73,5 @@ int main(void) {
   BEST(ours, 100000, sink += relation_meet(a, WORDS, k % 2048, b, WORDS, (k * 7) % 2048));
   BEST(plain, 100000, sink += c_meet(a, k % 2048, b, (k * 7) % 2048));
   report("meeting of two rows", ours, plain);
-  unsigned rare[] = {1, 16, 256};
-  for (int i = 0; i < 3; i++) {
-    char what[64];
-    fill(a, rare[i]);
-    memset(c, 0, sizeof c);
-    memset(d, 0, sizeof d);
-    BEST(ours, 1, relation_product(c, WORDS, a, WORDS, b, WORDS, 2048));
-    BEST(plain, 1, c_product(d, a, b, 2048));
-    if (memcmp(c, d, sizeof c)) return 1;
-    sprintf(what, "product, one bit in %u", 2 * rare[i]);
-    report(what, ours, plain);
-    BEST(ours, 1, relation_transpose(c, WORDS, a, WORDS, 2048));
-    BEST(plain, 1, c_transpose(d, a, 2048));
-    if (memcmp(c, d, sizeof c)) return 1;
-    sprintf(what, "transposition, one bit in %u", 2 * rare[i]);
-    report(what, ours, plain);
-  }
   return 0;
 }

@@ -14,7 +14,7 @@ use Rattle.lists.proofs.Bools.{and-both, both-and, or-either, left-or, right-or
 use Rattle.lists.proofs.Anys.{below-find, below-hit}
 use Rattle.relation.specs.Matrix.{bitOf, common, through, Multiplied}
 use Rattle.relation.specs.Flow.{Carried}
-use Rattle.relation.proofs.Columns.{cleared}
+use Rattle.relation.proofs.Cleared.{cleared}
 use Rattle.rules.specs.Fact.{Fact, PART, factOf, Within, AllWithin}
 use Rattle.rules.specs.Follows.{follows}
 use Rattle.rules.proofs.Facts.{storing-find}

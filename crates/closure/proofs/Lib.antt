@@ -8,4 +8,7 @@ pub mod Answering
 pub mod Parts
 pub mod Steps
 pub mod Halving
-pub mod Accepting
+pub mod Orders
+pub mod FactIndex
+pub mod Loads
+pub mod Settling

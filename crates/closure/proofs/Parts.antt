@@ -1,5 +1,5 @@
 -- The index of a list of facts, and D read off it. Assumes nothing.
-use Prim.Native.Nat.{ℕ, _+_, _<_, _≤_}
+use Prim.Native.Nat.{ℕ, _<_, _≤_}
 use mathlib.Core.Path.{_≡_, sym, _∙_}
 use mathlib.Core.Bool.{true, false, and-false}
 use mathlib.Core.List.{List}
@@ -12,15 +12,12 @@ use Rattle.lists.proofs.Bools.{same-truth}
 use Rattle.relation.specs.Matrix.{bitOf}
 use Rattle.rules.specs.Fact.{Fact, PART}
 use Rattle.rules.proofs.Decides.{follows-iff}
-use Rattle.containment.specs.Pairs.{joined, Book}
-use Rattle.containment.specs.Tree.{whole, visits}
-use Rattle.containment.specs.Index.{parenthesesOf, visitsOf, Room, Indexed}
+use Rattle.index.specs.Pairs.{joined, Book}
+use Rattle.index.specs.Index.{visitsOf, Room, Indexed}
 use Rattle.containment.specs.Contents.{Stored, Contents}
-use Rattle.containment.specs.Stored.{partIn}
-use Rattle.containment.specs.Matrix.{pairOf, Buildable}
-use Rattle.containment.proofs.Ranges.{parens-length}
-use Rattle.containment.proofs.Bounds.{nodes-bound, shadows-bound}
-use Rattle.containment.proofs.Derived as on
+use Rattle.closure.specs.PartIn.{partIn}
+use Rattle.index.specs.Matrix.{pairOf, Buildable}
+use Rattle.closure.proofs.FactIndex as on
 use Rattle.closure.specs.Stored.{storedBit}
 use Rattle.closure.specs.Bounded.{Bounded}
 use Rattle.closure.specs.Closed.{Holds, partBit}
@@ -44,18 +41,8 @@ module _ (n : ℕ) (fs : List Fact) (B : Bounded n fs) (O : Ordered fs) where
         on.buildable n fs (B .some) (B .within) (O .lower) m (M .sized) (B .fits) same b mb sc pc (R .parens) (R .marks) (R .shadows) (R .places) (omega (arith, R .few))
 
   module _ (b mb sc pc : ℕ) (R : Roomy n (length fs) b mb sc pc) where
-    nodes : length (visits (whole n (joined n (partIn fs)))) ≤ length fs + n
-    nodes = omega (arith, nodes-bound n (partIn fs) book, on.part-count n fs)
-
-    room : Room n (joined n (partIn fs)) b mb sc pc
-    unfolding parenthesesOf visitsOf
-    room =
-        record {
-          parens = omega (arith, nodes, parens-length (whole n (joined n (partIn fs))), R .parens);
-          marks = omega (arith, nodes, R .marks);
-          shadows = omega (arith, shadows-bound n (partIn fs) book, on.part-count n fs, R .shadows);
-          places = R .places;
-        }
+    pub room : Room n (joined n (partIn fs)) b mb sc pc
+    room = on.room n fs (B .some) (B .within) (O .lower) b mb sc pc (R .parens) (R .marks) (R .shadows) (R .places)
 
   -- the index as the reader of rows asks for it
   module _ (parens marks shadows places : List ℕ) (count shadowed : ℕ)
@@ -63,7 +50,7 @@ module _ (n : ℕ) (fs : List Fact) (B : Bounded n fs) (O : Ordered fs) where
       (I : Indexed n (joined n (partIn fs)) parens marks shadows places count shadowed) where
     pub few-nodes : count ≤ 18432
     unfolding visitsOf
-    few-nodes = omega (arith, I .nodes-are, nodes (length parens) (length marks) (length shadows) (length places) R, R .few)
+    few-nodes = omega (arith, I .nodes-are, on.nodes n fs (B .some) (B .within) (O .lower), R .few)
 
     pub index-stored : Stored n count parens marks shadows places
     index-stored =

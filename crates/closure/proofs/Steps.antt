@@ -12,12 +12,13 @@ use Rattle.lists.specs.Any.{anyBelow}
 use Rattle.lists.proofs.Bools.{and-both, both-and, or-either, left-or, right-or, same-truth}
 use Rattle.lists.proofs.Anys.{below-find, below-hit}
 use Rattle.relation.specs.Matrix.{bitOf}
-use Rattle.relation.specs.Flow.{Rising, Reached, along, against}
+use Rattle.relation.specs.Flow.{Reached, along, against}
 use Rattle.rules.specs.Fact.{Fact, PART, factOf}
 use Rattle.rules.proofs.Paths.{Path, here, top, up, path-trans, path-below}
 use Rattle.closure.specs.Stored.{storedBit, edgeBit}
 use Rattle.closure.specs.Bounded.{Bounded}
 use Rattle.closure.specs.Ordered.{Ordered}
+use Rattle.closure.specs.Order.{Rising}
 use Rattle.closure.specs.Closed.{Holds, partBit, wholeBit}
 use Rattle.closure.proofs.StoredBits.{swapped-find, swapped-hit}
 use Rattle.closure.proofs.Products.{path-above, d-path, path-d, u-path, path-u}

@@ -9,7 +9,7 @@ use lib.Dec.{eqb}
 use lib.ListN.{length, replicate}
 use Rattle.lists.specs.Any.{anyBelow}
 use Rattle.relation.specs.Matrix.{bitOf}
-use Rattle.relation.proofs.Columns.{cleared}
+use Rattle.relation.proofs.Cleared.{cleared}
 use Rattle.rules.specs.Fact.{AllWithin}
 use Rattle.records.specs.Record.{recordAt, records}
 use Rattle.records.specs.declared.Record.{Record}

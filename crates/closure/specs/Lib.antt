@@ -4,5 +4,10 @@ pub mod Bounded
 pub mod Ordered
 pub mod Opposed
 pub mod Opened
+pub mod Settled
+pub mod Contradiction
 pub mod Tells
 pub mod Answers
+pub mod Order
+pub mod PartIn
+pub mod Loaded

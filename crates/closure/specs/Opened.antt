@@ -5,9 +5,9 @@ use mathlib.Core.Bool.{Bool}
 use mathlib.Core.List.{List}
 use Rattle.rules.specs.Fact.{Fact}
 use Rattle.rules.specs.Follows.{clash}
-use Rattle.containment.specs.Pairs.{joined}
-use Rattle.containment.specs.Stored.{partIn}
-use Rattle.containment.specs.Index.{Indexed}
+use Rattle.index.specs.Pairs.{joined}
+use Rattle.closure.specs.PartIn.{partIn}
+use Rattle.index.specs.Index.{Indexed}
 use Rattle.closure.specs.Stored.{edgeBit}
 use Rattle.closure.specs.Closed.{Holds, partBit, towardBit}
 

@@ -1,22 +1,25 @@
 // Every answer from one closure: containment and the stored facts as bit matrices, their products, and what those say of claims.
 ghost use mathlib.Core.Path.{_≡_};
-ghost use mathlib.Core.Bool.{true, _&&_, _||_};
-ghost use Prim.Native.Nat.{_+_, _/_, _<_, _≤_};
+ghost use mathlib.Core.Bool.{Bool, true, _&&_, _||_};
+ghost use Prim.Native.Nat.{ℕ, _+_, _/_, _<_, _≤_};
 ghost use lib.Dec.{eqb, ltb};
 ghost use lib.ListN.{length};
 ghost use Rattle.rules.specs.Fact.{AllWithin};
 ghost use Rattle.rules.specs.Follows.{clash};
 ghost use Rattle.rules.specs.Entries.{shortestClash};
 ghost use Rattle.records.specs.Facts.{entries, facts};
-ghost use Rattle.containment.specs.Pairs.{joined};
-ghost use Rattle.containment.specs.Index.{Indexed};
-ghost use Rattle.containment.specs.Stored.{partIn};
+ghost use Rattle.index.specs.Pairs.{joined};
+ghost use Rattle.index.specs.Index.{Indexed};
+ghost use Rattle.closure.specs.PartIn.{partIn};
 ghost use Rattle.closure.specs.Stored.{storedBit, meetBit, edgeBit};
 ghost use Rattle.closure.specs.Closed.{Grown, Holds, partBit, wholeBit, towardBit, awayBit, outBit};
 ghost use Rattle.closure.specs.Bounded.{Bounded};
+ghost use Rattle.relation.specs.Flow.{Reached, Carried, along, against};
+ghost use Rattle.closure.specs.Order.{Rising, Falling};
 ghost use Rattle.closure.specs.Ordered.{Ordered, Roomy};
 ghost use Rattle.closure.specs.Opposed.{opposed};
 ghost use Rattle.closure.specs.Opened.{Opened};
+ghost use Rattle.closure.specs.Settled.{Settleable, Settles};
 ghost use Rattle.closure.specs.Tells.{Derived, Answered, Clashing};
 ghost use Rattle.closure.specs.Answers.{answerByte};
 use records::Record;
@@ -108,13 +111,45 @@ fn meets(run: &[u8], n: usize, m: &mut [u64])
     diagonal(n, m);
 }
 
+// The pieces from the last to the first: parts before their containers.
+fn last_first(n: usize, order: &mut [u16])
+    requires { ⌜ (n ≤ 2048) × (n ≤ length (now order)) ⌝ }
+    ensures { λ _. ⌜ Falling n (now (order .exit)) ⌝ }
+{
+    let mut i: usize = 0;
+    while i < n {
+        order[i] = (n - 1 - i) as u16;
+        i += 1;
+    }
+}
+
+// Each row below n becomes the union of the rows that it reaches along the steps.
+fn join_parts(n: usize, e: &[u64], m: &mut [u64])
+    requires { ⌜ (length (now e) ≡ 65536) × (length (now m) ≡ 65536) × (n ≤ 2048) × Rising (now e) n ⌝ }
+    ensures { λ _. ⌜ ((r : ℕ → ℕ → Bool) → Reached (along (now (e .entry))) n r → Carried r n (now (m .entry)) (now (m .exit))) ⌝ }
+{
+    let mut order = [0u16; 2048];
+    last_first(n, &mut order);
+    relation::join_along(e, &order, n, m);
+}
+
+// Each row below n becomes the union of the rows that it reaches against the steps.
+fn join_wholes(n: usize, e: &[u64], m: &mut [u64])
+    requires { ⌜ (length (now e) ≡ 65536) × (length (now m) ≡ 65536) × (n ≤ 2048) × Rising (now e) n ⌝ }
+    ensures { λ _. ⌜ ((r : ℕ → ℕ → Bool) → Reached (against (now (e .entry))) n r → Carried r n (now (m .entry)) (now (m .exit))) ⌝ }
+{
+    let mut order = [0u16; 2048];
+    last_first(n, &mut order);
+    relation::join_against(e, &order, n, m);
+}
+
 // T = D·M.
 pub fn meeting(run: &[u8], n: usize, e: &[u64], t: &mut [u64])
     requires { ⌜ Bounded n (facts (now run)) × Ordered (facts (now run)) × Holds (now e) (edgeBit n (facts (now run))) × (length (now t) ≡ 65536) ⌝ }
     ensures { λ _. ⌜ Holds (now (t .exit)) (towardBit n (facts (now (run .entry)))) ⌝ }
 {
     meets(run, n, t);
-    relation::join_along(e, n, t);
+    join_parts(n, e, t);
 }
 
 // P = U·A.
@@ -123,7 +158,7 @@ fn parting(run: &[u8], n: usize, e: &[u64], p: &mut [u64])
     ensures { λ _. ⌜ Holds (now (p .exit)) (awayBit n (facts (now (run .entry)))) ⌝ }
 {
     store(run, 2, true, true, p);
-    relation::join_against(e, n, p);
+    join_wholes(n, e, p);
 }
 
 // Q = D·N ∪ T·P, as D·(N ∪ M·P): M has few bits. m is scratch.
@@ -134,7 +169,7 @@ fn outing(run: &[u8], n: usize, e: &[u64], p: &[u64], m: &mut [u64], q: &mut [u6
     meets(run, n, m);
     store(run, 4, true, false, q);
     relation::product(q, m, p, n);
-    relation::join_along(e, n, q);
+    join_parts(n, e, q);
 }
 
 // U, P and Q.
@@ -146,7 +181,7 @@ pub fn complete(run: &[u8], n: usize, e: &[u64], u: &mut [u64], p: &mut [u64], q
     outing(run, n, e, p, u, q);
     relation::clear(u);
     diagonal(n, u);
-    relation::join_against(e, n, u);
+    join_wholes(n, e, u);
 }
 
 // Whether the closure contradicts a record.
@@ -164,7 +199,7 @@ fn opposes(r: Record, d: &[u64], t: &[u64]) -> bool
 }
 
 // Whether the run is contradictory, where d and t are those of its facts: only stored facts are looked at.
-pub fn clashes(run: &[u8], d: &[u64], t: &[u64]) -> bool
+fn clashes(run: &[u8], d: &[u64], t: &[u64]) -> bool
     requires { ⌜ (length (now d) ≡ 65536) × (length (now t) ≡ 65536) × AllWithin 2048 (facts (now run)) ⌝ }
     ensures { λ b. ⌜ Clashing (facts (now (run .entry))) (now (d .entry)) (now (t .entry)) b ⌝ }
 {
@@ -238,12 +273,12 @@ pub fn index_of(
     marks: &mut [u8],
     shadows: &mut [u16],
     places: &mut [u16],
-) -> containment::Counts
+) -> index::Counts
     requires { ⌜ Bounded n (facts (now run)) × Ordered (facts (now run)) × Roomy n (length (now run) / 6) (length (now parens)) (length (now marks)) (length (now shadows)) (length (now places)) × (length (now x) ≡ 65536) ⌝ }
     ensures { λ r. ⌜ Indexed n (joined n (partIn (facts (now (run .entry))))) (now (parens .exit)) (now (marks .exit)) (now (shadows .exit)) (now (places .exit)) (r .nodes) (r .shadows) ⌝ }
 {
     store(run, 1, false, true, x);
-    containment::build(n, x, parens, marks, shadows, places)
+    index::build(n, x, parens, marks, shadows, places)
 }
 
 // The same, and D read off the index.
@@ -256,25 +291,25 @@ pub fn contained(
     shadows: &mut [u16],
     places: &mut [u16],
     d: &mut [u64],
-) -> containment::Counts
+) -> index::Counts
     requires { ⌜ Bounded n (facts (now run)) × Ordered (facts (now run)) × Roomy n (length (now run) / 6) (length (now parens)) (length (now marks)) (length (now shadows)) (length (now places)) × (length (now x) ≡ 65536) × (length (now d) ≡ 65536) ⌝ }
     ensures { λ r. ⌜ Indexed n (joined n (partIn (facts (now (run .entry))))) (now (parens .exit)) (now (marks .exit)) (now (shadows .exit)) (now (places .exit)) (r .nodes) (r .shadows) × Holds (now (d .exit)) (partBit n (facts (now (run .entry)))) ⌝ }
 {
     let counts = index_of(run, n, x, parens, marks, shadows, places);
     let nodes = counts.nodes;
-    containment::contents::contents(n, nodes, parens, marks, shadows, places, d);
+    containment::contents(n, nodes, parens, marks, shadows, places, d);
     counts
 }
 
 // What the first half of a closure finds.
-pub struct Begun {
-    pub nodes: usize,
-    pub shadows: usize,
-    pub clash: bool,
+struct Begun {
+    nodes: usize,
+    shadows: usize,
+    clash: bool,
 }
 
 // The first half of a closure: the index, the steps, D and T of the run, and whether it is contradictory.
-pub fn begin(
+fn begin(
     run: &[u8],
     n: usize,
     e: &mut [u64],
@@ -301,7 +336,7 @@ pub fn begin(
 
 // The place of the contradiction in a contradictory book: the last record of the shortest contradictory run from the start, found by halving, since
 // contradiction only grows with the run. All that is lent is scratch.
-pub fn contradiction(
+fn contradiction(
     book: &[u8],
     n: usize,
     e: &mut [u64],
@@ -328,4 +363,33 @@ pub fn contradiction(
         low = mid;
     }
     low
+}
+
+// What row 14 says of a run: free, with the counts of nodes and shadows of its index; or contradictory, with the place.
+pub enum Settled {
+    Free(usize, usize),
+    Clash(usize),
+}
+
+// Settles row 14 of a run, with its index, steps, D and T where it is free.
+pub fn settle(
+    run: &[u8],
+    n: usize,
+    e: &mut [u64],
+    d: &mut [u64],
+    t: &mut [u64],
+    parens: &mut [u8],
+    marks: &mut [u8],
+    shadows: &mut [u16],
+    places: &mut [u16],
+) -> Settled
+    requires { ⌜ Settleable n (now run) (length (now parens)) (length (now marks)) (length (now shadows)) (length (now places)) × (length (now e) ≡ 65536) × (length (now d) ≡ 65536) × (length (now t) ≡ 65536) ⌝ }
+    ensures { λ r. ⌜ Settles n (now (run .entry)) (now (parens .exit)) (now (marks .exit)) (now (shadows .exit)) (now (places .exit)) (now (e .exit)) (now (d .exit)) (now (t .exit)) r ⌝ }
+{
+    let begun = begin(run, n, e, d, t, parens, marks, shadows, places);
+    if begun.clash {
+        let place = contradiction(run, n, e, d, t, parens, marks, shadows, places);
+        return Settled::Clash(place);
+    }
+    Settled::Free(begun.nodes, begun.shadows)
 }

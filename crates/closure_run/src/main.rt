@@ -2,10 +2,9 @@
 ghost use mathlib.Core.Path.{_≡_};
 ghost use Prim.Native.Nat.{_+_, _*_, _/_, _≤_, _<_};
 ghost use lib.ListN.{length};
-ghost use Rattle.records.specs.Facts.{facts};
-ghost use Rattle.closure.specs.Bounded.{Bounded};
-ghost use Rattle.closure.specs.Ordered.{Ordered};
+ghost use Rattle.closure.specs.Settled.{Settleable};
 use closure::Answer;
+use closure::Settled;
 use libc::STDOUT_FILENO;
 use records::BookCheck;
 use records::Claim;
@@ -134,13 +133,13 @@ fn decide(
     t: &mut [u64],
     q: &mut [u64],
 )
-    requires { ⌜ Bounded n (facts (now book)) × Ordered (facts (now book)) × (length (now book) / 6 ≤ 8192) × (length (now e) ≡ 65536) × (length (now d) ≡ 65536) × (length (now u) ≡ 65536) × (length (now p) ≡ 65536) × (length (now t) ≡ 65536) × (length (now q) ≡ 65536) ⌝ }
+    requires { ⌜ Settleable n (now book) 2560 1280 8192 2048 × (length (now e) ≡ 65536) × (length (now d) ≡ 65536) × (length (now u) ≡ 65536) × (length (now p) ≡ 65536) × (length (now t) ≡ 65536) × (length (now q) ≡ 65536) ⌝ }
 {
     let mut parens = [0u8; 2560];
     let mut marks = [0u8; 1280];
     let mut shadows = [0u16; 8192];
     let mut places = [0u16; 2048];
-    let begun = closure::begin(
+    let settled = closure::settle(
         book,
         n,
         e,
@@ -151,23 +150,14 @@ fn decide(
         &mut shadows,
         &mut places,
     );
-    if begun.clash {
-        print_clash(closure::contradiction(
-            book,
-            n,
-            e,
-            d,
-            t,
-            &mut parens,
-            &mut marks,
-            &mut shadows,
-            &mut places,
-        ));
-        return;
+    match settled {
+        Settled::Clash(place) => print_clash(place),
+        Settled::Free(_, _) => {
+            closure::complete(book, n, e, u, p, q);
+            lines(claims, n, d, u, p, t, q);
+            answers(n, d, u, p, t, q);
+        }
     }
-    closure::complete(book, n, e, u, p, q);
-    lines(claims, n, d, u, p, t, q);
-    answers(n, d, u, p, t, q);
 }
 
 // The first so many bytes as a book.

@@ -8,20 +8,20 @@ use native.Mathlib.Omega.{arith}
 use native.Mathlib.Nat.{zero-add}
 use native.Mathlib.Numerals.{one-add}
 use lib.ListN.{length, getD, length-append, length-map, List·getD-map, List·getD-append}
-use lib.Seq.{getD-append-add, getD-append-seam}
-use borrow.Author.Tests.{eq-eqb}
-use Rattle.containment.specs.Tree.{Visit, node, shadow, under, whole, visits}
-use Rattle.containment.specs.Parts.{parens, isNode, isShadow, place, marks, shadows, shadowList}
-use Rattle.containment.proofs.Numbers.{_∈_, which}
+use lib.Seq.{getD-append-add}
+use Rattle.index.specs.Tree.{Visit, node, shadow, under, whole, visits}
+use Rattle.index.specs.Parts.{parens, isShadow, place, marks, shadows, shadowList}
+use Rattle.lists.proofs.Numbers.{_∈_}
 use Rattle.parentheses.specs.Rank.{rank}
 use Rattle.parentheses.specs.Subtree.{after}
 use Rattle.parentheses.proofs.Ranks.{rank-zero}
 use Rattle.parentheses.proofs.Trees.{rank-cons}
-use Rattle.containment.specs.Pairs.{Book, Within, self, step}
-use Rattle.containment.proofs.Nodes.{times, once}
-use Rattle.containment.proofs.Below.{piece, within-trans, within-le, Seen, under-mem, part-seen, node-part-seen}
+use Rattle.index.specs.Pairs.{Book, Within, self, step}
+use Rattle.index.proofs.Nodes.{once}
+use Rattle.index.proofs.Below.{piece, within-trans, within-le, Seen, under-mem, part-seen, node-part-seen}
 use Rattle.containment.specs.Inside.{Inside, below, through}
-use Rattle.containment.proofs.Places.{Stand, stand, stand-place, stand-after}
+use Rattle.index.proofs.Places.{Stand, stand, stand-place, stand-after}
+use Rattle.index.proofs.Standing.{place-only, node-at}
 
 -- ## Lists of visits
 
@@ -52,23 +52,6 @@ shadow-at f (shadow p ∷ vs) Y zs zero h e = let q : p ≡ h = cc in rw (rank-z
 shadow-at f (node p ∷ vs) Y zs (suc s) h e = rw (rank-cons false (marks vs ++ Y) s, zero-add (rank (marks vs ++ Y) s)) (shadow-at f vs Y zs s h e)
 shadow-at f (shadow p ∷ vs) Y zs (suc s) h e = rw (rank-cons true (marks vs ++ Y) s, one-add (rank (marks vs ++ Y) s)) (shadow-at f vs Y zs s h e)
 
--- where a node stands is its place, if it stands once
-times-at : (g : ℕ) (vs : List Visit) (s : ℕ) → s < length vs → at vs s ≡ node g → 1 ≤ times g vs
-unfolding times isNode
-times-at g [] s l e = absurd (omega arith)
-times-at g (v ∷ vs) zero l e = rw (e, eq-eqb g g refl) (omega arith)
-times-at g (v ∷ vs) (suc s) l e = omega (arith, times-at g vs s (omega arith) e)
-
-pub place-only : (g : ℕ) (vs : List Visit) (s : ℕ) → times g vs ≡ 1 → s < length vs → at vs s ≡ node g → place vs g ≡ s
-unfolding times isNode place
-place-only g [] s t l e = absurd (omega arith)
-place-only g (v ∷ vs) zero t l e = rw (e, eq-eqb g g refl, place)
-place-only g (v ∷ vs) (suc s) t l e = go (which (isNode g v)) (λ (u : times g vs ≡ 1). place-only g vs s u (omega arith) e)
-  where
-    go : (isNode g v ≡ true) ⊎ (isNode g v ≡ false) → (times g vs ≡ 1 → place vs g ≡ s) → place (v ∷ vs) g ≡ suc s
-    go (inl w) r = absurd (omega (arith, rw w at t, times-at g vs s (omega arith) e))
-    go (inr w) r = rw (w, place) (ap suc (r (omega (arith, rw w at t))))
-
 shadow-of : (v : Visit) → isShadow v ≡ true → (h : ℕ) × (v ≡ shadow h)
 unfolding isShadow
 shadow-of (node p) e = absurd (true≢false (sym e))
@@ -81,15 +64,6 @@ module _ (n : ℕ) (edge : ℕ → ℕ → Bool) where
   W = visits (whole n edge)
 
   module _ (B : Book n edge) where
-    pub node-at : (g : ℕ) → g < n → at W (place W g) ≡ node g
-    node-at g l = let S = stand n edge B g l in
-        rw (stand-place n edge B g l S) (ap (λ (vs : List Visit). at vs (length (S .before))) (S .visited)
-        ∙ getD-append-seam (S .before) (node g) (visits (under n edge (S .deep) g) ++ S .beyond) (node 0))
-
-    pub place-small : (g : ℕ) → g < n → place W g < length W
-    place-small g l = let S = stand n edge B g l in
-        omega (arith, stand-place n edge B g l S, ap length (S .visited), length-append (S .before) (node g ∷ (visits (under n edge (S .deep) g) ++ S .beyond)))
-
     -- whatever stands after the parts of the index, as the zeros of lent parts do
     module _ (Z Y : List Bool) (zs : List ℕ) where
       abbrev P : List Bool
@@ -102,7 +76,7 @@ module _ (n : ℕ) (edge : ℕ → ℕ → Bool) where
       InIndex p q = Inside (parens (whole n edge) ++ Z) (marks (visits (whole n edge)) ++ Y) (shadowList (visits (whole n edge)) ++ zs) p q
 
       -- the places of h's range hold the tree of h, and nothing else
-      module _ (h : ℕ) (l : h < n) (S : Stand n edge h) where
+      module _ (h : ℕ) (l : h < n) (S : Stand n edge (B .level) h) where
         pub range-tree : (s : ℕ) → place W h ≤ s → s < after P (place W h) → at W s ∈ node h ∷ visits (under n edge (S .deep) h)
         range-tree s a b =
             Memᴰ·cast
@@ -147,21 +121,21 @@ module _ (n : ℕ) (edge : ℕ → ℕ → Bool) where
 
       -- what a marked place in h's range leads to
       module _ (h : ℕ) (l : h < n) (s : ℕ) (a : place W h ≤ s) (b : s < after P (place W h)) (m : getD M s false ≡ true) where
-        pub target : (k : ℕ) × (k < n) × Within edge k h × (h < k) × (getD (shadowList W ++ zs) (rank M s) 0 ≡ place W k)
+        pub target : (k : ℕ) × (k < n) × Within edge k h × (B .level h < B .level k) × (getD (shadowList W ++ zs) (rank M s) 0 ≡ place W k)
         unfolding shadowList piece
         target = go (shadow-of (at W s) dark)
           where
-            S : Stand n edge h
+            S : Stand n edge (B .level) h
             S = stand n edge B h l
 
             dark : isShadow (at W s) ≡ true
             dark = unfold marks isShadow in sym (List·getD-map isShadow W s (node 0)) ∙ sym (List·getD-append (map isShadow W) Y false s (rw (length-map W isShadow) (range-small h l S s b))) ∙ m
 
-            go : (k : ℕ) × (at W s ≡ shadow k) → (k : ℕ) × (k < n) × Within edge k h × (h < k) × (getD (map (place W) (shadows W) ++ zs) (rank M s) 0 ≡ place W k)
+            go : (k : ℕ) × (at W s ≡ shadow k) → (k : ℕ) × (k < n) × Within edge k h × (B .level h < B .level k) × (getD (map (place W) (shadows W) ++ zs) (rank M s) 0 ≡ place W k)
             go (k, e) = split (List·Memᴰ·cases-cons (Memᴰ·cast (sym e) (range-tree h l S s a b)))
               where
                 split : (shadow k ≡ node h) ⊎ (shadow k ∈ visits (under n edge (S .deep) h))
-                    → (k : ℕ) × (k < n) × Within edge k h × (h < k) × (getD (map (place W) (shadows W) ++ zs) (rank M s) 0 ≡ place W k)
+                    → (k : ℕ) × (k < n) × Within edge k h × (B .level h < B .level k) × (getD (map (place W) (shadows W) ++ zs) (rank M s) 0 ≡ place W k)
                 split (inl w) = let z : true ≡ false = cc in absurd (true≢false z)
                 split (inr i) = let f = under-mem n edge B (S .deep) h i in (k, B .piece k (f .0) (f .1), step (f .1) (f .2), omega (arith, B .lower k (f .0) (f .1), within-le n edge B (f .2)), shadow-at (place W) W Y zs s k e)
 
@@ -177,7 +151,7 @@ module _ (n : ℕ) (edge : ℕ → ℕ → Bool) where
       inside-within : {p q : ℕ} → InIndex p q → (h g : ℕ) → h < n → g < n → p ≡ place W h → q ≡ place W g → Within edge g h
       inside-within (below a b) h g lh lg eh eg =
           let S = stand n edge B h lh in
-          tree-within (S .deep) h g (Memᴰ·cast (sym (node-at g lg)) (range-tree h lh S (place W g) (omega arith) (rw (eh, eg) at b)))
+          tree-within (S .deep) h g (Memᴰ·cast (sym (node-at n edge B g lg)) (range-tree h lh S (place W g) (omega arith) (rw (eh, eg) at b)))
       inside-within (through s a b m i) h g lh lg eh eg =
           let t = target h lh s (omega arith) (rw eh at b) m in
           within-trans (inside-within i (t .0) g (t .1) lg (t .4) eg) (t .2)
@@ -195,14 +169,14 @@ module _ (n : ℕ) (edge : ℕ → ℕ → Bool) where
       range-part : (h g : ℕ) (l : h < n) (lg : g < n) → Seen g (visits (under n edge (stand n edge B h l .deep) h)) → InIndex (place W h) (place W g)
       range-part h g l lg (inl i) = go (tree-range h l S (there i))
         where
-          S : Stand n edge h
+          S : Stand n edge (B .level) h
           S = stand n edge B h l
 
           go : (s : ℕ) × (place W h ≤ s) × (s < after P (place W h)) × (at W s ≡ node g) × (s < length W) → InIndex (place W h) (place W g)
           go (s, a, b, e, w) = rw (place-only g W s (once n edge B g lg) w e) (below a b)
       range-part h g l lg (inr i) = go (tree-range h l S (there i))
         where
-          S : Stand n edge h
+          S : Stand n edge (B .level) h
           S = stand n edge B h l
 
           go : (s : ℕ) × (place W h ≤ s) × (s < after P (place W h)) × (at W s ≡ shadow g) × (s < length W) → InIndex (place W h) (place W g)
@@ -210,9 +184,9 @@ module _ (n : ℕ) (edge : ℕ → ℕ → Bool) where
 
       inside-part : {p q : ℕ} → InIndex p q → (h c g : ℕ) → h < n → c < n → g < n → edge g c ≡ true → p ≡ place W h → q ≡ place W c → InIndex p (place W g)
       inside-part (below a b) h c g lh lc lg e eh ec =
-          rw eh (split (List·Memᴰ·cases-cons (Memᴰ·cast (sym (node-at c lc)) (range-tree h lh S (place W c) (omega arith) (rw (eh, ec) at b)))))
+          rw eh (split (List·Memᴰ·cases-cons (Memᴰ·cast (sym (node-at n edge B c lc)) (range-tree h lh S (place W c) (omega arith) (rw (eh, ec) at b)))))
         where
-          S : Stand n edge h
+          S : Stand n edge (B .level) h
           S = stand n edge B h lh
 
           split : (node c ≡ node h) ⊎ (node c ∈ visits (under n edge (S .deep) h)) → InIndex (place W h) (place W g)
@@ -225,8 +199,8 @@ module _ (n : ℕ) (edge : ℕ → ℕ → Bool) where
       within-inside : {g h : ℕ} → Within edge g h → h < n → g < n → InIndex (place W h) (place W g)
       within-inside (self {g = g}) lh lg = itself g lg
       within-inside (step {g = g} {c = c} {h = h} e w) lh lg =
-          let lt = B .lower g c e in
-          inside-part (within-inside w lh (omega arith)) h c g lh (omega arith) lg e refl refl
+          let lc = B .whole g c e in
+          inside-part (within-inside w lh lc) h c g lh lc lg e refl refl
 
       -- THE THEOREM: the index says of two pieces what the book's facts say
       pub contains : (h g : ℕ) → h < n → g < n → InIndex (place W h) (place W g) ↔ Within edge g h

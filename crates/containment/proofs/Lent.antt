@@ -3,21 +3,21 @@ use mathlib.Core.Path.{_≡_, sym, ap, _∙_}
 use mathlib.Core.Logic.{_↔_}
 use mathlib.Core.Bool.{Bool, false}
 use mathlib.Core.List.{List}
-use Prim.Native.Nat.{ℕ, suc, _+_, _*_, _-_, _<_}
+use Prim.Native.Nat.{ℕ, suc, _+_, _*_, _-_, _≤_, _<_}
 use native.Mathlib.Omega.{arith}
-use lib.ListN.{length, getD, replicate, length-map}
+use lib.ListN.{length, take, getD, replicate, length-map}
 use Rattle.lists.proofs.Tabs.{tab-at}
 use Rattle.parentheses.specs.Bits.{bits}
 use Rattle.parentheses.specs.Padded.{padded}
 use Rattle.parentheses.specs.Subtree.{after}
-use Rattle.containment.specs.Pairs.{Book, Within}
-use Rattle.containment.specs.Tree.{whole, visits, under}
-use Rattle.containment.specs.Parts as on
-use Rattle.containment.specs.Parts.{place, placeList, shadowList}
-use Rattle.containment.specs.Index.{parenthesesOf, visitsOf, Room, Indexed}
+use Rattle.index.specs.Pairs.{Book, Within}
+use Rattle.index.specs.Tree.{whole, visits, under}
+use Rattle.index.specs.Parts as on
+use Rattle.index.specs.Parts.{place, placeList, shadowList}
+use Rattle.index.specs.Index.{parenthesesOf, visitsOf, Room, Indexed}
 use Rattle.containment.specs.Inside.{Inside}
-use Rattle.containment.proofs.Packing.{packed-is, padded-at}
-use Rattle.containment.proofs.Places.{stand, stand-after}
+use Rattle.index.proofs.Packing.{packed-is, packed-cut, padded-at}
+use Rattle.index.proofs.Places.{stand, stand-after}
 use Rattle.containment.proofs.Contains.{contains}
 
 module _
@@ -27,6 +27,12 @@ module _
   pub parens-bits : bits parens ≡ padded false (8 * length parens) (on.parens (whole n edge))
   unfolding parenthesesOf
   parens-bits = ap bits (I .parens-are) ∙ packed-is (length parens) (on.parens (whole n edge)) (R .parens)
+
+  -- and of the bytes that hold them
+  pub cut-bits : (k : ℕ) → k ≤ length parens → length (on.parens (whole n edge)) ≤ 8 * k → bits (take k parens) ≡ padded false (8 * k) (on.parens (whole n edge))
+  unfolding parenthesesOf
+  cut-bits k l r =
+      ap (λ (x : List ℕ). bits (take k x)) (I .parens-are) ∙ ap bits (packed-cut (length parens) (on.parens (whole n edge)) k l) ∙ packed-is k (on.parens (whole n edge)) r
 
   pub marks-bits : bits marks ≡ padded false (8 * length marks) (on.marks (visits (whole n edge)))
   unfolding visitsOf on.marks

@@ -8,7 +8,8 @@ use native.Mathlib.Omega.{arith}
 use borrow.Author.Count.{below-more}
 use lib.ListN.{length, getD, set}
 use lib.Seq.{getD-set-same, getD-set-other}
-use Rattle.parentheses.specs.Rank.{rank, num}
+use Rattle.lists.specs.Tally.{num}
+use Rattle.parentheses.specs.Rank.{rank}
 use Rattle.parentheses.proofs.Ranks.{rank-suc, rank-zero}
 use Rattle.containment.specs.Contents.{leads, Apart, StandsFor}
 

@@ -1,29 +1,30 @@
 -- The row of a piece while it is being filled: what the walk along the parts that hang from its node has joined. Assumes nothing.
 use mathlib.Core.Path.{_≡_, refl, sym, ap, subst, _∙_}
 use mathlib.Core.Logic.{_⊎_, inl, inr}
-use mathlib.Core.Bool.{Bool, true, false, true≢false, false≢true}
+use mathlib.Core.Bool.{Bool, true, false, not, true≢false, false≢true}
 use mathlib.Core.List.{List, [], _∷_, _++_, List·Memᴰ·head as here, List·Memᴰ·tail as there, List·Memᴰ·cases-cons, List·Memᴰ·not-nil}
 use Prim.Native.Nat.{ℕ, zero, suc, _+_, _-_, _≤_, _<_}
-use native.Mathlib.Decide.{ℕ-discrete, decLt, decLe}
+use native.Mathlib.Decide.{ℕ-discrete, decLe}
 use native.Mathlib.Omega.{arith}
 use borrow.Author.Count.{below-more}
 use lib.Dec.{eqb}
 use lib.ListN.{length, getD, replicate, length-append}
-use Rattle.lists.proofs.Bools.{or-either, left-or, right-or, known}
-use Rattle.parentheses.specs.Subtree.{after}
-use Rattle.relation.proofs.Columns.{cleared}
+use Rattle.lists.proofs.Bools.{or-either, left-or, right-or}
+use Rattle.relation.proofs.Cleared.{cleared}
 use Rattle.relation.specs.Matrix.{bitOf, Inserted, United}
-use Rattle.containment.specs.Pairs.{parts, Within, self, step}
-use Rattle.containment.specs.Breadth.{parent}
-use Rattle.containment.specs.Tree.{Visit, node, shadow, Forest, tree, hang, under, whole, visits}
-use Rattle.containment.specs.Parts as on
-use Rattle.containment.specs.Parts.{place}
-use Rattle.containment.specs.Filling.{visited, Setting, Row, From, Filled, FilledTo}
-use Rattle.containment.proofs.Numbers.{_∈_, which}
-use Rattle.containment.proofs.Nodes.{hang-node, hang-shadow, parts-mem, mem-parts}
-use Rattle.containment.proofs.Below.{within-trans}
-use Rattle.containment.proofs.Places.{Stand, stand, stand-after}
-use Rattle.containment.proofs.Contains.{place-small}
+use Rattle.index.specs.Pairs.{parts, Within, self, step}
+use Rattle.index.specs.Breadth.{parent}
+use Rattle.index.specs.Tree.{Visit, node, shadow, Forest, tree, hang, under, whole, visits}
+use Rattle.index.specs.Parts as on
+use Rattle.index.specs.Parts.{place}
+use Rattle.lists.specs.Tally.{tally}
+use Rattle.lists.proofs.Tallies.{tally-more}
+use Rattle.containment.specs.Filling.{visited, Setting, Row, From, All, Filled, FilledTo}
+use Rattle.lists.proofs.Numbers.{_∈_, which}
+use Rattle.index.proofs.Nodes.{hang-node, hang-shadow, parts-mem, mem-parts}
+use Rattle.index.proofs.Below.{within-trans}
+use Rattle.index.proofs.Places.{Stand, stand, stand-after}
+use Rattle.index.proofs.Standing.{place-small}
 use Rattle.containment.proofs.Siblings.{Stands, visit-at, in-visits, ends-at, next, hangs}
 
 -- ---- paths
@@ -36,6 +37,10 @@ within-top {edge} {g} {h} (step {c = c} e w) = go (within-top w)
     go : (c ≡ h) ⊎ ((x : ℕ) × (edge x h ≡ true) × Within edge c x) → (g ≡ h) ⊎ ((x : ℕ) × (edge x h ≡ true) × Within edge g x)
     go (inl q) = inr (g, rw q at e, self)
     go (inr (x, f, v)) = inr (x, f, step e v)
+
+-- how many rows are not filled
+unfoldable pub unfilled : List ℕ → ℕ
+unfilled rows = tally (λ x. not (bitOf rows x x)) 2048
 
 module _ {places ends pieces : List ℕ} (s : Setting places ends pieces) where
   abbrev W : List Visit
@@ -57,14 +62,14 @@ module _ {places ends pieces : List ℕ} (s : Setting places ends pieces) where
     pub record Started (rows : List ℕ) : Type 0 where
       pub own : bitOf rows h h ≡ true
       pub only : (g : ℕ) → g < 2048 → bitOf rows h g ≡ true → g ≡ h
-      pub from : From s rows (suc h)
+      pub from : (r : ℕ) → s .book .level h ≤ s .book .level r → (r ≡ h → ⊥) → r < 2048 → Row s rows r
 
     pub started : (rows rows′ : List ℕ) → From s rows h → bitOf rows h h ≡ false → Inserted rows rows′ h h → Started rows′
     started rows rows′ F z I =
         record {
           own = I .hit;
           only = λ g b t. one g b t (ℕ-discrete g h);
-          from = λ r a b. row-same b (λ j d. I .other r j d (λ e f. omega arith)) (F r (omega arith) b);
+          from = λ r a ne b. row-same b (λ j d. I .other r j d (λ e f. ne e)) (F r a b);
         }
       where
         one : (g : ℕ) → g < 2048 → bitOf rows′ h g ≡ true → Dec (g ≡ h) → g ≡ h
@@ -81,8 +86,9 @@ module _ {places ends pieces : List ℕ} (s : Setting places ends pieces) where
       pub joined : (x : ℕ) → s .edge x h ≡ true → (x ∈ todo) ⊎ ((g : ℕ) → g < 2048 → Within (s .edge) g x → bitOf rows h g ≡ true)
       pub own : bitOf rows h h ≡ true
       pub sound : (g : ℕ) → g < 2048 → bitOf rows h g ≡ true → Within (s .edge) g h
-      pub from : From s rows (suc h)
-      pub kept : (r j : ℕ) → r < h → j < 2048 → bitOf rows r j ≡ bitOf rows₀ r j
+      pub from : (r : ℕ) → s .book .level h ≤ s .book .level r → (r ≡ h → ⊥) → r < 2048 → Row s rows r
+      pub kept : (r j : ℕ) → s .book .level r < s .book .level h → j < 2048 → bitOf rows r j ≡ bitOf rows₀ r j
+      pub grown : (r : ℕ) → r < 2048 → bitOf rows₀ r r ≡ true → bitOf rows r r ≡ true
 
     -- the place of h
     pub place-small-at : (o : ℕ) → o ≡ getD places h 0 → o < length ends
@@ -94,8 +100,8 @@ module _ {places ends pieces : List ℕ} (s : Setting places ends pieces) where
         at : o ≡ place W h
         at = e ∙ s .places-are h l
 
-        go : (T : Stand (s .n) (s .edge) h) (d : ℕ) → T .deep ≡ d → Walking rows rows last (o + 1)
-        go T zero d = absurd (omega (arith, T .enough))
+        go : (T : Stand (s .n) (s .edge) (s .book .level) h) (d : ℕ) → T .deep ≡ d → Walking rows rows last (o + 1)
+        go T zero d = absurd (omega (arith, T .enough, s .book .fits h l))
         go T (suc k) d =
             record {
               deep = k;
@@ -118,6 +124,7 @@ module _ {places ends pieces : List ℕ} (s : Setting places ends pieces) where
               sound = λ g b t. rw (S .only g b t) self;
               from = S .from;
               kept = λ r j a b. refl;
+              grown = λ r d i. i;
             }
           where
             under-is : (k : ℕ) → length (visits (under (s .n) (s .edge) (T .deep) h)) ≡ length (visits (under (s .n) (s .edge) (suc k) h))
@@ -191,23 +198,23 @@ module _ {places ends pieces : List ℕ} (s : Setting places ends pieces) where
         edge : s .edge t h ≡ true
         edge = rw tx (child b)
 
-        pub above : h < t
+        pub above : s .book .level h < s .book .level t
         above = s .book .lower t h edge
 
         pub small : t < s .n
         small = s .book .piece t h edge
 
         pub from-it : From s rows t
-        from-it r a d = w .from r (omega (arith, above)) d
+        from-it r a d = w .from r (omega (arith, above)) (λ z. omega (arith, above, ap (s .book .level) z)) d
 
       -- its row is filled, and joined
       module _ {rows₁ rows₂ : List ℕ} {t : ℕ} (b : q < last) (is : t ≡ getD pieces q 0) (F : Filled s rows rows₁ t) (U : United rows₁ rows₂ h rows₁ t) where
         whole-row : (g : ℕ) → g < 2048 → (bitOf rows₁ t g ≡ true → Within (s .edge) g t) × (Within (s .edge) g t → bitOf rows₁ t g ≡ true)
         whole-row g d = F .from t (omega arith) (omega (arith, small b is, s .few)) .filled (F .own) .1 g d
 
-        old : (r : ℕ) → suc h ≤ r → r < 2048 → Dec (t ≤ r) → Row s rows₁ r
-        old r a d (yes y) = F .from r y d
-        old r a d (no y) = row-same d (λ j e. F .kept r j (omega arith) e) (w .from r a d)
+        old : (r : ℕ) → s .book .level h ≤ s .book .level r → (r ≡ h → ⊥) → r < 2048 → Dec (s .book .level t ≤ s .book .level r) → Row s rows₁ r
+        old r a ne d (yes y) = F .from r y d
+        old r a ne d (no y) = row-same d (λ j e. F .kept r j (omega arith) e) (w .from r a ne d)
 
         pub more : (c : ℕ) → c ≡ getD ends q 0 → Walking rows₀ rows₂ last c
         more c ec =
@@ -220,10 +227,15 @@ module _ {places ends pieces : List ℕ} (s : Setting places ends pieces) where
               joined = λ x e. pick x (w .joined x e);
               own = U .row h (omega (arith, l, s .few)) ∙ left-or _ (F .kept h h (above b is) (omega (arith, l, s .few)) ∙ w .own);
               sound = λ g d i. sort g d (or-either (bitOf rows₁ h g) (bitOf rows₁ t g) (sym (U .row g d) ∙ i));
-              from = λ r a d. row-same d (λ j e. U .other r j e (λ z. omega arith)) (old r a d (decLe t r));
-              kept = λ r j a d. U .other r j d (λ z. omega arith) ∙ F .kept r j (omega (arith, above b is)) d ∙ w .kept r j a d;
+              from = λ r a ne d. row-same d (λ j e. U .other r j e ne) (old r a ne d (decLe (s .book .level t) (s .book .level r)));
+              kept = λ r j a d. U .other r j d (λ z. omega (arith, ap (s .book .level) z)) ∙ F .kept r j (omega (arith, above b is)) d ∙ w .kept r j a d;
+              grown = λ r d i. widen r d (ℕ-discrete r h) (F .grown r d (w .grown r d i));
             }
           where
+            widen : (r : ℕ) → r < 2048 → Dec (r ≡ h) → bitOf rows₁ r r ≡ true → bitOf rows₂ r r ≡ true
+            widen r d (yes z) i = rw z (U .row h (omega (arith, l, s .few)) ∙ left-or _ (rw z at i))
+            widen r d (no z) i = U .other r r d z ∙ i
+
             Done : ℕ → Type 0
             Done x = (g : ℕ) → g < 2048 → Within (s .edge) g x → bitOf rows₂ h g ≡ true
 
@@ -239,10 +251,25 @@ module _ {places ends pieces : List ℕ} (s : Setting places ends pieces) where
             sort g d (inl i) = w .sound g d (sym (F .kept h g (above b is) d) ∙ i)
             sort g d (inr i) = within-trans (whole-row g d .0 i) (step (edge b is) self)
 
+      -- fewer rows are left than where the call began: the measure
+      pub fewer : (old : List ℕ) → bitOf old h h ≡ false → Inserted old rows₀ h h → unfilled rows < unfilled old
+      unfolding unfilled
+      fewer old z I =
+          tally-more (λ x. not (bitOf rows x x)) (λ x. not (bitOf old x x)) 2048 h (λ x d t. pick x d t (which (bitOf old x x)) (ℕ-discrete x h)) (omega (arith, l, s .few)) (ap not (w .own)) (ap not z)
+        where
+          pick : (x : ℕ) → x < 2048 → not (bitOf rows x x) ≡ true → (bitOf old x x ≡ true) ⊎ (bitOf old x x ≡ false) → Dec (x ≡ h) → not (bitOf old x x) ≡ true
+          pick x d t (inr q) e = ap not q
+          pick x d t (inl q) (yes e) = let z : bitOf rows x x ≡ true = rw e (w .own) in absurd (true≢false (sym t ∙ ap not z))
+          pick x d t (inl q) (no e) = absurd (true≢false (sym t ∙ ap not (w .grown x d (I .other x x d (λ a b. e a) ∙ q))))
+
       -- at the end the row is whole
       pub done : (old : List ℕ) → last ≤ q → Inserted old rows₀ h h → Filled s old rows h
       done old b I = go (w .todo) refl (w .ahead) (w .upto)
         where
+          put : (r : ℕ) → r < 2048 → Dec (r ≡ h) → bitOf old r r ≡ true → bitOf rows₀ r r ≡ true
+          put r d (yes z) i = rw z (I .hit)
+          put r d (no z) i = I .other r r d (λ e f. z e) ∙ i
+
           reach : w .todo ≡ [] → (g : ℕ) → g < 2048 → (g ≡ h) ⊎ ((x : ℕ) × (s .edge x h ≡ true) × Within (s .edge) g x) → bitOf rows h g ≡ true
           reach e g d (inl z) = rw z (w .own)
           reach e g d (inr (x, t, v)) = pick (w .joined x t)
@@ -251,10 +278,9 @@ module _ {places ends pieces : List ℕ} (s : Setting places ends pieces) where
               pick (inl m) = absurd (List·Memᴰ·not-nil (subst (λ (ts : List ℕ). x ∈ ts) e m))
               pick (inr f) = f g d v
 
-          row : w .todo ≡ [] → (r : ℕ) → h ≤ r → r < 2048 → Dec (h < r) → Row s rows r
-          row e r a d (yes y) = w .from r y d
-          row e r a d (no y) =
-              let z : r ≡ h = omega arith in
+          row : w .todo ≡ [] → (r : ℕ) → s .book .level h ≤ s .book .level r → r < 2048 → Dec (r ≡ h) → Row s rows r
+          row e r a d (no y) = w .from r a y d
+          row e r a d (yes z) =
               rw z (record { filled = λ t. (l, λ g k. (w .sound g k, λ v. reach e g k (within-top v))); empty = λ t. absurd (false≢true (sym t ∙ w .own)) })
 
           go : (ts : List ℕ) → w .todo ≡ ts → Stands P W q (hang (s .n) (s .edge) (under (s .n) (s .edge) (w .deep)) h ts)
@@ -263,20 +289,21 @@ module _ {places ends pieces : List ℕ} (s : Setting places ends pieces) where
           go [] e T u =
               record {
                 own = w .own;
-                from = λ r a d. row e r a d (decLt h r);
-                kept = λ r j a d. w .kept r j a d ∙ I .other r j d (λ z v. omega arith);
+                from = λ r a d. row e r a d (ℕ-discrete r h);
+                kept = λ r j a d. w .kept r j a d ∙ I .other r j d (λ z v. omega (arith, ap (s .book .level) z));
+                grown = λ r d i. w .grown r d (put r d (ℕ-discrete r h) i);
               }
 
   -- ---- row after row
-  pub filled-none : (rows : List ℕ) → From s rows 0 → FilledTo s rows 0
+  pub filled-none : (rows : List ℕ) → All s rows → FilledTo s rows 0
   filled-none rows F = record { own = λ h l. absurd (omega arith); from = F }
 
   pub filled-more : (rows rows′ : List ℕ) (h : ℕ) → h < s .n → FilledTo s rows h → Filled s rows rows′ h → FilledTo s rows′ (h + 1)
   filled-more rows rows′ h l T F =
       record {
-        own = below-more (λ k. bitOf rows′ k k ≡ true) h (λ k a. F .kept k k a (omega (arith, s .few)) ∙ T .own k a) (F .own);
-        from = λ r a b. elim (decLe h r) [ yes y ↦ F .from r y b | no y ↦ row-same b (λ j d. F .kept r j (omega arith) d) (T .from r a b) ];
+        own = below-more (λ k. bitOf rows′ k k ≡ true) h (λ k a. F .grown k (omega (arith, s .few)) (T .own k a)) (F .own);
+        from = λ r b. elim (decLe (s .book .level h) (s .book .level r)) [ yes y ↦ F .from r y b | no y ↦ row-same b (λ j d. F .kept r j (omega arith) d) (T .from r b) ];
       }
 
-  pub cleared-rows : (rows : List ℕ) (k : ℕ) → rows ≡ replicate k 0 → From s rows 0
-  cleared-rows rows k e h a b = rw e (record { filled = λ t. absurd (true≢false (sym t ∙ cleared k h h)); empty = λ t g d. cleared k h g })
+  pub cleared-rows : (rows : List ℕ) (k : ℕ) → rows ≡ replicate k 0 → All s rows
+  cleared-rows rows k e h b = rw e (record { filled = λ t. absurd (true≢false (sym t ∙ cleared k h h)); empty = λ t g d. cleared k h g })

@@ -10,11 +10,11 @@ use Rattle.parentheses.specs.Forest.{enc}
 use Rattle.parentheses.specs.Subtree.{after}
 use Rattle.parentheses.proofs.Ranks.{rank-zero}
 use Rattle.parentheses.proofs.Trees.{rank-cons, ones, ones-append}
-use Rattle.containment.specs.Pairs.{Book}
-use Rattle.containment.specs.Tree.{Visit, node, Forest, tree, under, whole, visits}
-use Rattle.containment.specs.Parts.{shape, parens, place}
-use Rattle.containment.proofs.Ranges.{ones-parens, after-at}
-use Rattle.containment.proofs.Places.{Stand, stand-place}
+use Rattle.index.specs.Pairs.{Book}
+use Rattle.index.specs.Tree.{Visit, node, Forest, tree, under, whole, visits}
+use Rattle.index.specs.Parts.{shape, parens, place}
+use Rattle.index.proofs.Ranges.{ones-parens, after-at}
+use Rattle.index.proofs.Places.{Stand, stand-place}
 
 -- from place q on stand the trees f, and then a parenthesis closes
 pub record Stands (bs : List Bool) (vs : List Visit) (q : ℕ) (f : Forest) : Type 0 where
@@ -75,7 +75,7 @@ module _ {bs : List Bool} {vs : List Visit} {q : ℕ} where
         }
 
 -- the trees that hang from a piece
-pub hangs : (n : ℕ) (edge : ℕ → ℕ → Bool) (B : Book n edge) (h : ℕ) (l : h < n) (S : Stand n edge h) (Z : List Bool)
+pub hangs : (n : ℕ) (edge : ℕ → ℕ → Bool) (B : Book n edge) (h : ℕ) (l : h < n) (S : Stand n edge (B .level) h) (Z : List Bool)
     → Stands (parens (whole n edge) ++ Z) (visits (whole n edge)) (place (visits (whole n edge)) h + 1) (under n edge (S .deep) h)
 hangs n edge B h l S Z =
     record {

@@ -3,31 +3,33 @@ use mathlib.Core.Path.{_≡_, refl, sym, ap, subst, _∙_}
 use mathlib.Core.Logic.{_⊎_, inl, inr}
 use mathlib.Core.Bool.{Bool, true, false, true≢false}
 use mathlib.Core.List.{List, [], _∷_, _++_, map, List·Memᴰ·cases-cons, List·Memᴰ·not-nil, List·Memᴰ·append-cases}
-use Prim.Native.Nat.{ℕ, zero, suc, _+_, _*_, _-_, _≤_, _<_}
+use Prim.Native.Nat.{ℕ, zero, suc, _+_, _*_, _/_, _-_, _≤_, _<_}
 use native.Mathlib.Omega.{arith}
-use lib.ListN.{length, getD, replicate, length-map, List·getD-map, List·getD-append}
+use lib.ListN.{length, getD, take, replicate, length-map, List·getD-map, List·getD-append}
+use lib.Seq.{length-take-le}
 use Rattle.lists.proofs.Bools.{Known, is-true, is-false, known, not-true}
 use Rattle.lists.proofs.Members.{at-member}
 use Rattle.parentheses.specs.Bits.{bits}
 use Rattle.parentheses.specs.Padded.{padded}
 use Rattle.parentheses.specs.Rank.{rank}
 use Rattle.parentheses.specs.Subtree.{after}
-use Rattle.parentheses.proofs.Ranks.{rank-zero}
-use Rattle.parentheses.proofs.Trees.{rank-cons, rank-front, Dyck, dyck-enc}
+use Rattle.parentheses.proofs.Ranks.{rank-zero, rank-mono}
+use Rattle.parentheses.proofs.Trees.{rank-cons, rank-front}
 use Rattle.relation.specs.Matrix.{bitOf}
-use Rattle.containment.specs.Pairs.{Within, self, step}
-use Rattle.containment.specs.Tree.{Visit, node, shadow, under, whole, visits}
-use Rattle.containment.specs.Parts as on
-use Rattle.containment.specs.Parts.{shape, place, isShadow, shadowList}
-use Rattle.containment.specs.Index.{parenthesesOf, visitsOf}
-use Rattle.containment.specs.Contents.{Stored, Contents, leads, Apart, StandsFor, Balanced}
+use Rattle.index.specs.Pairs.{Within, self, step}
+use Rattle.index.specs.Tree.{Visit, node, shadow, under, whole, visits}
+use Rattle.index.specs.Parts as on
+use Rattle.index.specs.Parts.{place, isShadow, shadowList}
+use Rattle.index.specs.Index.{parenthesesOf, visitsOf}
+use Rattle.containment.specs.Contents.{Stored, Contents, leads, Apart, StandsFor}
 use Rattle.containment.specs.Filling.{visited, Setting, FilledTo}
-use Rattle.containment.proofs.Numbers.{_∈_}
-use Rattle.containment.proofs.Nodes.{once}
-use Rattle.containment.proofs.Below.{piece, under-mem}
-use Rattle.containment.proofs.Contains.{node-at, place-small, place-only, shadow-at}
-use Rattle.containment.proofs.Lent.{parens-bits, marks-bits, placed, contains-lent}
-use Rattle.containment.proofs.Ranges.{parens-length, ones-parens}
+use Rattle.lists.proofs.Numbers.{_∈_}
+use Rattle.index.proofs.Nodes.{once}
+use Rattle.index.proofs.Below.{piece, under-mem}
+use Rattle.index.proofs.Standing.{node-at, place-small, place-only}
+use Rattle.containment.proofs.Contains.{shadow-at}
+use Rattle.containment.proofs.Lent.{cut-bits, marks-bits, placed, contains-lent}
+use Rattle.index.proofs.Ranges.{parens-length, ones-parens}
 use Rattle.containment.proofs.Pieces.{leads-node, leads-shadow}
 
 -- a shadow has its number in the list of shadows
@@ -73,31 +75,31 @@ module _ (n nodes : ℕ) (parens marks shadows places : List ℕ) (S : Stored n 
   pub place-is : (g : ℕ) → g < n → getD places g 0 ≡ place W g
   place-is = placed n (S .edge) (S .book) parens marks shadows places nodes (S .shadowed) (S .room) (S .index)
 
-  parens-are : bits parens ≡ on.parens (whole n (S .edge)) ++ replicate (8 * length parens - length (on.parens (whole n (S .edge)))) false
-  unfolding padded
-  parens-are = parens-bits n (S .edge) (S .book) parens marks shadows places nodes (S .shadowed) (S .room) (S .index)
-
-  -- the parentheses are in balance
+  -- the bytes that hold the parentheses
   long : length (on.parens (whole n (S .edge))) ≡ 2 * nodes
   long = omega (arith, parens-length (whole n (S .edge)), many)
 
-  pub parens-room : 2 * nodes ≤ 8 * length parens
+  pub cut-room : (nodes + 3) / 4 ≤ length parens
   unfolding parenthesesOf
-  parens-room = omega (arith, S .room .parens, long)
+  cut-room = omega (arith, S .room .parens, long)
 
-  front : (j : ℕ) → j ≤ 2 * nodes → rank (bits parens) j ≡ rank (on.parens (whole n (S .edge))) j
-  front j l = ap (λ (b : List Bool). rank b j) parens-are ∙ rank-front (on.parens (whole n (S .edge))) _ j (omega (arith, long))
+  cut-are : bits (take ((nodes + 3) / 4) parens)
+      ≡ on.parens (whole n (S .edge)) ++ replicate (8 * ((nodes + 3) / 4) - length (on.parens (whole n (S .edge)))) false
+  unfolding padded
+  cut-are = cut-bits n (S .edge) (S .book) parens marks shadows places nodes (S .shadowed) (S .room) (S .index) ((nodes + 3) / 4) cut-room (omega (arith, long))
 
-  word : Dyck (on.parens (whole n (S .edge)))
-  unfolding on.parens
-  word = dyck-enc (shape (whole n (S .edge)))
-
-  pub in-balance : Balanced nodes (bits parens)
-  in-balance =
-      record {
-        up = λ j l. omega (arith, front j l, word .up j (omega (arith, long)));
-        even = front (2 * nodes) (omega arith) ∙ ap (rank (on.parens (whole n (S .edge)))) (sym long) ∙ ones-parens (whole n (S .edge)) ∙ sym many;
-      }
+  -- as many open there as there are nodes
+  pub all-open : nodes ≤ rank (bits (take ((nodes + 3) / 4) parens)) (8 * length (take ((nodes + 3) / 4) parens))
+  all-open =
+      let w = on.parens (whole n (S .edge)) in
+      rw (length-take-le ((nodes + 3) / 4) parens cut-room, cut-are)
+      (omega (
+        arith,
+        many,
+        ones-parens (whole n (S .edge)),
+        rank-front w (replicate (8 * ((nodes + 3) / 4) - length w) false) (length w) (omega arith),
+        rank-mono (w ++ replicate (8 * ((nodes + 3) / 4) - length w) false) (length w) (8 * ((nodes + 3) / 4)) (omega (arith, long)),
+      ))
 
   -- what is visited is a piece
   visit-small : (s : ℕ) → s < length W → piece (at s) < n
@@ -178,7 +180,7 @@ module _ (n nodes : ℕ) (parens marks shadows places : List ℕ) (S : Stored n 
   -- what the walk reads
   module _
       (few : n ≤ 2048) (ends pieces₁ pieces₂ : List ℕ) (ends-room : nodes ≤ length ends) (room : nodes ≤ length pieces₂)
-      (ended : (q : ℕ) → q < nodes → getD ends q 0 ≡ after (bits parens) q) (turned : (g : ℕ) → g < n → getD pieces₁ (getD places g 0) 0 ≡ g)
+      (ended : (q : ℕ) → q < nodes → getD ends q 0 ≡ after (bits (take ((nodes + 3) / 4) parens)) q) (turned : (g : ℕ) → g < n → getD pieces₁ (getD places g 0) 0 ≡ g)
       (led : (s : ℕ) → s < nodes → getD pieces₂ s 0 ≡ getD pieces₁ (leads (bits marks) shadows s) 0) where
     right : (s : ℕ) → s < length W → Kind (at s) → getD pieces₂ s 0 ≡ visited (at s)
     unfolding piece visited
@@ -198,11 +200,11 @@ module _ (n nodes : ℕ) (parens marks shadows places : List ℕ) (S : Stored n 
           edge = S .edge;
           book = S .book;
           few = few;
-          zeros = replicate (8 * length parens - length (on.parens (whole n (S .edge)))) false;
+          zeros = replicate (8 * ((nodes + 3) / 4) - length (on.parens (whole n (S .edge)))) false;
           room = S .room .places;
           places-are = place-is;
           ends-room = omega (arith, many);
-          ends-are = λ q l. ended q (omega (arith, many)) ∙ ap (λ (b : List Bool). after b q) parens-are;
+          ends-are = λ q l. ended q (omega (arith, many)) ∙ ap (λ (b : List Bool). after b q) cut-are;
           pieces-room = omega (arith, many);
           pieces-are = λ q l. right q l (kind (at q));
         }
@@ -213,11 +215,11 @@ module _ (n nodes : ℕ) (parens marks shadows places : List ℕ) (S : Stored n 
     rows-hold rows F =
         record {
           inside = λ h g a b.
-              let f = F .from h (omega arith) (omega arith) .filled (F .own h a) .1 g (omega arith) in
+              let f = F .from h (omega arith) .filled (F .own h a) .1 g (omega arith) in
               let i = contains-lent n (S .edge) (S .book) parens marks shadows places nodes (S .shadowed) (S .room) (S .index) h g a b in
               (λ t. i .1 (f .0 t), λ t. f .1 (i .0 t));
           no-row = λ h g a b d. bare h g b d a (known (bitOf rows h h));
-          no-column = λ h g a b d. not-true (bitOf rows h g) (λ t. let l = small (F .from h (omega arith) (omega arith) .filled (F .own h a) .1 g d .0 t) a in omega arith);
+          no-column = λ h g a b d. not-true (bitOf rows h g) (λ t. let l = small (F .from h (omega arith) .filled (F .own h a) .1 g d .0 t) a in omega arith);
         }
       where
         small : {g h : ℕ} → Within (S .edge) g h → h < n → g < n
@@ -225,8 +227,8 @@ module _ (n nodes : ℕ) (parens marks shadows places : List ℕ) (S : Stored n 
         small (step {g = g} {c = c} e w) l = S .book .piece g c e
 
         bare : (h g : ℕ) → h < 2048 → g < 2048 → n ≤ h → Known (bitOf rows h h) → bitOf rows h g ≡ false
-        bare h g b d a (is-true t) = let l = F .from h (omega arith) b .filled t .0 in absurd (omega arith)
-        bare h g b d a (is-false t) = F .from h (omega arith) b .empty t g d
+        bare h g b d a (is-true t) = let l = F .from h b .filled t .0 in absurd (omega arith)
+        bare h g b d a (is-false t) = F .from h b .empty t g d
 
     pub table : Table n parens marks shadows places ends pieces₂
     unfolding setting

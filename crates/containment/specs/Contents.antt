@@ -3,13 +3,13 @@ use mathlib.Core.Path.{_≡_}
 use mathlib.Core.Logic.{_↔_}
 use mathlib.Core.Bool.{Bool, true, false}
 use mathlib.Core.List.{List}
-use Prim.Native.Nat.{ℕ, _*_, _≤_, _<_}
+use Prim.Native.Nat.{ℕ, _≤_, _<_}
 use lib.ListN.{length, getD}
 use Rattle.parentheses.specs.Bits.{bits}
 use Rattle.parentheses.specs.Rank.{rank}
 use Rattle.relation.specs.Matrix.{bitOf}
-use Rattle.containment.specs.Pairs.{Book}
-use Rattle.containment.specs.Index.{Room, Indexed}
+use Rattle.index.specs.Pairs.{Book}
+use Rattle.index.specs.Index.{Room, Indexed}
 use Rattle.containment.specs.Inside.{Inside}
 
 -- the parts hold the index of some pairs
@@ -40,8 +40,3 @@ pub record Apart (n : ℕ) (places : List ℕ) (wide : ℕ) : Type 0 where
 pub record StandsFor (nodes : ℕ) (marks : List Bool) (shadows : List ℕ) : Type 0 where
   pub listed : (s : ℕ) → s < nodes → getD marks s false ≡ true → rank marks s < length shadows
   pub target : (s : ℕ) → s < nodes → getD marks s false ≡ true → (getD shadows (rank marks s) 0 < nodes) × (getD marks (getD shadows (rank marks s) 0) false ≡ false)
-
--- the first 2 * nodes bits are parentheses in balance: at no place have more closed than opened, and in the end as many
-pub record Balanced (nodes : ℕ) (bs : List Bool) : Type 0 where
-  pub up : (j : ℕ) → j ≤ 2 * nodes → j ≤ 2 * rank bs j
-  pub even : rank bs (2 * nodes) ≡ nodes

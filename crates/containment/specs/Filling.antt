@@ -8,10 +8,10 @@ use Prim.Native.Nat.{ℕ, _≤_, _<_}
 use lib.ListN.{length, getD}
 use Rattle.parentheses.specs.Subtree.{after}
 use Rattle.relation.specs.Matrix.{bitOf}
-use Rattle.containment.specs.Pairs.{Book, Within}
-use Rattle.containment.specs.Tree.{Visit, node, shadow, whole, visits}
-use Rattle.containment.specs.Parts as on
-use Rattle.containment.specs.Parts.{place}
+use Rattle.index.specs.Pairs.{Book, Within}
+use Rattle.index.specs.Tree.{Visit, node, shadow, whole, visits}
+use Rattle.index.specs.Parts as on
+use Rattle.index.specs.Parts.{place}
 
 -- the piece that is visited, or for which the shadow that is visited stands
 unfoldable pub visited : Visit → ℕ
@@ -37,20 +37,24 @@ module _ {places ends pieces : List ℕ} (s : Setting places ends pieces) where
     pub filled : bitOf rows h h ≡ true → (h < s .n) × ((g : ℕ) → g < 2048 → (bitOf rows h g ≡ true) ↔ Within (s .edge) g h)
     pub empty : bitOf rows h h ≡ false → (g : ℕ) → g < 2048 → bitOf rows h g ≡ false
 
-  -- the rows from k on
-  abbrev pub From : List ℕ → ℕ → Type 0
-  From rows k = (h : ℕ) → k ≤ h → h < 2048 → Row rows h
+  -- all rows; and those at the level of h and deeper
+  abbrev pub All : List ℕ → Type 0
+  All rows = (r : ℕ) → r < 2048 → Row rows r
 
-  -- row h is filled, and no row below it is touched
+  abbrev pub From : List ℕ → ℕ → Type 0
+  From rows h = (r : ℕ) → s .book .level h ≤ s .book .level r → r < 2048 → Row rows r
+
+  -- row h is filled, no row of a higher level is touched, and what is filled stays so
   pub record Filled (rows rows′ : List ℕ) (h : ℕ) : Type 0 where
     pub own : bitOf rows′ h h ≡ true
     pub from : From rows′ h
-    pub kept : (r j : ℕ) → r < h → j < 2048 → bitOf rows′ r j ≡ bitOf rows r j
+    pub kept : (r j : ℕ) → s .book .level r < s .book .level h → j < 2048 → bitOf rows′ r j ≡ bitOf rows r j
+    pub grown : (r : ℕ) → r < 2048 → bitOf rows r r ≡ true → bitOf rows′ r r ≡ true
 
   -- all rows below k are filled
   pub record FilledTo (rows : List ℕ) (k : ℕ) : Type 0 where
     pub own : (h : ℕ) → h < k → bitOf rows h h ≡ true
-    pub from : From rows 0
+    pub from : All rows
 
 pub record Fillable (places ends pieces rows : List ℕ) (h : ℕ) : Type 0 where
   pub setting : Setting places ends pieces
@@ -60,4 +64,4 @@ pub record Fillable (places ends pieces rows : List ℕ) (h : ℕ) : Type 0 wher
 pub record Ready (n : ℕ) (places ends pieces rows : List ℕ) : Type 0 where
   pub setting : Setting places ends pieces
   pub count : n ≡ setting .n
-  pub from : From setting rows 0
+  pub from : All setting rows

@@ -1,13 +1,3 @@
-pub mod Numbers
-pub mod Pairs
-pub mod Breadth
-pub mod Tree
-pub mod Parts
-pub mod Index
 pub mod Inside
 pub mod Filling
-pub mod Matrix
-pub mod Steps
 pub mod Contents
-pub mod Stored
-pub mod Loaded

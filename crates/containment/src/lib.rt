@@ -1,278 +1,177 @@
-// The index of a book, from the matrix of its pairs into four lent parts.
-pub mod contents;
-
+// What each piece contains, read off the index: bit g of row h of a matrix for "g lies within h".
 ghost use mathlib.Core.Path.{_≡_};
-ghost use Prim.Native.Nat.{ℕ, _+_, _-_, _*_, _<_, _≤_};
-ghost use lib.ListN.{length, getD, set, replicate};
-ghost use Rattle.containment.specs.Pairs.{joined};
-ghost use Rattle.containment.specs.Index.{Indexed};
-ghost use Rattle.containment.specs.Matrix.{pairOf, Buildable, Completed};
-ghost use Rattle.containment.specs.Steps.{Marked, Held, Sized, unmet, Spread, Parented, Zero, Walkable, Walked, Resolvable, Resolved};
+ghost use mathlib.Core.Bool.{true, false, not};
+ghost use Prim.Native.Nat.{ℕ, _+_, _*_, _<_, _≤_};
+ghost use lib.ListN.{length, getD, set};
+ghost use Rattle.containment.specs.Filling.{Setting, Fillable, From, All, Filled, FilledTo, Ready};
+ghost use Rattle.containment.specs.Contents.{Stored, Contents, leads, Apart, StandsFor};
+ghost use Rattle.parentheses.specs.Rank.{rank};
+ghost use Rattle.parentheses.specs.Subtree.{after};
+ghost use Rattle.parentheses.specs.Bits.{bits};
+use index::DatasetId;
+use index::TreeId;
+use parentheses::Found;
 
-// A piece's number.
-pub struct DatasetId(pub usize);
-
-// A node's place in the tree, counted depth first.
-pub struct TreeId(pub usize);
-
-pub struct Counts {
-    pub nodes: usize,
-    pub shadows: usize,
+// The piece at a place: `turned` is the place list turned round, with the shadows put in.
+fn piece_at(turned: &[u16], q: TreeId) -> DatasetId
+    requires { ⌜ q .0 < length (now turned) ⌝ }
+    ensures { λ r. ⌜ r .0 ≡ getD (now (turned .entry)) (q .0) 0 ⌝ }
+{
+    let k = q.0;
+    DatasetId(index::wide(turned[k]))
 }
 
-fn wide(x: u16) -> usize
-    ensures { λ r. ⌜ r ≡ x ⌝ }
+// Fills the row of h, unless it is filled: h itself, and the row of each part that hangs from its node. A part that hangs there
+// as a shadow is the piece that the shadow stands for, so containment calls itself through shadow targets. Levels rise
+// from container to part, and a row that is filled is filled for good.
+fn fill(places: &[u16], ends: &[u16], turned: &[u16], rows: &mut [u64], h: DatasetId)
+    requires { ⌜ (length (now rows) ≡ 65536) × Fillable (now places) (now ends) (now turned) (now rows) (h .0) ⌝ }
+    ensures { λ _. ⌜ ((s : Setting (now (places .entry)) (now (ends .entry)) (now (turned .entry))) → From s (now (rows .entry)) (h .0) → h .0 < s .n → Filled s (now (rows .entry)) (now (rows .exit)) (h .0)) ⌝ }
 {
-    x as usize
-}
-
-fn narrow(x: usize) -> u16
-    requires { ⌜ x < 65536 ⌝ }
-    ensures { λ r. ⌜ r ≡ x ⌝ }
-{
-    x as u16
-}
-
-// The place list converts a piece's number to its place, and nothing else does.
-pub fn place_of(places: &[u16], g: DatasetId) -> TreeId
-    requires { ⌜ g .0 < length (now places) ⌝ }
-    ensures { λ r. ⌜ r .0 ≡ getD (now (places .entry)) (g .0) 0 ⌝ }
-{
-    let i = g.0;
-    TreeId(wide(places[i]))
-}
-
-fn set_place(places: &mut [u16], g: DatasetId, t: TreeId)
-    requires { ⌜ (g .0 < length (now places)) × (t .0 < 65536) ⌝ }
-    ensures { λ _. ⌜ now (places .exit) ≡ set (now (places .entry)) (g .0) (t .0) ⌝ }
-{
-    let i = g.0;
-    let k = t.0;
-    places[i] = narrow(k);
-}
-
-pub fn clear(list: &mut [u16])
-    ensures { λ _. ⌜ now (list .exit) ≡ replicate (length (now (list .entry))) 0 ⌝ }
-{
-    let mut done: usize = 0;
-    while done < list.len() {
-        list[done] = 0;
-        done += 1;
+    let x = h.0;
+    if relation::test(rows, x, x) {
+        return;
+    }
+    relation::insert(rows, x, x);
+    let place = index::place_of(places, h);
+    let mut q = TreeId(place.0 + 1);
+    let end = end_at(ends, place);
+    while q.0 < end.0 {
+        let t = piece_at(turned, TreeId(q.0));
+        fill(places, ends, turned, rows, DatasetId(t.0));
+        relation::union_within(rows, x, t.0);
+        q = end_at(ends, q);
     }
 }
 
-// Marks the parts of c.
-fn mark_parts(edges: &[u64], c: usize, held: &mut [u16])
-    requires { ⌜ (length (now edges) ≡ 65536) × (c < 2048) × (length (now held) ≡ 2048) ⌝ }
-    ensures { λ _. ⌜ Marked (now (edges .entry)) c (now (held .entry)) (now (held .exit)) ⌝ }
+// The first place past the subtree of a place, by the table of ends.
+fn end_at(ends: &[u16], q: TreeId) -> TreeId
+    requires { ⌜ q .0 < length (now ends) ⌝ }
+    ensures { λ r. ⌜ r .0 ≡ getD (now (ends .entry)) (q .0) 0 ⌝ }
 {
-    let mut p = relation::next_bit(edges, c, 0);
-    while p < 2048 {
-        held[p] = 1;
-        p = relation::next_bit(edges, c, p + 1);
+    let k = q.0;
+    TreeId(index::wide(ends[k]))
+}
+
+fn set_piece(turned: &mut [u16], q: TreeId, g: DatasetId)
+    requires { ⌜ (q .0 < length (now turned)) × (g .0 < 65536) ⌝ }
+    ensures { λ _. ⌜ now (turned .exit) ≡ set (now (turned .entry)) (q .0) (g .0) ⌝ }
+{
+    let k = q.0;
+    turned[k] = index::narrow(g.0);
+}
+
+// Of the place of each piece below n, the piece: the place list turned round.
+fn number_nodes(n: usize, places: &[u16], turned: &mut [u16])
+    requires { ⌜ (n ≤ 2048) × Apart n (now places) (length (now turned)) ⌝ }
+    ensures { λ _. ⌜ ((g : ℕ) → g < n → getD (now (turned .exit)) (getD (now (places .entry)) g 0) 0 ≡ g) ⌝ }
+{
+    let mut g: usize = 0;
+    while g < n {
+        let place = index::place_of(places, DatasetId(g));
+        set_piece(turned, place, DatasetId(g));
+        g += 1;
     }
 }
 
-// Marks the pieces that are somebody's part.
-fn mark_held(n: usize, edges: &[u64], held: &mut [u16])
-    requires { ⌜ (n ≤ 2048) × (length (now edges) ≡ 65536) × (length (now held) ≡ 2048) × Zero (now held) ⌝ }
-    ensures { λ _. ⌜ Held n (now (edges .entry)) (now (held .exit)) ⌝ }
+// Of the place of each shadow, the piece at the place for which it stands.
+fn number_shadows(nodes: usize, marks: &[u8], shadows: &[u16], turned: &mut [u16])
+    requires { ⌜ (nodes ≤ length (now turned)) × (nodes ≤ 8 * length (now marks)) × StandsFor nodes (bits (now marks)) (now shadows) ⌝ }
+    ensures { λ _. ⌜ ((s : ℕ) → s < nodes → getD (now (turned .exit)) s 0 ≡ getD (now (turned .entry)) (leads (bits (now (marks .entry))) (now (shadows .entry)) s) 0) ⌝ }
 {
-    let mut c: usize = 0;
-    while c < n {
-        mark_parts(edges, c, held);
-        c += 1;
+    let mut j: usize = 0;
+    let mut q: usize = 0;
+    while q < nodes {
+        if !parentheses::get(marks, q) {
+            q += 1;
+            continue;
+        }
+        let t = index::wide(shadows[j]);
+        turned[q] = turned[t];
+        j += 1;
+        q += 1;
     }
 }
 
-// Joins each piece but 0 that is nobody's part to 0.
-fn join(n: usize, edges: &mut [u64], held: &[u16])
-    requires { ⌜ (n ≤ 2048) × (0 < n) × (length (now edges) ≡ 65536) × (length (now held) ≡ 2048) × Held n (now edges) (now held) ⌝ }
-    ensures { λ _. ⌜ Completed n (now (edges .entry)) (now (edges .exit)) ⌝ }
+// Whether the node that opens at p is a leaf, as every shadow is: no node opens next.
+fn is_leaf(parens: &[u8], p: usize) -> bool
+    requires { ⌜ (p < 8 * length (now parens)) × (8 * length (now parens) < 65536) ⌝ }
+    ensures { λ b. ⌜ b ≡ not (getD (bits (now (parens .entry))) (p + 1) false) ⌝ }
 {
-    let mut p: usize = 1;
-    while p < n {
-        if held[p] == 0 {
-            relation::insert(edges, 0, p);
+    let next = p + 1;
+    if next == parens.len() * 8 {
+        return true;
+    }
+    !parentheses::get(parens, next)
+}
+
+// The first place past the subtree of the node at place q, which opens at p. From there to where it closes, every second bit opens.
+fn end_of(parens: &[u8], q: TreeId, p: usize) -> TreeId
+    requires { ⌜ (p < 8 * length (now parens)) × (8 * length (now parens) < 65536) × (getD (bits (now parens)) p false ≡ true) × (rank (bits (now parens)) p ≡ q .0) ⌝ }
+    ensures { λ r. ⌜ r .0 ≡ after (bits (now (parens .entry))) (q .0) ⌝ }
+{
+    let place = q.0;
+    if is_leaf(parens, p) {
+        return TreeId(place + 1);
+    }
+    let Found::At(close) = parentheses::find_close(parens, p) else {
+        return TreeId(parentheses::ones_before(parens, parens.len() * 8));
+    };
+    TreeId(place + (close - p + 1) / 2)
+}
+
+// Of each place, the first one past its subtree.
+fn subtree_ends(nodes: usize, parens: &[u8], ends: &mut [u16])
+    requires { ⌜ (nodes ≤ length (now ends)) × (8 * length (now parens) < 65536) × (nodes ≤ rank (bits (now parens)) (8 * length (now parens))) ⌝ }
+    ensures { λ _. ⌜ ((q : ℕ) → q < nodes → getD (now (ends .exit)) q 0 ≡ after (bits (now (parens .entry))) q) ⌝ }
+{
+    let mut q: usize = 0;
+    let mut p: usize = 0;
+    while q < nodes {
+        if !parentheses::get(parens, p) {
             p += 1;
             continue;
         }
+        let end = end_of(parens, TreeId(q), p);
+        let k = end.0;
+        ends[q] = index::narrow(k);
+        q += 1;
         p += 1;
     }
 }
 
-// One round: the parts of c that are not met yet get c as their parent and go to the end of the queue, whose new end is returned.
-fn spread(
+// Fills the row of each piece below n.
+fn fill_all(n: usize, places: &[u16], ends: &[u16], turned: &[u16], rows: &mut [u64])
+    requires { ⌜ (length (now rows) ≡ 65536) × Ready n (now places) (now ends) (now turned) (now rows) ⌝ }
+    ensures { λ _. ⌜ ((s : Setting (now (places .entry)) (now (ends .entry)) (now (turned .entry))) → n ≡ s .n → All s (now (rows .entry)) → FilledTo s (now (rows .exit)) n) ⌝ }
+{
+    let mut h: usize = 0;
+    while h < n {
+        fill(places, ends, turned, rows, DatasetId(h));
+        h += 1;
+    }
+}
+
+// Fills the row of each piece below n with the pieces inside it, and clears every other bit. Each row is filled once, so many
+// paths to one piece cost no more than one.
+pub fn contents(
     n: usize,
-    c: usize,
-    edges: &[u64],
-    parent: &mut [u16],
-    order: &mut [u16],
-    tail: usize,
-) -> usize
-    requires { ⌜ Sized n (now edges) (length (now parent)) (length (now order)) × (c < n) × (tail + length (unmet n (now parent)) ≤ length (now order)) ⌝ }
-    ensures { λ r. ⌜ Spread n (pairOf n (now (edges .entry))) c (now (parent .entry)) (now (order .entry)) tail (now (parent .exit)) (now (order .exit)) r ⌝ }
+    nodes: usize,
+    parens: &[u8],
+    marks: &[u8],
+    shadows: &[u16],
+    places: &[u16],
+    rows: &mut [u64],
+)
+    requires { ⌜ (n ≤ 2048) × (nodes ≤ 18432) × (length (now rows) ≡ 65536) × Stored n nodes (now parens) (now marks) (now shadows) (now places) ⌝ }
+    ensures { λ _. ⌜ Contents n (now (parens .entry)) (now (marks .entry)) (now (shadows .entry)) (now (places .entry)) (now (rows .exit)) ⌝ }
 {
-    let mut end = tail;
-    let mut p = relation::next_bit(edges, c, 1);
-    while p < n {
-        if parent[p] == 2048 {
-            parent[p] = narrow(c);
-            order[end] = narrow(p);
-            end += 1;
-            p = relation::next_bit(edges, c, p + 1);
-            continue;
-        }
-        p = relation::next_bit(edges, c, p + 1);
-    }
-    end
-}
-
-// No piece has a parent yet.
-fn forget(n: usize, parent: &mut [u16])
-    requires { ⌜ n ≤ length (now parent) ⌝ }
-    ensures { λ _. ⌜ ((q : ℕ) → q < n → getD (now (parent .exit)) q 0 ≡ 2048) ⌝ }
-{
-    let mut i: usize = 0;
-    while i < n {
-        parent[i] = 2048;
-        i += 1;
-    }
-}
-
-// The parent of each piece but 0, breadth first from 0.
-fn find_parents(n: usize, edges: &[u64], parent: &mut [u16], order: &mut [u16])
-    requires { ⌜ Sized n (now edges) (length (now parent)) (length (now order)) ⌝ }
-    ensures { λ _. ⌜ Parented n (pairOf n (now (edges .entry))) (now (parent .exit)) ⌝ }
-{
-    forget(n, parent);
-    order[0] = 0;
-    let mut head: usize = 0;
-    let mut tail: usize = 1;
-    while head < tail {
-        let c = wide(order[head]);
-        tail = spread(n, c, edges, parent, order, tail);
-        head += 1;
-    }
-}
-
-// The four parts, into parts that are zero, depth first: the walk stands at the node of c, whose parts below `from` are done. The shadow
-// list has the number of each shadow's piece yet, as the piece's node may come later.
-fn walk(
-    n: usize,
-    edges: &[u64],
-    parent: &[u16],
-    parens: &mut [u8],
-    marks: &mut [u8],
-    shadows: &mut [u16],
-    places: &mut [u16],
-) -> Counts
-    requires { ⌜ Walkable n (now edges) (now parent) (length (now parens)) (length (now marks)) (length (now shadows)) (length (now places)) × Zero (now parens) × Zero (now marks) × Zero (now shadows) × Zero (now places) ⌝ }
-    ensures { λ r. ⌜ Walked n (pairOf n (now (edges .entry))) (now (parens .exit)) (now (marks .exit)) (now (shadows .exit)) (now (places .exit)) (r .nodes) (r .shadows) ⌝ }
-{
-    parentheses::put(parens, 0);
-    set_place(places, DatasetId(0), TreeId(0));
-    let mut c: usize = 0;
-    let mut from: usize = 1;
-    let mut at: usize = 1;
-    let mut k: usize = 1;
-    let mut m: usize = 0;
-    loop {
-        let p = relation::next_bit(edges, c, from);
-        if p < n {
-            parentheses::put(parens, at);
-            if wide(parent[p]) == c {
-                set_place(places, DatasetId(p), TreeId(k));
-                at += 1;
-                k += 1;
-                c = p;
-                from = p + 1;
-            } else {
-                parentheses::put(marks, k);
-                shadows[m] = narrow(p);
-                at += 2;
-                k += 1;
-                m += 1;
-                from = p + 1;
-            }
-        } else {
-            if c == 0 {
-                return Counts {
-                    nodes: k,
-                    shadows: m,
-                };
-            }
-            at += 1;
-            from = c + 1;
-            c = wide(parent[c]);
-        }
-    }
-}
-
-// Each shadow's piece gives way to its place.
-fn resolve(shadows: &mut [u16], places: &[u16], m: usize)
-    requires { ⌜ Resolvable (now shadows) (now places) m ⌝ }
-    ensures { λ _. ⌜ Resolved (now (shadows .entry)) (now (places .entry)) m (now (shadows .exit)) ⌝ }
-{
-    let mut j: usize = 0;
-    while j < m {
-        let g = wide(shadows[j]);
-        let t = place_of(places, DatasetId(g));
-        let k = t.0;
-        shadows[j] = narrow(k);
-        j += 1;
-    }
-}
-
-// Puts the joins into row 0.
-fn complete(n: usize, edges: &mut [u64])
-    requires { ⌜ (n ≤ 2048) × (0 < n) × (length (now edges) ≡ 65536) ⌝ }
-    ensures { λ _. ⌜ Completed n (now (edges .entry)) (now (edges .exit)) ⌝ }
-{
-    let mut held = [0u16; 2048];
-    mark_held(n, edges, &mut held);
-    join(n, edges, &held);
-}
-
-// The four parts of the book in a matrix that has the joins, with its parents.
-fn fill(
-    n: usize,
-    edges: &[u64],
-    parent: &[u16],
-    parens: &mut [u8],
-    marks: &mut [u8],
-    shadows: &mut [u16],
-    places: &mut [u16],
-) -> Counts
-    requires { ⌜ Walkable n (now edges) (now parent) (length (now parens)) (length (now marks)) (length (now shadows)) (length (now places)) ⌝ }
-    ensures { λ r. ⌜ Indexed n (pairOf n (now (edges .entry))) (now (parens .exit)) (now (marks .exit)) (now (shadows .exit)) (now (places .exit)) (r .nodes) (r .shadows) ⌝ }
-{
-    parentheses::clear(parens);
-    parentheses::clear(marks);
-    clear(shadows);
-    clear(places);
-    let counts = walk(n, edges, parent, parens, marks, shadows, places);
-    let m = counts.shadows;
-    resolve(shadows, places, m);
-    counts
-}
-
-// Writes the index of the book whose pairs are in `edges` into the four lent parts, and the joins into `edges`.
-pub fn build(
-    n: usize,
-    edges: &mut [u64],
-    parens: &mut [u8],
-    marks: &mut [u8],
-    shadows: &mut [u16],
-    places: &mut [u16],
-) -> Counts
-    requires { ⌜ Buildable n (now edges) (length (now parens)) (length (now marks)) (length (now shadows)) (length (now places)) ⌝ }
-    ensures index { λ r. ⌜ Indexed n (joined n (pairOf n (now (edges .entry)))) (now (parens .exit)) (now (marks .exit)) (now (shadows .exit)) (now (places .exit)) (r .nodes) (r .shadows) ⌝ }
-    ensures joins { λ _. ⌜ Completed n (now (edges .entry)) (now (edges .exit)) ⌝ }
-{
-    let mut parent = [0u16; 2048];
-    let mut order = [0u16; 2048];
-    complete(n, edges);
-    find_parents(n, edges, &mut parent, &mut order);
-    fill(n, edges, &parent, parens, marks, shadows, places)
+    let mut ends = [0u16; 18432];
+    let mut turned = [0u16; 18432];
+    let bytes = (nodes + 3) / 4;
+    subtree_ends(nodes, &parens[..bytes], &mut ends);
+    number_nodes(n, places, &mut turned);
+    number_shadows(nodes, marks, shadows, &mut turned);
+    relation::clear(rows);
+    fill_all(n, places, &ends, &turned, rows);
 }

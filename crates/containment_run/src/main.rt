@@ -4,7 +4,7 @@ ghost use mathlib.Core.Path.{_≡_};
 ghost use Prim.Native.Nat.{_*_, _<_, _≤_};
 ghost use lib.ListN.{length};
 ghost use Rattle.containment.specs.Contents.{Stored};
-ghost use Rattle.containment.specs.Loaded.{Loaded};
+ghost use Rattle.closure.specs.Loaded.{Loaded};
 
 // The shapes of the generated books.
 const DEEP: u8 = 0;
@@ -137,11 +137,11 @@ fn index(
     marks: &mut [u8],
     shadows: &mut [u16],
     places: &mut [u16],
-) -> containment::Counts
+) -> index::Counts
     requires { ⌜ Loaded n (now edges) k × (length (now parens) ≡ 2560) × (length (now marks) ≡ 1280) × (length (now shadows) ≡ 8192) × (length (now places) ≡ 2048) ⌝ }
     ensures { λ r. ⌜ (r .nodes ≤ 18432) × Stored n (r .nodes) (now (parens .exit)) (now (marks .exit)) (now (shadows .exit)) (now (places .exit)) ⌝ }
 {
-    containment::build(n, edges, parens, marks, shadows, places)
+    index::build(n, edges, parens, marks, shadows, places)
 }
 
 // The checksum's next value.
@@ -192,7 +192,7 @@ fn print(x: u64) {
     io::print_decimal(1, x);
 }
 
-fn print_counts(n: usize, counts: containment::Counts) {
+fn print_counts(n: usize, counts: index::Counts) {
     print(n as u64);
     print(counts.nodes as u64);
     print(counts.shadows as u64);
@@ -233,7 +233,7 @@ fn book(name: &[u8], shape: u8, n: usize, count: usize, edges: &mut [u64], rows:
         &mut places,
     );
     let nodes = counts.nodes;
-    containment::contents::contents(n, nodes, &parens, &marks, &shadows, &places, rows);
+    containment::contents(n, nodes, &parens, &marks, &shadows, &places, rows);
     io::write_all(1, name);
     print_counts(n, counts);
     print_sums(&parens, &marks, &shadows, &places, rows);
@@ -325,7 +325,7 @@ fn session(edges: &mut [u64], rows: &mut [u64])
         &mut places,
     );
     let nodes = counts.nodes;
-    containment::contents::contents(6, nodes, &parens, &marks, &shadows, &places, rows);
+    containment::contents(6, nodes, &parens, &marks, &shadows, &places, rows);
     io::write_all(1, b"session");
     print_counts(6, counts);
     io::write_all(1, b"\n");

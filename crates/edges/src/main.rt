@@ -1,8 +1,8 @@
 // Document 01's edges through the call that answers claims: a line for each book, with number, place and the three counts.
 ghost use mathlib.Core.Path.{_≡_};
 ghost use lib.ListN.{length};
+use answers::Outcome;
 use libc::STDOUT_FILENO;
-use piecebook::Outcome;
 
 fn print(text: &[u8]) {
     io::write_all(STDOUT_FILENO, text);
@@ -44,7 +44,7 @@ fn ask(name: &[u8], book: &[u8], claims: &[u8]) {
     let mut shadows = [0u16; 8192];
     let mut places = [0u16; 2048];
     let mut answers = [0u8; 4097];
-    let outcome = piecebook::answer_claims(
+    let outcome = answers::answer_claims(
         book,
         claims,
         &mut parens,
@@ -62,7 +62,7 @@ fn ask_short(name: &[u8], book: &[u8]) {
     let mut marks = [0u8; 1280];
     let mut shadows = [0u16; 8192];
     let mut places = [0u16; 2047];
-    let outcome = piecebook::write_index(book, &mut parens, &mut marks, &mut shadows, &mut places);
+    let outcome = answers::write_index(book, &mut parens, &mut marks, &mut shadows, &mut places);
     report(name, outcome);
 }
 

@@ -1,8 +1,21 @@
 // Bits and parentheses, for bench/parentheses.c: of at most 2,560 bytes, the ones before position k, the position that closes the
-// parenthesis at open (the number of bits where there is none), and the first place past a node's subtree.
+// parenthesis at open (the number of bits where there is none), and the first place past a node's subtree. All else is answered by 0.
+ghost use mathlib.Core.Path.{_≡_};
+ghost use mathlib.Core.Bool.{true, false};
+ghost use Prim.Native.Nat.{_*_, _<_, _≤_};
+ghost use lib.ListN.{length, getD};
+ghost use Rattle.parentheses.specs.Bits.{bits};
+ghost use Rattle.parentheses.specs.Rank.{rank};
+ghost use Rattle.parentheses.specs.Close.{close};
+ghost use Rattle.parentheses.specs.Subtree.{after};
+ghost use Rattle.parentheses.specs.Found.{foundBelow};
+ghost use Rattle.exports.specs.Positions.{positionOf};
+use parentheses::Found;
 
 #[no_mangle]
-pub extern "C" fn parentheses_ones_before(bytes: &[u8], k: usize) -> usize {
+pub extern "C" fn parentheses_ones_before(bytes: &[u8], k: usize) -> usize
+    ensures { λ r. ⌜ (length (now (bytes .entry)) ≤ 2560 → k ≤ 8 * length (now (bytes .entry)) → r ≡ rank (bits (now (bytes .entry))) k) ⌝ }
+{
     if bytes.len() > 2560 {
         return 0;
     }
@@ -13,24 +26,28 @@ pub extern "C" fn parentheses_ones_before(bytes: &[u8], k: usize) -> usize {
 }
 
 #[no_mangle]
-pub extern "C" fn parentheses_find_close(bytes: &[u8], open: usize) -> usize {
+pub extern "C" fn parentheses_find_close(bytes: &[u8], open: usize) -> usize
+    ensures { λ r. ⌜ (length (now (bytes .entry)) ≤ 2560 → «open» < 8 * length (now (bytes .entry)) → getD (bits (now (bytes .entry))) «open» false ≡ true → r ≡ positionOf (8 * length (now (bytes .entry))) (foundBelow (8 * length (now (bytes .entry))) (close (bits (now (bytes .entry))) «open»))) ⌝ }
+{
     if bytes.len() > 2560 {
         return 0;
     }
     if open >= bytes.len() * 8 {
         return 0;
     }
-    if parentheses::get(bytes, open) {
-        let parentheses::Found::At(close) = parentheses::find_close(bytes, open) else {
-            return bytes.len() * 8;
-        };
-        return close;
+    if !parentheses::get(bytes, open) {
+        return 0;
     }
-    0
+    let Found::At(close) = parentheses::find_close(bytes, open) else {
+        return bytes.len() * 8;
+    };
+    close
 }
 
 #[no_mangle]
-pub extern "C" fn parentheses_subtree_end(bytes: &[u8], place: usize) -> usize {
+pub extern "C" fn parentheses_subtree_end(bytes: &[u8], place: usize) -> usize
+    ensures { λ r. ⌜ (length (now (bytes .entry)) ≤ 2560 → r ≡ after (bits (now (bytes .entry))) place) ⌝ }
+{
     if bytes.len() > 2560 {
         return 0;
     }

@@ -1,24 +1,13 @@
-// Matrices of bits, for bench/relation.c. A slice that is no matrix, or a row beyond 2,047, is left alone.
+// Matrices of bits, for bench/relation.c. A slice that is no matrix and a row beyond 2,047 are left alone, or answered by false.
+ghost use mathlib.Core.Path.{_≡_};
+ghost use Prim.Native.Nat.{_<_};
+ghost use lib.ListN.{length};
+ghost use Rattle.relation.specs.Matrix.{United, common};
 
 #[no_mangle]
-pub extern "C" fn relation_union_row(dst: &mut [u64], d: usize, src: &[u64], s: usize) {
-    if dst.len() != 65536 {
-        return;
-    }
-    if src.len() != 65536 {
-        return;
-    }
-    if 2048 <= d {
-        return;
-    }
-    if 2048 <= s {
-        return;
-    }
-    relation::union_row(dst, d, src, s);
-}
-
-#[no_mangle]
-pub extern "C" fn relation_union_within(m: &mut [u64], d: usize, s: usize) {
+pub extern "C" fn relation_union_within(m: &mut [u64], d: usize, s: usize)
+    ensures { λ _. ⌜ (length (now (m .entry)) ≡ 65536 → d < 2048 → s < 2048 → United (now (m .entry)) (now (m .exit)) d (now (m .entry)) s) ⌝ }
+{
     if m.len() != 65536 {
         return;
     }
@@ -32,7 +21,9 @@ pub extern "C" fn relation_union_within(m: &mut [u64], d: usize, s: usize) {
 }
 
 #[no_mangle]
-pub extern "C" fn relation_meet(m: &[u64], r: usize, n: &[u64], s: usize) -> bool {
+pub extern "C" fn relation_meet(m: &[u64], r: usize, n: &[u64], s: usize) -> bool
+    ensures { λ b. ⌜ (length (now (m .entry)) ≡ 65536 → length (now (n .entry)) ≡ 65536 → r < 2048 → s < 2048 → b ≡ common (now (m .entry)) r (now (n .entry)) s) ⌝ }
+{
     if m.len() != 65536 {
         return false;
     }
@@ -46,35 +37,4 @@ pub extern "C" fn relation_meet(m: &[u64], r: usize, n: &[u64], s: usize) -> boo
         return false;
     }
     relation::meet(m, r, n, s)
-}
-
-#[no_mangle]
-pub extern "C" fn relation_product(dst: &mut [u64], a: &[u64], b: &[u64], n: usize) {
-    if dst.len() != 65536 {
-        return;
-    }
-    if a.len() != 65536 {
-        return;
-    }
-    if b.len() != 65536 {
-        return;
-    }
-    if 2048 < n {
-        return;
-    }
-    relation::product(dst, a, b, n);
-}
-
-#[no_mangle]
-pub extern "C" fn relation_transpose(dst: &mut [u64], src: &[u64], n: usize) {
-    if dst.len() != 65536 {
-        return;
-    }
-    if src.len() != 65536 {
-        return;
-    }
-    if 2048 < n {
-        return;
-    }
-    relation::transpose(dst, src, n);
 }

@@ -1,9 +1,10 @@
 -- What a search of a list, or of the numbers below a bound, says. Assumes nothing.
-use Prim.Native.Nat.{ℕ, zero, suc, _<_}
+use Prim.Native.Nat.{ℕ, zero, suc, _+_, _-_, _<_, _≤_}
 use mathlib.Core.Path.{_≡_, refl, sym, ap, _∙_}
 use mathlib.Core.Logic.{_⊎_, inl, inr}
-use mathlib.Core.Bool.{Bool, true, false, false≢true}
+use mathlib.Core.Bool.{Bool, true, false, _||_, false≢true}
 use mathlib.Core.List.{List, [], _∷_, List·Memᴰ, List·Memᴰ·head, List·Memᴰ·tail}
+use native.Mathlib.Nat.{add-suc, add-zero}
 use native.Mathlib.Omega.{arith}
 use borrow.Author.Tests.{eqb-true, eqb-false}
 use lib.Dec.{eqb}
@@ -41,3 +42,12 @@ below-hit p (suc n) x l h = pick (known (eqb x n)) (λ k. below-hit p n x k h)
     pick : Known (eqb x n) → (x < n → anyBelow p n ≡ true) → anyBelow p (suc n) ≡ true
     pick (is-true q) rest = left-or (anyBelow p n) (ap p (sym (eqb-true x n q)) ∙ h)
     pick (is-false q) rest = right-or (p n) (rest (omega (arith, eqb-false x n q)))
+
+-- numbers that fail the test add nothing
+pub below-skip : (p : ℕ → Bool) (k d : ℕ) → ((q : ℕ) → k ≤ q → q < k + d → p q ≡ false) → anyBelow p (k + d) ≡ anyBelow p k
+unfolding anyBelow
+below-skip p k zero h = ap (anyBelow p) (add-zero k)
+below-skip p k (suc d) h = ap (anyBelow p) (add-suc k d) ∙ ap (λ (t : Bool). t || anyBelow p (k + d)) (h (k + d) (omega arith) (omega arith)) ∙ below-skip p k d (λ q l l′. h q l (omega arith))
+
+pub below-pass : (p : ℕ → Bool) (k x : ℕ) → k ≤ x → ((q : ℕ) → k ≤ q → q < x → p q ≡ false) → anyBelow p x ≡ anyBelow p k
+below-pass p k x l h = let e : k + (x - k) ≡ x = omega arith in ap (anyBelow p) (sym e) ∙ below-skip p k (x - k) (λ q g g′. h q g (omega arith))

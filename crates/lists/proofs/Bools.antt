@@ -1,8 +1,8 @@
 -- Boolean tests and what their truth says. Assumes nothing.
 use Prim.Native.Nat.{ℕ}
-use mathlib.Core.Path.{_≡_, refl}
+use mathlib.Core.Path.{_≡_, refl, sym}
 use mathlib.Core.Logic.{_⊎_, inl, inr}
-use mathlib.Core.Bool.{Bool, true, false, _&&_, _||_, false≢true}
+use mathlib.Core.Bool.{Bool, true, false, not, _&&_, _||_, false≢true}
 use borrow.Author.Tests.{eq-eqb}
 use lib.Dec.{eqb}
 
@@ -47,3 +47,11 @@ same-truth false false f g = refl
 pub not-true : (b : Bool) → (b ≡ true → ⊥) → b ≡ false
 not-true true h = absurd (h refl)
 not-true false h = refl
+
+pub not-is-true : (b : Bool) → not b ≡ true → b ≡ false
+not-is-true true h = absurd (false≢true h)
+not-is-true false h = refl
+
+pub not-is-false : (b : Bool) → not b ≡ false → b ≡ true
+not-is-false true h = refl
+not-is-false false h = absurd (false≢true (sym h))

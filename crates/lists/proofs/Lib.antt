@@ -1,6 +1,10 @@
 pub mod Bools
 pub mod Tabs
 pub mod Firsts
+pub mod Searches
 pub mod Anys
 pub mod Members
 pub mod Fronts
+pub mod Numbers
+pub mod Tallies
+pub mod Sums

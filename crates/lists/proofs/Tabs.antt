@@ -1,8 +1,9 @@
 -- What stands where in a list that `tab` makes. Assumes nothing.
 use mathlib.Core.Path.{_≡_, refl, _∙_, ap, sym}
-use Prim.Native.Nat.{ℕ, zero, suc, _+_, _<_}
+use mathlib.Core.List.{List, _∷_}
+use Prim.Native.Nat.{ℕ, zero, suc, _+_, _≤_, _<_}
 use native.Mathlib.Nat.{add-zero, zero-add, add-suc, suc-add, le-of-suc-le-suc, not-suc-le-zero}
-use lib.ListN.{getD, length}
+use lib.ListN.{getD, length, take}
 use Rattle.lists.specs.Tab.{tab}
 
 module _ {A : Type 0} (f : ℕ → A) where
@@ -19,3 +20,9 @@ module _ {A : Type 0} (f : ℕ → A) where
   unfolding tab
   tab-length i zero = refl
   tab-length i (suc n) = ap suc (tab-length (suc i) n)
+
+  pub take-tab : (i n k : ℕ) → k ≤ n → take k (tab f i n) ≡ tab f i k
+  unfolding tab
+  take-tab i n zero h = refl
+  take-tab i zero (suc k) h = absurd (not-suc-le-zero h)
+  take-tab i (suc n) (suc k) h = ap (λ (l : List A). f i ∷ l) (take-tab (suc i) n k (le-of-suc-le-suc h))

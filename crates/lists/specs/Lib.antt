@@ -2,3 +2,5 @@ pub mod Tab
 pub mod First
 pub mod Any
 pub mod Front
+pub mod Numbers
+pub mod Tally

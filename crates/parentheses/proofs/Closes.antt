@@ -1,6 +1,6 @@
 -- A search for the closing parenthesis: what a bit and what a run of whole bytes do to the depth, and where the excess is 0.
 -- Assumes nothing.
-use mathlib.Core.Path.{_≡_, sym, ap, fun-ext, _∙_}
+use mathlib.Core.Path.{_≡_, sym, ap, _∙_}
 use mathlib.Core.Bool.{Bool, true, false}
 use mathlib.Core.List.{List, [], _∷_}
 use Prim.Native.Nat.{ℕ, zero, suc, _+_, _-_, _*_, _/_, _%_, _≤_, _<_}
@@ -11,8 +11,10 @@ use borrow.Author.Tests.{eq-eqb, ne-eqb, eqb-true}
 use lib.Dec.{eqb}
 use lib.ListN.{getD, length}
 use Rattle.lists.specs.First.{first}
+use Rattle.lists.proofs.Searches.{first-same}
 use Rattle.parentheses.specs.Bits.{bits}
-use Rattle.parentheses.specs.Rank.{num, rank}
+use Rattle.lists.specs.Tally.{num}
+use Rattle.parentheses.specs.Rank.{rank}
 use Rattle.parentheses.specs.Close.{balanced, close}
 use Rattle.parentheses.specs.Search.{shuts, closing, Stays}
 use Rattle.parentheses.proofs.Margins.{margin, margin-le}
@@ -37,11 +39,6 @@ stays-more bs p n k d f h first next j g =
       | yes l ↦ first j l
       | no l ↦ let i : p + n + suc (j - n) ≡ p + suc j = omega arith in omega (arith, next (j - n) (omega arith), ap (rank bs) i)
     ]
-
--- ---- tests that agree find the same
-
-first-same : (f g : ℕ → Bool) → ((q : ℕ) → f q ≡ g q) → (p n : ℕ) → first f p n ≡ first g p n
-first-same f g h p n = ap (λ (t : ℕ → Bool). first t p n) (fun-ext h)
 
 -- equations that hold together are one test
 eqb-same : (a b c d : ℕ) → (a ≡ b → c ≡ d) → (c ≡ d → a ≡ b) → eqb a b ≡ eqb c d

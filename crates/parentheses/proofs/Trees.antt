@@ -15,7 +15,8 @@ use lib.Seq.{getD-append-add, getD-append-seam}
 use Rattle.lists.specs.First.{first}
 use Rattle.lists.proofs.Bools.{Known, is-true, is-false, known}
 use Rattle.lists.proofs.Firsts.{first-is}
-use Rattle.parentheses.specs.Rank.{num, rank, select}
+use Rattle.lists.specs.Tally.{num}
+use Rattle.parentheses.specs.Rank.{rank, select}
 use Rattle.parentheses.specs.Close.{balanced, close}
 use Rattle.parentheses.specs.Subtree.{after}
 use Rattle.parentheses.specs.Forest.{Forest, none, node, enc, size, children}

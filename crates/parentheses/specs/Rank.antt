@@ -1,16 +1,12 @@
 -- Counting: how many ones stand before a position, and where the j-th 1 stands.
 -- Assumes nothing.
-use mathlib.Core.Bool.{Bool, true, false}
+use mathlib.Core.Bool.{Bool, false}
 use mathlib.Core.List.{List}
 use Prim.Native.Nat.{ℕ, zero, suc, _+_}
 use lib.Dec.{ltb}
 use lib.ListN.{getD, length}
 use Rattle.lists.specs.First.{first}
-
--- a bit as a number
-abbrev pub num : Bool → ℕ
-num true = 1
-num false = 0
+use Rattle.lists.specs.Tally.{num}
 
 -- how many of the bits before position k are 1
 unfoldable pub rank : List Bool → ℕ → ℕ

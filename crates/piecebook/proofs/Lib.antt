@@ -1,7 +1,1 @@
-pub mod Outcomes
-pub mod Kept
-pub mod Buffers
-pub mod Judges
-pub mod Answering
-pub mod Calls
-pub mod Empty
+pub mod Results

@@ -2,10 +2,10 @@
 use mathlib.Core.Path.{_≡_}
 use mathlib.Core.List.{List}
 use Prim.Native.Nat.{ℕ}
-use Rattle.piecebook.specs.Lent.{Lent}
-use Rattle.piecebook.specs.Call.{outcome, left}
-use Rattle.piecebook.specs.Outcome.{number, place, pieceCount, nodeCount, shadowCount}
-use Rattle.piecebook.specs.declared.Outcome.{Outcome}
+use Rattle.answers.specs.Lent.{Lent}
+use Rattle.answers.specs.Call.{outcome, left}
+use Rattle.answers.specs.Outcome.{number, place, pieceCount, nodeCount, shadowCount}
+use Rattle.answers.specs.declared.Outcome.{Outcome}
 use Rattle.piecebook.specs.declared.PiecebookResult.{PiecebookResult}
 
 -- document 01's numbers of an outcome

@@ -1,12 +1,12 @@
 // The question program: reads a book from the file book.rec and claims from standard input, and prints document 01's lines. What matters is in
-// `piecebook`; here bytes come in and text goes out.
+// `answers`; here bytes come in and text goes out.
 ghost use Prim.Native.Nat.{_≤_};
 ghost use mathlib.Core.Path.{_≡_};
 ghost use lib.ListN.{length};
 ghost use Rattle.io.specs.Counts.{Counts};
+use answers::Outcome;
 use libc::STDIN_FILENO;
 use libc::STDOUT_FILENO;
-use piecebook::Outcome;
 use records::Record;
 
 // As much of the file book.rec as fits; nothing, the empty book, where it cannot be opened.
@@ -138,7 +138,7 @@ fn ask(book: &[u8], claims: &[u8], page: &mut [u8]) -> usize
     let mut shadows = [0u16; 8192];
     let mut places = [0u16; 2048];
     let mut answers = [0u8; 4097];
-    let outcome = piecebook::answer_claims(
+    let outcome = answers::answer_claims(
         book,
         claims,
         &mut parens,

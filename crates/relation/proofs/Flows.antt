@@ -2,19 +2,19 @@
 use mathlib.Core.Path.{_≡_, refl, sym, ap, _∙_}
 use mathlib.Core.Logic.{_⊎_, inl, inr}
 use mathlib.Core.List.{List}
-use mathlib.Core.Bool.{Bool, true, false, _||_, _&&_, or-false, or-comm, or-assoc, true≢false}
-use Prim.Native.Nat.{ℕ, zero, suc, _+_, _-_, _<_, _≤_}
-use native.Mathlib.Numerals.{add-one}
+use mathlib.Core.Bool.{Bool, true, false, _||_, _&&_, or-false, or-assoc, true≢false}
+use Prim.Native.Nat.{ℕ, _+_, _-_, _<_, _≤_}
 use native.Mathlib.Decide.{ℕ-discrete, decLt}
 use native.Mathlib.Omega.{arith}
-use lib.Dec.{eqb, ltb}
-use borrow.Author.Tests.{eqb-true, lt-ltb, le-ltb}
+use lib.Dec.{eqb, ltb, leb}
+use lib.ListN.{getD}
+use borrow.Author.Tests.{eqb-true, lt-ltb, le-ltb, leb-true, le-leb}
 use Rattle.lists.specs.Any.{anyBelow}
 use Rattle.lists.proofs.Bools.{and-both, both-and, or-either, left-or, right-or, same-truth, not-true, eqb-self}
 use Rattle.lists.proofs.Anys.{below-find, below-hit}
 use Rattle.relation.specs.Matrix.{bitOf, through, Joins, United, Gathered}
-use Rattle.relation.specs.Flow.{Rising, Pushed, Reached, Carried, along, against}
-use Rattle.relation.proofs.Seeks.{Sought}
+use Rattle.relation.specs.Flow.{Sorted, Pushed, Reached, Carried, along, against}
+use Rattle.lists.proofs.Searches.{Sought}
 
 -- ---- one row
 
@@ -118,75 +118,138 @@ any-and s f g b c to from =
     (λ t. let p = below-find (λ p. s p && f p) b t in let d = and-both _ _ (p .2) in let q = to (p .0) (p .1) (d .0) in below-hit (λ p. s p && g p) c (p .0) (q .0) (both-and (d .0) (sym (q .1) ∙ d .1)))
     (λ t. let p = below-find (λ p. s p && g p) c t in let d = and-both _ _ (p .2) in let q = from (p .0) (p .1) (d .0) in below-hit (λ p. s p && f p) b (p .0) (q .0) (both-and (d .0) (q .1 ∙ d .1)))
 
--- the rows from k to below n are done
-pub record DoneFrom (e : List ℕ) (n : ℕ) (m m′ : List ℕ) (k : ℕ) : Type 0 where
-  pub row : (r : ℕ → ℕ → Bool) → Reached (along e) n r → (h y : ℕ) → k ≤ h → h < n → y < 2048 → bitOf m′ h y ≡ anyBelow (λ x. r h x && bitOf m x y) 2048
-  pub before : (h y : ℕ) → h < k → y < 2048 → bitOf m′ h y ≡ bitOf m h y
+-- the rows that come before place k are done
+pub record DoneTo (e : List ℕ) (n : ℕ) (at : ℕ → ℕ) (m m′ : List ℕ) (k : ℕ) : Type 0 where
+  pub row : (r : ℕ → ℕ → Bool) → Reached (along e) n r → (h y : ℕ) → at h < k → h < n → y < 2048 → bitOf m′ h y ≡ anyBelow (λ x. r h x && bitOf m x y) 2048
+  pub after : (h y : ℕ) → h < n → k ≤ at h → y < 2048 → bitOf m′ h y ≡ bitOf m h y
   pub beyond : (h y : ℕ) → n ≤ h → h < 2048 → y < 2048 → bitOf m′ h y ≡ bitOf m h y
 
-pub along-none : (e : List ℕ) (n : ℕ) (m : List ℕ) → DoneFrom e n m m n
-along-none e n m = record { row = λ r R h y a b. absurd (omega arith); before = λ h y a b. refl; beyond = λ h y a b c. refl }
+pub along-none : (e : List ℕ) (n : ℕ) (at : ℕ → ℕ) (m : List ℕ) → DoneTo e n at m m 0
+along-none e n at m = record { row = λ r R h y a. absurd (omega arith); after = λ h y a b c. refl; beyond = λ h y a b c. refl }
 
-pub along-more : (e : List ℕ) (n : ℕ) (m m′ m″ : List ℕ) (h k : ℕ) → k ≡ h + 1 → n ≤ 2048 → Rising e n → h < n → DoneFrom e n m m′ k → Gathered m′ m″ e h m′ → DoneFrom e n m m″ h
+-- only the row at place k is at place k
+apart-at : (e : List ℕ) (n : ℕ) (order : List ℕ) (R : Sorted e n order) (g h : ℕ) → g < n → h < n → R .at g ≡ R .at h → g ≡ h
+apart-at e n order R g h l k q = sym (R .placed g l .1) ∙ ap (λ (i : ℕ). getD order i 0) q ∙ R .placed h k .1
+
+pub along-more : (e : List ℕ) (n : ℕ) (order m m′ m″ : List ℕ) (h k : ℕ) (R : Sorted e n order) → n ≤ 2048 → k < n → h ≡ getD order k 0 → DoneTo e n (R .at) m m′ k → Gathered m′ m″ e h m′ → DoneTo e n (R .at) m m″ (k + 1)
 unfolding through
-along-more e n m m′ m″ h k next small R l D G = record {
+along-more e n order m m′ m″ h k R small kn hk D G = record {
   row = λ r Q g y a b c. pick r Q g y a b c (ℕ-discrete g h);
-  before = λ g y a c. G .other g y c (λ q. omega arith) ∙ D .before g y (omega arith) c;
-  beyond = λ g y a b c. G .other g y c (λ q. omega arith) ∙ D .beyond g y a b c;
+  after = λ g y a b c. G .other g y c (λ q. omega (arith, ap (R .at) q, place)) ∙ D .after g y a (omega arith) c;
+  beyond = λ g y a b c. G .other g y c (λ q. omega (arith, l)) ∙ D .beyond g y a b c;
 }
   where
-    pick : (r : ℕ → ℕ → Bool) → Reached (along e) n r → (g y : ℕ) → h ≤ g → g < n → y < 2048 → Dec (g ≡ h) → bitOf m″ g y ≡ anyBelow (λ x. r g x && bitOf m x y) 2048
+    l : h < n
+    l = rw hk (R .row k kn .0)
+
+    place : R .at h ≡ k
+    place = ap (R .at) hk ∙ R .row k kn .1
+
+    pick : (r : ℕ → ℕ → Bool) → Reached (along e) n r → (g y : ℕ) → R .at g < k + 1 → g < n → y < 2048 → Dec (g ≡ h) → bitOf m″ g y ≡ anyBelow (λ x. r g x && bitOf m x y) 2048
     pick r Q g y a b c (yes q) =
         rw q
-        (G .row y c ∙ ap (λ (t : Bool). t || anyBelow (λ x. bitOf e h x && bitOf m′ x y) 2048) (D .before h y (omega arith) c)
+        (G .row y c ∙ ap (λ (t : Bool). t || anyBelow (λ x. bitOf e h x && bitOf m′ x y) 2048) (D .after h y l (omega (arith, place)) c)
         ∙ ap (λ (t : Bool). bitOf m h y || t)
         (any-and (bitOf e h) (λ p. bitOf m′ p y) (λ p. all (along e) n r Q m small p y) 2048 n
-        (λ p w t. let z = R .higher h p l w t in (z .1, D .row r Q p y (omega arith) (z .1) c))
-        (λ p w t. let z = R .higher h p l (omega arith) t in (omega arith, D .row r Q p y (omega arith) w c)))
+        (λ p w t. let z = R .earlier h p l w t in (z .1, D .row r Q p y (omega (arith, z .0, place)) (z .1) c))
+        (λ p w t. let z = R .earlier h p l (omega arith) t in (omega arith, D .row r Q p y (omega (arith, z .0, place)) w c)))
         ∙ sym (all-step (along e) n r Q m small h y l))
-    pick r Q g y a b c (no q) = G .other g y c q ∙ D .row r Q g y (omega arith) b c
+    pick r Q g y a b c (no q) = G .other g y c q ∙ D .row r Q g y (older (ℕ-discrete (R .at g) k)) b c
+      where
+        older : Dec (R .at g ≡ k) → R .at g < k
+        older (yes z) = absurd (q (apart-at e n order R g h b l (z ∙ sym place)))
+        older (no z) = omega arith
 
-pub along-all : (e : List ℕ) (n : ℕ) (m m′ : List ℕ) (k : ℕ) → k ≡ 0 → DoneFrom e n m m′ k → (r : ℕ → ℕ → Bool) → Reached (along e) n r → Carried r n m m′
-along-all e n m m′ k z D r Q = record { row = λ h y a b. D .row r Q h y (omega arith) a b; other = D .beyond }
+pub along-all : (e : List ℕ) (n : ℕ) (order m m′ : List ℕ) (k : ℕ) (R : Sorted e n order) → k ≡ n → DoneTo e n (R .at) m m′ k → (r : ℕ → ℕ → Bool) → Reached (along e) n r → Carried r n m m′
+along-all e n order m m′ k R z D r Q = record { row = λ h y a b. D .row r Q h y (omega (arith, R .placed h a .0)) a b; other = D .beyond }
 
--- rows below k have been put where their edges lead
-pub record Sent (e : List ℕ) (n : ℕ) (m m′ : List ℕ) (k : ℕ) : Type 0 where
+-- the rows from place k on have been put where their edges lead
+pub record Sent (e : List ℕ) (n : ℕ) (at : ℕ → ℕ) (m m′ : List ℕ) (k : ℕ) : Type 0 where
   pub row : (r : ℕ → ℕ → Bool) → Reached (against e) n r → (q y : ℕ) → q < n → y < 2048
-      → bitOf m′ q y ≡ (bitOf m q y || anyBelow (λ h. bitOf e h q && anyBelow (λ x. r h x && bitOf m x y) 2048) k)
+      → bitOf m′ q y ≡ (bitOf m q y || anyBelow (λ h. (leb k (at h) && bitOf e h q) && anyBelow (λ x. r h x && bitOf m x y) 2048) n)
   pub other : (q y : ℕ) → n ≤ q → q < 2048 → y < 2048 → bitOf m′ q y ≡ bitOf m q y
 
-pub against-none : (e : List ℕ) (n : ℕ) (m : List ℕ) → Sent e n m m 0
-unfolding anyBelow
-against-none e n m = record { row = λ r Q q y a b. sym (or-false (bitOf m q y)); other = λ q y a b c. refl }
+pub against-none : (e : List ℕ) (n : ℕ) (order m : List ℕ) (R : Sorted e n order) → Sent e n (R .at) m m n
+against-none e n order m R = record {
+  row = λ r Q q y a b. sym (ap (λ (t : Bool). bitOf m q y || t) (not-true _ (λ t. none r q y (below-find _ n t))) ∙ or-false (bitOf m q y));
+  other = λ q y a b c. refl;
+}
+  where
+    none : (r : ℕ → ℕ → Bool) (q y : ℕ) → (h : ℕ) × (h < n) × (((leb n (R .at h) && bitOf e h q) && anyBelow (λ x. r h x && bitOf m x y) 2048) ≡ true) → ⊥
+    none r q y (h, l, t) = omega (arith, leb-true n (R .at h) (and-both _ _ (and-both (leb n (R .at h) && bitOf e h q) _ t .0) .0), R .placed h l .0)
 
-module _ (e : List ℕ) (n : ℕ) (m m′ : List ℕ) (h : ℕ) (small : n ≤ 2048) (R : Rising e n) (S : Sent e n m m′ h) where
-  -- edges into h come from lower rows, so row h is whole
-  whole : (r : ℕ → ℕ → Bool) (Q : Reached (against e) n r) → h < n → (y : ℕ) → y < 2048 → bitOf m′ h y ≡ all (against e) n r Q m small h y
-  whole r Q l y c =
-      S .row r Q h y l c
+module _ (e : List ℕ) (n : ℕ) (order m m′ : List ℕ) (h k : ℕ) (R : Sorted e n order) (small : n ≤ 2048) (kn : k < n) (hk : h ≡ getD order k 0) (S : Sent e n (R .at) m m′ (k + 1)) where
+  own-in : h < n
+  own-in = rw hk (R .row k kn .0)
+
+  own-at : R .at h ≡ k
+  own-at = ap (R .at) hk ∙ R .row k kn .1
+
+  -- edges into h come from rows that come later, so row h is whole
+  whole : (r : ℕ → ℕ → Bool) (Q : Reached (against e) n r) → (y : ℕ) → y < 2048 → bitOf m′ h y ≡ all (against e) n r Q m small h y
+  whole r Q y c =
+      S .row r Q h y own-in c
       ∙ ap (λ (t : Bool). bitOf m h y || t)
-      (any-and (λ g. bitOf e g h) (λ g. all (against e) n r Q m small g y) (λ g. all (against e) n r Q m small g y) h n
-      (λ p k t. (omega arith, refl))
-      (λ p k t. (R .higher p h k (omega arith) t .0, refl)))
-      ∙ sym (all-step (against e) n r Q m small h y l)
+      (same-truth _ _
+      (λ t. let p = below-find (λ g. (leb (k + 1) (R .at g) && bitOf e g h) && all (against e) n r Q m small g y) n t in
+      let d = and-both (leb (k + 1) (R .at (p .0)) && bitOf e (p .0) h) _ (p .2) in
+      below-hit (λ g. bitOf e g h && all (against e) n r Q m small g y) n (p .0) (p .1) (both-and (and-both (leb (k + 1) (R .at (p .0))) (bitOf e (p .0) h) (d .0) .1) (d .1)))
+      (λ t. let p = below-find (λ g. bitOf e g h && all (against e) n r Q m small g y) n t in
+      let d = and-both (bitOf e (p .0) h) _ (p .2) in
+      below-hit (λ g. (leb (k + 1) (R .at g) && bitOf e g h) && all (against e) n r Q m small g y) n (p .0) (p .1)
+      (both-and (both-and (le-leb (k + 1) (R .at (p .0)) (omega (arith, R .earlier (p .0) h (p .1) (omega (arith, own-in)) (d .0) .0, own-at))) (d .0)) (d .1))))
+      ∙ sym (all-step (against e) n r Q m small h y own-in)
 
-  pub against-more : (m″ : List ℕ) → h < n → Pushed e m′ m″ h → Sent e n m m″ (h + 1)
-  unfolding anyBelow
-  against-more m″ l P = record {
+  pub against-more : (m″ : List ℕ) → Pushed e m′ m″ h → Sent e n (R .at) m m″ k
+  against-more m″ P = record {
     row = λ r Q q y a c.
-        P .bits q y (omega arith) c ∙ ap (λ (t : Bool). bitOf m′ q y || (bitOf e h q && t)) (whole r Q l y c)
+        P .bits q y (omega arith) c ∙ ap (λ (t : Bool). bitOf m′ q y || (bitOf e h q && t)) (whole r Q y c)
         ∙ ap (λ (t : Bool). t || (bitOf e h q && all (against e) n r Q m small h y)) (S .row r Q q y a c)
-        ∙ or-assoc (bitOf m q y) (anyBelow (λ g. bitOf e g q && all (against e) n r Q m small g y) h) (bitOf e h q && all (against e) n r Q m small h y)
-        ∙ ap (λ (t : Bool). bitOf m q y || t) (or-comm (anyBelow (λ g. bitOf e g q && all (against e) n r Q m small g y) h) (bitOf e h q && all (against e) n r Q m small h y))
-        ∙ ap (λ (k : ℕ). bitOf m q y || anyBelow (λ g. bitOf e g q && all (against e) n r Q m small g y) k) (sym (add-one h));
-    other = λ q y a b c. P .bits q y b c ∙ ap (λ (t : Bool). bitOf m′ q y || (t && bitOf m′ h y)) (not-true (bitOf e h q) (λ t. omega (arith, R .higher h q l b t))) ∙ or-false (bitOf m′ q y) ∙ S .other q y a b c;
+        ∙ or-assoc (bitOf m q y) (anyBelow (λ g. (leb (k + 1) (R .at g) && bitOf e g q) && all (against e) n r Q m small g y) n) (bitOf e h q && all (against e) n r Q m small h y)
+        ∙ ap (λ (t : Bool). bitOf m q y || t) (same-truth _ _ (λ t. to r Q q y (or-either _ _ t)) (λ t. from r Q q y (below-find _ n t)));
+    other = λ q y a b c. P .bits q y b c ∙ ap (λ (t : Bool). bitOf m′ q y || (t && bitOf m′ h y)) (not-true (bitOf e h q) (λ t. omega (arith, R .earlier h q own-in b t .1))) ∙ or-false (bitOf m′ q y) ∙ S .other q y a b c;
   }
+    where
+      W : ℕ → (r : ℕ → ℕ → Bool) → Reached (against e) n r → ℕ → ℕ → ℕ → Bool
+      W j r Q q y g = (leb j (R .at g) && bitOf e g q) && all (against e) n r Q m small g y
 
-pub against-all : (e : List ℕ) (n : ℕ) (m m′ : List ℕ) (k : ℕ) → n ≤ 2048 → k ≡ n → Sent e n m m′ k → (r : ℕ → ℕ → Bool) → Reached (against e) n r → Carried r n m m′
-against-all e n m m′ k small q S r Q = record {
-  row = λ h y a b. S .row r Q h y a b ∙ ap (λ (j : ℕ). bitOf m h y || anyBelow (λ g. bitOf e g h && all (against e) n r Q m small g y) j) q ∙ sym (all-step (against e) n r Q m small h y a);
+      to : (r : ℕ → ℕ → Bool) (Q : Reached (against e) n r) (q y : ℕ) → (anyBelow (W (k + 1) r Q q y) n ≡ true) ⊎ ((bitOf e h q && all (against e) n r Q m small h y) ≡ true) → anyBelow (W k r Q q y) n ≡ true
+      to r Q q y (inl t) =
+          let p = below-find (W (k + 1) r Q q y) n t in
+          let d = and-both (leb (k + 1) (R .at (p .0)) && bitOf e (p .0) q) _ (p .2) in
+          let f = and-both (leb (k + 1) (R .at (p .0))) (bitOf e (p .0) q) (d .0) in
+          below-hit (W k r Q q y) n (p .0) (p .1) (both-and (both-and (le-leb k (R .at (p .0)) (omega (arith, leb-true (k + 1) (R .at (p .0)) (f .0)))) (f .1)) (d .1))
+      to r Q q y (inr t) =
+          let d = and-both (bitOf e h q) (all (against e) n r Q m small h y) t in
+          below-hit (W k r Q q y) n h own-in (both-and (both-and (le-leb k (R .at h) (omega (arith, own-at))) (d .0)) (d .1))
+
+      from : (r : ℕ → ℕ → Bool) (Q : Reached (against e) n r) (q y : ℕ) → (g : ℕ) × (g < n) × (W k r Q q y g ≡ true)
+          → (anyBelow (W (k + 1) r Q q y) n || (bitOf e h q && all (against e) n r Q m small h y)) ≡ true
+      from r Q q y (g, l, t) = side (ℕ-discrete (R .at g) k)
+        where
+          d : ((leb k (R .at g) && bitOf e g q) ≡ true) × (all (against e) n r Q m small g y ≡ true)
+          d = and-both (leb k (R .at g) && bitOf e g q) _ t
+
+          f : (leb k (R .at g) ≡ true) × (bitOf e g q ≡ true)
+          f = and-both (leb k (R .at g)) (bitOf e g q) (d .0)
+
+          side : Dec (R .at g ≡ k) → (anyBelow (W (k + 1) r Q q y) n || (bitOf e h q && all (against e) n r Q m small h y)) ≡ true
+          side (yes z) = let same = apart-at e n order R g h l own-in (z ∙ sym own-at) in
+              right-or (anyBelow (W (k + 1) r Q q y) n) (both-and (rw same at (f .1)) (rw same at (d .1)))
+          side (no z) = left-or _ (below-hit (W (k + 1) r Q q y) n g l (both-and (both-and (le-leb (k + 1) (R .at g) (omega (arith, leb-true k (R .at g) (f .0)))) (f .1)) (d .1)))
+
+pub against-all : (e : List ℕ) (n : ℕ) (at : ℕ → ℕ) (m m′ : List ℕ) (k : ℕ) → n ≤ 2048 → k ≡ 0 → Sent e n at m m′ k → (r : ℕ → ℕ → Bool) → Reached (against e) n r → Carried r n m m′
+against-all e n at m m′ k small q S r Q = record {
+  row = λ h y a b. S .row r Q h y a b ∙ ap (λ (t : Bool). bitOf m h y || t) (same-truth _ _
+      (λ t. let p = below-find (λ g. (leb k (at g) && bitOf e g h) && all (against e) n r Q m small g y) n t in
+      let d = and-both (leb k (at (p .0)) && bitOf e (p .0) h) _ (p .2) in
+      below-hit (λ g. bitOf e g h && all (against e) n r Q m small g y) n (p .0) (p .1) (both-and (and-both (leb k (at (p .0))) (bitOf e (p .0) h) (d .0) .1) (d .1)))
+      (λ t. let p = below-find (λ g. bitOf e g h && all (against e) n r Q m small g y) n t in
+      let d = and-both (bitOf e (p .0) h) _ (p .2) in
+      below-hit (λ g. (leb k (at g) && bitOf e g h) && all (against e) n r Q m small g y) n (p .0) (p .1) (both-and (both-and (le-leb k (at (p .0)) (omega arith)) (d .0)) (d .1))))
+      ∙ sym (all-step (against e) n r Q m small h y a);
   other = S .other;
 }
 
-pub irreflexive : (e : List ℕ) (n : ℕ) → Rising e n → n ≤ 2048 → (h : ℕ) → h < n → bitOf e h h ≡ false
-irreflexive e n R small h l = not-true (bitOf e h h) (λ t. omega (arith, R .higher h h l (omega arith) t .0))
+pub irreflexive : (e : List ℕ) (n : ℕ) (order : List ℕ) → Sorted e n order → n ≤ 2048 → (h : ℕ) → h < n → bitOf e h h ≡ false
+irreflexive e n order R small h l = not-true (bitOf e h h) (λ t. omega (arith, R .earlier h h l (omega arith) t .0))

@@ -1,24 +1,15 @@
 -- A row of a product, gathered bit by bit, and the rows of a product one after the other. Assumes nothing.
 use mathlib.Core.Path.{_≡_, refl, sym, ap, _∙_}
 use mathlib.Core.List.{List}
-use mathlib.Core.Bool.{Bool, false, _||_, _&&_, or-false, or-assoc, or-comm}
-use Prim.Native.Nat.{ℕ, zero, suc, _+_, _-_, _<_, _≤_}
-use native.Mathlib.Nat.{add-suc, add-zero}
+use mathlib.Core.Bool.{Bool, _||_, _&&_, or-false, or-assoc, or-comm}
+use Prim.Native.Nat.{ℕ, _+_, _<_, _≤_}
 use native.Mathlib.Numerals.{add-one}
 use native.Mathlib.Decide.{ℕ-discrete}
 use native.Mathlib.Omega.{arith}
 use Rattle.lists.specs.Any.{anyBelow}
+use Rattle.lists.proofs.Anys.{below-pass}
+use Rattle.lists.proofs.Searches.{Sought}
 use Rattle.relation.specs.Matrix.{bitOf, through, Joins, United, Gathered, Multiplied}
-use Rattle.relation.proofs.Seeks.{Sought}
-
--- numbers that fail the test add nothing
-below-skip : (p : ℕ → Bool) (k d : ℕ) → ((q : ℕ) → k ≤ q → q < k + d → p q ≡ false) → anyBelow p (k + d) ≡ anyBelow p k
-unfolding anyBelow
-below-skip p k zero h = ap (anyBelow p) (add-zero k)
-below-skip p k (suc d) h = ap (anyBelow p) (add-suc k d) ∙ ap (λ (t : Bool). t || anyBelow p (k + d)) (h (k + d) (omega arith) (omega arith)) ∙ below-skip p k d (λ q l l′. h q l (omega arith))
-
-below-pass : (p : ℕ → Bool) (k x : ℕ) → k ≤ x → ((q : ℕ) → k ≤ q → q < x → p q ≡ false) → anyBelow p x ≡ anyBelow p k
-below-pass p k x l h = let e : k + (x - k) ≡ x = omega arith in ap (anyBelow p) (sym e) ∙ below-skip p k (x - k) (λ q g g′. h q g (omega arith))
 
 -- bit y of row r of the product, by the x below k alone
 abbrev pub part : List ℕ → List ℕ → ℕ → ℕ → ℕ → Bool

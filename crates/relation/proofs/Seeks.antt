@@ -1,8 +1,8 @@
--- What a search finds, and the search of a row for its next set bit, word by word. Assumes nothing.
+-- The search of a row for its next set bit, word by word. Assumes nothing.
 use mathlib.Core.Path.{_≡_, sym, ap, subst, _∙_}
 use mathlib.Core.List.{List}
-use mathlib.Core.Bool.{Bool, true, false, true≢false}
-use Prim.Native.Nat.{ℕ, zero, suc, _+_, _-_, _*_, _/_, _%_, _^_, _<_, _≤_}
+use mathlib.Core.Bool.{false, true≢false}
+use Prim.Native.Nat.{ℕ, _+_, _-_, _*_, _/_, _%_, _^_, _<_, _≤_}
 use native.Mathlib.Decide.{decLt}
 use native.Mathlib.Nat.{lt-of-le-of-lt, div-one}
 use native.Mathlib.Omega.{arith}
@@ -10,39 +10,9 @@ use lib.Count.{trailingZeros}
 use lib.ListN.{getD}
 use lib.Pow.{shr-le}
 use Rattle.lists.specs.First.{first}
-use Rattle.lists.proofs.Bools.{Known, is-true, is-false, known}
 use Rattle.lists.proofs.Firsts.{first-is, passed-over}
 use Rattle.relation.specs.Matrix.{bit, bitOf}
 use Rattle.relation.proofs.Laws.{bit-zero, bit-shifted, bit-beyond, Lowest, lowest}
-
--- r is where a search from p to e ends
-pub record Sought (f : ℕ → Bool) (p e r : ℕ) : Type 0 where
-  pub from : p ≤ r
-  pub upto : r ≤ e
-  pub before : (q : ℕ) → p ≤ q → q < r → f q ≡ false
-  pub hit : r < e → f r ≡ true
-
-pub sought : (f : ℕ → Bool) (p n : ℕ) → Sought f p (p + n) (first f p n)
-unfolding first
-sought f p zero = record { from = omega arith; upto = omega arith; before = λ q k l. absurd (omega arith); hit = λ k. absurd (omega arith) }
-sought f p (suc n) = pick (known (f p)) (sought f (suc p) n)
-  where
-    pick : Known (f p) → Sought f (suc p) (suc p + n) (first f (suc p) n) → Sought f p (p + suc n) (first f p (suc n))
-    pick (is-true h) S = rw (h, first) (record { from = omega arith; upto = omega arith; before = λ q k l. absurd (omega arith); hit = λ k. h })
-    pick (is-false h) S =
-        rw (h, first)
-        (record {
-          from = omega (arith, S .from);
-          upto = omega (arith, S .upto);
-          before = λ q k l. elim (decLt p q) [ yes y ↦ S .before q (omega arith) l | no y ↦ let e : q ≡ p = omega arith in ap f e ∙ h ];
-          hit = λ k. S .hit (omega arith);
-        })
-
--- the same, of a search of what is left below e
-pub sought-next : (f : ℕ → Bool) (p e r : ℕ) → p ≤ e → r ≡ first f p (e - p) → Sought f p e r
-sought-next f p e r h is =
-    let k : p + (e - p) ≡ e = omega arith in
-    rw is (rw k at (sought f p (e - p)))
 
 module _ (m : List ℕ) (r p x : ℕ) (below : p < 2048) (is : x ≡ getD m (r * 32 + p / 64) 0 / 2 ^ (p % 64)) where
   -- the bit k places on in the same word

@@ -4,12 +4,17 @@ use mathlib.Core.List.{List}
 use mathlib.Core.Bool.{Bool, true, _||_, _&&_}
 use Prim.Native.Nat.{ℕ, _<_, _≤_}
 use lib.Dec.{eqb}
+use lib.ListN.{length, getD}
 use Rattle.lists.specs.Any.{anyBelow}
 use Rattle.relation.specs.Matrix.{bitOf}
 
--- an edge leads from a row below n to a higher one below n
-pub record Rising (e : List ℕ) (n : ℕ) : Type 0 where
-  pub higher : (h p : ℕ) → h < n → p < 2048 → bitOf e h p ≡ true → (h < p) × (p < n)
+-- the first n of `order` are the rows below n, each once, and an edge leads to a row that comes before
+pub record Sorted (e : List ℕ) (n : ℕ) (order : List ℕ) : Type 0 where
+  pub room : n ≤ length order
+  pub at : ℕ → ℕ
+  pub row : (i : ℕ) → i < n → (getD order i 0 < n) × (at (getD order i 0) ≡ i)
+  pub placed : (h : ℕ) → h < n → (at h < n) × (getD order (at h) 0 ≡ h)
+  pub earlier : (h p : ℕ) → h < n → p < 2048 → bitOf e h p ≡ true → (at p < at h) × (p < n)
 
 -- m′ is m with row h put into each row that an edge leads to from h
 pub record Pushed (e m m′ : List ℕ) (h : ℕ) : Type 0 where

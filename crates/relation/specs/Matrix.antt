@@ -3,7 +3,7 @@ use mathlib.Core.Path.{_≡_}
 use mathlib.Core.List.{List}
 use mathlib.Core.Bool.{Bool, true, _||_, _&&_}
 use Prim.Native.Nat.{ℕ, _+_, _*_, _/_, _%_, _^_, _<_, _≤_}
-use lib.Dec.{eqb, ltb}
+use lib.Dec.{eqb}
 use lib.ListN.{getD}
 use Rattle.lists.specs.Any.{anyBelow}
 
@@ -41,16 +41,7 @@ United m m′ d n s = Joins m m′ d (bitOf n s)
 abbrev pub Gathered : List ℕ → List ℕ → List ℕ → ℕ → List ℕ → Type 0
 Gathered m m′ a r b = Joins m m′ r (through a b r)
 
--- m′ is m with the bits that `more` says put into column d
-pub record Columned (m m′ : List ℕ) (d : ℕ) (more : ℕ → Bool) : Type 0 where
-  pub column : (i : ℕ) → i < 2048 → bitOf m′ i d ≡ (bitOf m i d || more i)
-  pub other : (i j : ℕ) → j < 2048 → (j ≡ d → ⊥) → bitOf m′ i j ≡ bitOf m i j
-
 -- m′ is m with the rows below n of the product of a and b put in
 pub record Multiplied (m m′ a b : List ℕ) (n : ℕ) : Type 0 where
   pub row : (r y : ℕ) → r < n → y < 2048 → bitOf m′ r y ≡ (bitOf m r y || through a b r y)
   pub other : (r y : ℕ) → n ≤ r → y < 2048 → bitOf m′ r y ≡ bitOf m r y
-
--- m′ is the transpose of the rows below n of m
-pub record Transposed (m m′ : List ℕ) (n : ℕ) : Type 0 where
-  pub turned : (r i : ℕ) → r < 2048 → i < 2048 → bitOf m′ i r ≡ (ltb r n && bitOf m r i)

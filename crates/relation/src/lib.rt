@@ -4,8 +4,8 @@ ghost use Prim.Native.Nat.{ℕ, _+_, _-_, _*_, _<_, _≤_};
 ghost use lib.ListN.{length, replicate};
 ghost use Rattle.lists.specs.First.{first};
 ghost use mathlib.Core.Bool.{Bool, false};
-ghost use Rattle.relation.specs.Flow.{Rising, Pushed, Reached, Carried, along, against};
-ghost use Rattle.relation.specs.Matrix.{bitOf, common, Inserted, United, Gathered, Columned, Multiplied, Transposed};
+ghost use Rattle.relation.specs.Flow.{Sorted, Pushed, Reached, Carried, along, against};
+ghost use Rattle.relation.specs.Matrix.{bitOf, common, Inserted, United, Gathered, Multiplied};
 
 // Whether bit i of row r is set.
 pub fn test(m: &[u64], r: usize, i: usize) -> bool
@@ -144,35 +144,6 @@ pub fn product(dst: &mut [u64], a: &[u64], b: &[u64], n: usize)
     }
 }
 
-// Row r of src is put into column c of dst.
-pub fn union_column(dst: &mut [u64], c: usize, src: &[u64], r: usize)
-    requires { ⌜ (length (now dst) ≡ 65536) × (length (now src) ≡ 65536) × (c < 2048) × (r < 2048) ⌝ }
-    ensures { λ _. ⌜ Columned (now (dst .entry)) (now (dst .exit)) c (bitOf (now (src .entry)) r) ⌝ }
-{
-    let mut from: usize = 0;
-    while from < 2048 {
-        let x = next_bit(src, r, from);
-        if 2048 <= x {
-            return;
-        }
-        insert(dst, x, c);
-        from = x + 1;
-    }
-}
-
-// The rows below n of src become the columns of dst, whose other bits are cleared.
-pub fn transpose(dst: &mut [u64], src: &[u64], n: usize)
-    requires { ⌜ (length (now dst) ≡ 65536) × (length (now src) ≡ 65536) × (n ≤ 2048) ⌝ }
-    ensures { λ _. ⌜ Transposed (now (src .entry)) (now (dst .exit)) n ⌝ }
-{
-    clear(dst);
-    let mut r: usize = 0;
-    while r < n {
-        union_column(dst, r, src, r);
-        r += 1;
-    }
-}
-
 // Puts into row h of m the rows to which edges lead from h.
 fn pull(e: &[u64], h: usize, m: &mut [u64])
     requires { ⌜ (length (now e) ≡ 65536) × (length (now m) ≡ 65536) × (h < 2048) × (bitOf (now e) h h ≡ false) ⌝ }
@@ -205,27 +176,35 @@ fn push(e: &[u64], h: usize, m: &mut [u64])
     }
 }
 
-// Each row below n becomes the union of the rows that it reaches along the edges. Edges rise, so the rows are taken from the last
-// to the first, and each is whole when it is used.
-pub fn join_along(e: &[u64], n: usize, m: &mut [u64])
-    requires { ⌜ (length (now e) ≡ 65536) × (length (now m) ≡ 65536) × (n ≤ 2048) × Rising (now e) n ⌝ }
+fn wide(x: u16) -> usize
+    ensures { λ r. ⌜ r ≡ x ⌝ }
+{
+    x as usize
+}
+
+// Each row below n becomes the union of the rows that it reaches along the edges. Edges lead to rows that come before in `order`, so
+// each is whole when it is used.
+pub fn join_along(e: &[u64], order: &[u16], n: usize, m: &mut [u64])
+    requires { ⌜ (length (now e) ≡ 65536) × (length (now m) ≡ 65536) × (n ≤ 2048) × Sorted (now e) n (now order) ⌝ }
     ensures { λ _. ⌜ ((r : ℕ → ℕ → Bool) → Reached (along (now (e .entry))) n r → Carried r n (now (m .entry)) (now (m .exit))) ⌝ }
 {
-    let mut h = n;
-    while 0 < h {
-        h -= 1;
+    let mut i: usize = 0;
+    while i < n {
+        let h = wide(order[i]);
         pull(e, h, m);
+        i += 1;
     }
 }
 
 // Each row below n becomes the union of the rows that it reaches against the edges.
-pub fn join_against(e: &[u64], n: usize, m: &mut [u64])
-    requires { ⌜ (length (now e) ≡ 65536) × (length (now m) ≡ 65536) × (n ≤ 2048) × Rising (now e) n ⌝ }
+pub fn join_against(e: &[u64], order: &[u16], n: usize, m: &mut [u64])
+    requires { ⌜ (length (now e) ≡ 65536) × (length (now m) ≡ 65536) × (n ≤ 2048) × Sorted (now e) n (now order) ⌝ }
     ensures { λ _. ⌜ ((r : ℕ → ℕ → Bool) → Reached (against (now (e .entry))) n r → Carried r n (now (m .entry)) (now (m .exit))) ⌝ }
 {
-    let mut h: usize = 0;
-    while h < n {
+    let mut i = n;
+    while 0 < i {
+        i -= 1;
+        let h = wide(order[i]);
         push(e, h, m);
-        h += 1;
     }
 }

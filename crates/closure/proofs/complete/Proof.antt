@@ -18,8 +18,8 @@ clear-requires c κs = search needs
 diagonal-requires : tie.Need-diagonal-requires
 diagonal-requires c κs = search needs
 
-join-against-requires : tie.Need-join-against-requires
-join-against-requires c κs = (search needs, search needs, search needs, edges-rise _ _ (c .before .before .before .before .before .before .before .before .before .before .before .before .before .before .before .before .before .before .before .before .before .before .before .before .before .before .pre .0) _ (c .before .before .before .before .before .before .before .before .before .before .before .before .before .before .before .before .before .before .before .before .before .before .before .before .before .before .pre .2) (c .before .before .before .before .before .before .before .before .before .before .before .before .before .before .before .before .before .before .before .before .before .before .before .before .before .before .pre .1))
+join-wholes-requires : tie.Need-join-wholes-requires
+join-wholes-requires c κs = (search needs, search needs, search needs, edges-rise _ _ (c .before .before .before .before .before .before .before .before .before .before .before .before .before .before .before .before .before .before .before .before .before .before .before .before .before .before .pre .0) _ (c .before .before .before .before .before .before .before .before .before .before .before .before .before .before .before .before .before .before .before .before .before .before .before .before .before .before .pre .2) (c .before .before .before .before .before .before .before .before .before .before .before .before .before .before .before .before .before .before .before .before .before .before .before .before .before .before .pre .1))
 
 same-length : tie.Need-same-length
 same-length c = search needs
@@ -33,7 +33,7 @@ same-length-3 c = search needs
 returns : tie.Need-returns
 returns c =
     let P = c .before .before .before .before .before .before .before .before .before .before .before .before .before .before .before .before .before .before .before .before .before .before .before .before .before .before .before .before .before .pre in (
-      whole-holds _ _ (length (c .before .before .before .before .before .before .before .before .before .before .before .before .before .before .before .before .outing .last .1 .1 .1 .1 .0)) (c .before .before .before .before .before .before .before .before .before .before .clear .ensures) (search needs) (c .before .before .before .before .before .before .diagonal .ensures) (c .before .before .join-against .ensures _ (wholes-reached _ _ (P .0) _ (P .2))),
+      whole-holds _ _ (length (c .before .before .before .before .before .before .before .before .before .before .before .before .before .before .before .before .outing .last .1 .1 .1 .1 .0)) (c .before .before .before .before .before .before .before .before .before .before .clear .ensures) (search needs) (c .before .before .before .before .before .before .diagonal .ensures) (c .before .before .join-wholes .ensures _ (wholes-reached _ _ (P .0) _ (P .2))),
       c .before .before .before .before .before .before .before .before .before .before .before .before .before .before .before .before .before .before .before .before .before .before .parting .ensures,
       c .before .before .before .before .before .before .before .before .before .before .before .before .before .before .before .before .outing .ensures,
     )
@@ -46,7 +46,7 @@ complete-spec =
     outing-requires
     clear-requires
     diagonal-requires
-    join-against-requires
+    join-wholes-requires
     same-length
     same-length-2
     same-length-3

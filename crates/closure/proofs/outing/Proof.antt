@@ -14,8 +14,8 @@ store-requires c κs = (search needs, search needs, search needs, below-2048 (c 
 product-requires : tie.Need-product-requires
 product-requires c κs = search needs
 
-join-along-requires : tie.Need-join-along-requires
-join-along-requires c κs = (search needs, search needs, search needs, edges-rise _ _ (c .before .before .before .before .before .before .before .before .before .before .before .before .before .before .before .before .before .before .before .pre .0) _ (c .before .before .before .before .before .before .before .before .before .before .before .before .before .before .before .before .before .before .before .pre .2) (c .before .before .before .before .before .before .before .before .before .before .before .before .before .before .before .before .before .before .before .pre .1))
+join-parts-requires : tie.Need-join-parts-requires
+join-parts-requires c κs = (search needs, search needs, search needs, edges-rise _ _ (c .before .before .before .before .before .before .before .before .before .before .before .before .before .before .before .before .before .before .before .pre .0) _ (c .before .before .before .before .before .before .before .before .before .before .before .before .before .before .before .before .before .before .before .pre .2) (c .before .before .before .before .before .before .before .before .before .before .before .before .before .before .before .before .before .before .before .pre .1))
 
 same-length : tie.Need-same-length
 same-length c = search needs
@@ -27,7 +27,7 @@ returns : tie.Need-returns
 returns c =
     let P = c .before .before .before .before .before .before .before .before .before .before .before .before .before .before .before .before .before .before .before .before .before .before .pre in
     out-holds _ _ (P .0 .within) (search needs) (search needs) (c .before .before .before .before .before .before .before .before .before .before .before .before .before .before .before .meets .ensures) (P .3) (c .before .before .before .before .before .before .before .before .before .before .before .store .ensures) (c .before .before .before .before .before .before .product .ensures)
-    (c .before .before .join-along .ensures _ (parts-reached _ _ (P .0) _ (P .2)))
+    (c .before .before .join-parts .ensures _ (parts-reached _ _ (P .0) _ (P .2)))
 
 pub outing-spec : {M : Type 1} → statement M
 outing-spec =
@@ -36,7 +36,7 @@ outing-spec =
     meets-requires
     store-requires
     product-requires
-    join-along-requires
+    join-parts-requires
     same-length
     same-length-2
     returns)

@@ -8,8 +8,8 @@ use Rattle.closure.proofs.parting.Tie as tie
 store-requires : tie.Need-store-requires
 store-requires c κs = (search needs, search needs, search needs, below-2048 (c .before .before .before .before .pre .0))
 
-join-against-requires : tie.Need-join-against-requires
-join-against-requires c κs = (search needs, search needs, search needs, edges-rise _ _ (c .before .before .before .before .before .before .before .before .pre .0) _ (c .before .before .before .before .before .before .before .before .pre .2) (c .before .before .before .before .before .before .before .before .pre .1))
+join-wholes-requires : tie.Need-join-wholes-requires
+join-wholes-requires c κs = (search needs, search needs, search needs, edges-rise _ _ (c .before .before .before .before .before .before .before .before .pre .0) _ (c .before .before .before .before .before .before .before .before .pre .2) (c .before .before .before .before .before .before .before .before .pre .1))
 
 same-length : tie.Need-same-length
 same-length c = search needs
@@ -17,7 +17,7 @@ same-length c = search needs
 returns : tie.Need-returns
 returns c =
     let P = c .before .before .before .before .before .before .before .before .before .before .before .pre in
-    away-holds _ _ (P .0 .within) (search needs) (c .before .before .before .before .before .before .store .ensures) (c .before .before .join-against .ensures _ (wholes-reached _ _ (P .0) _ (P .2)))
+    away-holds _ _ (P .0 .within) (search needs) (c .before .before .before .before .before .before .store .ensures) (c .before .before .join-wholes .ensures _ (wholes-reached _ _ (P .0) _ (P .2)))
 
 pub parting-spec : {M : Type 1} → statement M
-parting-spec = tie.close (tie.spec store-requires join-against-requires same-length returns)
+parting-spec = tie.close (tie.spec store-requires join-wholes-requires same-length returns)

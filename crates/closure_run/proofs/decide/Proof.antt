@@ -1,55 +1,48 @@
 -- `closure_run::decide` meets its contract: what it lends fits what it calls. Assumes nothing.
-use native.Mathlib.Omega.{arith}
 use borrow.Author.Needs.{needs}
-use mathlib.Core.Path.{sym, _∙_}
-use Rattle.closure.proofs.Accepting.{book-roomy}
 use Rattle.closure_run.proofs.decide.Statement.{statement}
 use Rattle.closure_run.proofs.decide.Tie as tie
 
-slice-aggregate-begin : tie.Need-slice-aggregate-begin
-slice-aggregate-begin c = search needs
+slice-aggregate-settle : tie.Need-slice-aggregate-settle
+slice-aggregate-settle c = search needs
 
-slice-aggregate-begin-2 : tie.Need-slice-aggregate-begin-2
-slice-aggregate-begin-2 c = search needs
+slice-aggregate-settle-2 : tie.Need-slice-aggregate-settle-2
+slice-aggregate-settle-2 c = search needs
 
-slice-aggregate-begin-3 : tie.Need-slice-aggregate-begin-3
-slice-aggregate-begin-3 c = search needs
+slice-aggregate-settle-3 : tie.Need-slice-aggregate-settle-3
+slice-aggregate-settle-3 c = search needs
 
-slice-aggregate-begin-4 : tie.Need-slice-aggregate-begin-4
-slice-aggregate-begin-4 c = search needs
+slice-aggregate-settle-4 : tie.Need-slice-aggregate-settle-4
+slice-aggregate-settle-4 c = search needs
 
-begin-requires : tie.Need-begin-requires
-begin-requires c κs =
-    let P = c .before .before .before .before .before .before .before .before .before .before .before .before .before .before .before .pre in
-    (P .0, P .1, book-roomy (P .0) (P .2) (omega arith) (omega arith) (omega arith) (omega arith), search needs, search needs, search needs)
+settle-requires : tie.Need-settle-requires
+settle-requires c κs = search needs
 
-slice-aggregate-contradiction : tie.Need-slice-aggregate-contradiction
-slice-aggregate-contradiction c = search needs
-
-slice-aggregate-contradiction-2 : tie.Need-slice-aggregate-contradiction-2
-slice-aggregate-contradiction-2 c = search needs
-
-slice-aggregate-contradiction-3 : tie.Need-slice-aggregate-contradiction-3
-slice-aggregate-contradiction-3 c = search needs
-
-slice-aggregate-contradiction-4 : tie.Need-slice-aggregate-contradiction-4
-slice-aggregate-contradiction-4 c = search needs
-
-contradiction-requires : tie.Need-contradiction-requires
-contradiction-requires c κs =
-    let P = c .before .before .before .before .before .before .before .before .before .before .before .before .before .before .before .before .before .before .before .before .before .before .before .before .before .before .before .before .before .before .before .before .before .before .pre in
-    let B = c .before .before .before .before .before .before .before .before .before .before .before .before .before .before .before .before .before .before .begin .ensures in (
-      P .0,
-      P .1,
-      book-roomy (P .0) (P .2) (omega arith) (omega arith) (omega arith) (omega arith),
-      B .steps .sized,
-      B .parts .sized,
-      B .toward .sized,
-      sym (B .is) ∙ c .before .before .before .before .before .before .before .if1 .taken,
-    )
+enum-known-settled : tie.Need-enum-known-settled
+enum-known-settled c = search needs
 
 print-clash-requires : tie.Need-print-clash-requires
 print-clash-requires c κs = search needs
+
+enum-told : tie.Need-enum-told
+enum-told c = search needs
+
+complete-requires : tie.Need-complete-requires
+complete-requires c κs =
+    let S = c .before .before .before .before .before .before .before .before .before .before .before .before .before .before .before .before .before .before .before .before .before .before .before .before .before .before .before .before .before .before .before .before .pre .0 in
+    (S .bounded, S .ordered, c .before .before .before .before .before .before .before .before .before .before .before .before .before .before .before .before .settle .ensures .free _ _ (c .before .before .before .before .enum-told .given .1) .steps, search needs, search needs, search needs)
+
+lines-requires : tie.Need-lines-requires
+lines-requires c κs =
+    let O = c .before .before .before .before .before .before .before .before .before .before .before .before .before .before .before .before .before .before .before .before .before .before .before .before .before .before .before .before .settle .ensures .free _ _ (c .before .before .before .before .before .before .before .before .before .before .before .before .before .before .before .before .enum-told .given .1) in
+    let C = c .before .before .before .before .before .before .before .before .before .before .before .complete .ensures in
+    (c .before .before .before .before .before .before .before .before .before .before .before .before .before .before .before .before .before .before .before .before .before .before .before .before .before .before .before .before .before .before .before .before .before .before .before .before .before .before .before .before .before .before .before .before .pre .0 .bounded .fits, O .parts .sized, C .0 .sized, C .1 .sized, O .toward .sized, C .2 .sized)
+
+answers-requires : tie.Need-answers-requires
+answers-requires c κs =
+    let O = c .before .before .before .before .before .before .before .before .before .before .before .before .before .before .before .before .before .before .before .before .before .before .before .before .before .before .before .before .before .before .before .before .before .before .settle .ensures .free _ _ (c .before .before .before .before .before .before .before .before .before .before .before .before .before .before .before .before .before .before .before .before .before .before .enum-told .given .1) in
+    let C = c .before .before .before .before .before .before .before .before .before .before .before .before .before .before .before .before .before .complete .ensures in
+    (O .parts .sized, C .0 .sized, C .1 .sized, O .toward .sized, C .2 .sized)
 
 same-length : tie.Need-same-length
 same-length c = search needs
@@ -63,25 +56,8 @@ same-length-3 c = search needs
 returns : tie.Need-returns
 returns c = search needs
 
-complete-requires : tie.Need-complete-requires
-complete-requires c κs =
-    let P = c .before .before .before .before .before .before .before .before .before .before .before .before .before .before .before .before .before .before .before .before .before .before .before .before .before .before .before .before .before .before .before .pre in
-    (P .0, P .1, c .before .before .before .before .before .before .before .before .before .before .before .before .before .before .before .begin .ensures .steps, search needs, search needs, search needs)
-
-lines-requires : tie.Need-lines-requires
-lines-requires c κs =
-    let B = c .before .before .before .before .before .before .before .before .before .before .before .before .before .before .before .before .before .before .before .before .before .before .before .before .before .before .before .begin .ensures in
-    let C = c .before .before .before .before .before .before .before .before .before .before .before .complete .ensures in
-    (c .before .before .before .before .before .before .before .before .before .before .before .before .before .before .before .before .before .before .before .before .before .before .before .before .before .before .before .before .before .before .before .before .before .before .before .before .before .before .before .before .before .before .before .pre .0 .fits, B .parts .sized, C .0 .sized, C .1 .sized, B .toward .sized, C .2 .sized)
-
-answers-requires : tie.Need-answers-requires
-answers-requires c κs =
-    let B = c .before .before .before .before .before .before .before .before .before .before .before .before .before .before .before .before .before .before .before .before .before .before .before .before .before .before .before .before .before .before .before .before .before .begin .ensures in
-    let C = c .before .before .before .before .before .before .before .before .before .before .before .before .before .before .before .before .before .complete .ensures in
-    (B .parts .sized, C .0 .sized, C .1 .sized, B .toward .sized, C .2 .sized)
-
 same-length-4 : tie.Need-same-length-4
-same-length-4 c = search needs
+same-length-4 c = c .before .before .before .before .before .before .before .before .before .before .before .before .before .before .before .before .before .before .before .before .before .before .before .before .before .before .before .before .before .before .before .before .before .before .before .settle .kept .1 .1 .0
 
 same-length-5 : tie.Need-same-length-5
 same-length-5 c = search needs
@@ -105,24 +81,21 @@ pub decide-spec : {M : Type 1} → statement M
 decide-spec =
     tie.close
     (tie.spec
-    slice-aggregate-begin
-    slice-aggregate-begin-2
-    slice-aggregate-begin-3
-    slice-aggregate-begin-4
-    begin-requires
-    slice-aggregate-contradiction
-    slice-aggregate-contradiction-2
-    slice-aggregate-contradiction-3
-    slice-aggregate-contradiction-4
-    contradiction-requires
+    slice-aggregate-settle
+    slice-aggregate-settle-2
+    slice-aggregate-settle-3
+    slice-aggregate-settle-4
+    settle-requires
+    enum-known-settled
     print-clash-requires
+    enum-told
+    complete-requires
+    lines-requires
+    answers-requires
     same-length
     same-length-2
     same-length-3
     returns
-    complete-requires
-    lines-requires
-    answers-requires
     same-length-4
     same-length-5
     same-length-6

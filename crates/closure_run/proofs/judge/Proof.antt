@@ -3,8 +3,7 @@ use native.Mathlib.Omega.{arith}
 use borrow.Author.Needs.{needs}
 use mathlib.Core.Path.{sym, _∙_}
 use lib.Seq.{length-take-le}
-use Rattle.records.proofs.Accepted.{accepted}
-use Rattle.closure.proofs.Accepting.{accepted-bounded, accepted-ordered, accepted-few}
+use Rattle.closure.proofs.Settling.{settleable}
 use Rattle.closure_run.proofs.judge.Statement.{statement}
 use Rattle.closure_run.proofs.judge.Tie as tie
 
@@ -31,8 +30,7 @@ returns c = search needs
 
 decide-requires : tie.Need-decide-requires
 decide-requires c κs =
-    let A = accepted _ _ (sym (c .before .before .before .before .before .before .before .before .before .check-book .ensures) ∙ c .before .before .before .before .before .before .before .n .given .1) in
-    (accepted-bounded A, accepted-ordered A, accepted-few A, search needs, search needs, search needs, search needs, search needs, search needs)
+    (settleable _ _ (sym (c .before .before .before .before .before .before .before .before .before .check-book .ensures) ∙ c .before .before .before .before .before .before .before .n .given .1), search needs, search needs, search needs, search needs, search needs, search needs)
 
 returns-2 : tie.Need-returns-2
 returns-2 c = search needs

@@ -1,5 +1,4 @@
-use borrow.Author.Needs.{needs}
-use Rattle.piecebook.proofs.Calls.{exported}
+use Rattle.piecebook.proofs.Results.{handed}
 use borrow.Author.Needs.{needs}
 use Rattle.piecebook.proofs.piecebook_answer.Statement.{statement}
 use Rattle.piecebook.proofs.piecebook_answer.Tie as tie
@@ -26,7 +25,7 @@ same-length-5 : tie.Need-same-length-5
 same-length-5 c = search needs
 
 returns : tie.Need-returns
-returns c = exported _ _ _ _ _ _ (c .before .before .before .before .before .before .before .before .before .before .before .answer-claims .ensures .0) (c .result-of .ensures)
+returns c = handed _ _ _ _ _ _ (c .before .before .before .before .before .before .before .before .before .before .before .answer-claims .ensures) (c .result-of .ensures)
 
 pub piecebook-answer-spec : {M : Type 1} → statement M
 piecebook-answer-spec =

@@ -1,5 +1,4 @@
-use borrow.Author.Needs.{needs}
-use Rattle.piecebook.proofs.Calls.{exported}
+use Rattle.piecebook.proofs.Results.{handed}
 use borrow.Author.Needs.{needs}
 use Rattle.piecebook.proofs.piecebook_index.Statement.{statement}
 use Rattle.piecebook.proofs.piecebook_index.Tie as tie
@@ -23,7 +22,7 @@ same-length-4 : tie.Need-same-length-4
 same-length-4 c = search needs
 
 returns : tie.Need-returns
-returns c = exported _ _ _ _ _ _ (c .before .before .before .before .before .before .before .before .before .write-index .ensures .0) (c .result-of .ensures)
+returns c = handed _ _ _ _ _ _ (c .before .before .before .before .before .before .before .before .before .write-index .ensures) (c .result-of .ensures)
 
 pub piecebook-index-spec : {M : Type 1} → statement M
 piecebook-index-spec =

@@ -1,6 +1,6 @@
 use borrow.Author.Needs.{needs}
 use mathlib.Core.Path.{_∙_}
-use Rattle.piecebook.proofs.Calls.{reported-refused}
+use Rattle.piecebook.proofs.Results.{reported-refused}
 use borrow.Author.Needs.{needs}
 use Rattle.piecebook.proofs.result_of.Statement.{statement}
 use Rattle.piecebook.proofs.result_of.Tie as tie

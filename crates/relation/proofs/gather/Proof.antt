@@ -4,7 +4,7 @@ use mathlib.Core.Path.{_≡_, refl}
 use Prim.Native.Nat.{_≤_, _-_}
 use lib.ListN.{length}
 use Rattle.relation.specs.Matrix.{bitOf, Joins}
-use Rattle.relation.proofs.Seeks.{Sought, sought-next}
+use Rattle.lists.proofs.Searches.{Sought, sought-next}
 use Rattle.relation.proofs.Products.{part, gather-none, gather-more, gather-done, gather-all}
 use Rattle.relation.proofs.gather.Statement.{statement}
 use Rattle.relation.proofs.gather.Tie as tie

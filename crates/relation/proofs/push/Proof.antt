@@ -3,8 +3,8 @@ use native.Mathlib.Omega.{arith}
 use mathlib.Core.Path.{_≡_, refl}
 use Prim.Native.Nat.{_≤_, _-_}
 use lib.ListN.{length}
-use Rattle.relation.specs.Matrix.{bitOf, Joins}
-use Rattle.relation.proofs.Seeks.{Sought, sought-next}
+use Rattle.relation.specs.Matrix.{bitOf}
+use Rattle.lists.proofs.Searches.{Sought, sought-next}
 use Rattle.relation.proofs.Flows.{PushedTo, push-none, push-done, push-more, push-all}
 use Rattle.relation.proofs.push.Statement.{statement}
 use Rattle.relation.proofs.push.Tie as tie

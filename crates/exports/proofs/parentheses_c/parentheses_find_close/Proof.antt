@@ -1,7 +1,11 @@
 -- `exports::parentheses_c::parentheses_find_close` meets its contract.
 -- Assumes nothing.
-use mathlib.Core.Path.{sym, _∙_}
+use mathlib.Core.Path.{_≡_, sym, ap, _∙_}
+use mathlib.Core.Bool.{false≢true}
+use native.Mathlib.Nat.{mul-comm}
 use borrow.Author.Needs.{needs}
+use borrow.Author.Tests.{not-true, not-false}
+use Rattle.exports.specs.Positions.{positionOf}
 use Rattle.exports.proofs.parentheses_c.parentheses_find_close.Statement.{statement}
 use Rattle.exports.proofs.parentheses_c.parentheses_find_close.Tie as tie
 
@@ -17,8 +21,11 @@ returns-2 c = search needs
 get-requires : tie.Need-get-requires
 get-requires c κs = search needs
 
+returns-3 : tie.Need-returns-3
+returns-3 c = λ h k e. absurd (false≢true (sym (not-true _ (c .if3 .taken)) ∙ (c .before .get .ensures ∙ e)))
+
 find-close-requires : tie.Need-find-close-requires
-find-close-requires c κs = (search needs, search needs, sym (c .before .get .ensures) ∙ c .if3 .taken)
+find-close-requires c κs = (search needs, search needs, sym (c .before .get .ensures) ∙ not-false _ (c .if3 .left))
 
 enum-known-close : tie.Need-enum-known-close
 enum-known-close c = search needs
@@ -29,14 +36,11 @@ enum-told c = search needs
 mul-result : tie.Need-mul-result
 mul-result c = search needs
 
-returns-3 : tie.Need-returns-3
-returns-3 c = search needs
-
 returns-4 : tie.Need-returns-4
-returns-4 c = search needs
+returns-4 c = λ h k e. mul-comm _ 8 ∙ ap (positionOf _) (sym (c .enum-told .given .1) ∙ c .before .before .find-close .ensures)
 
 returns-5 : tie.Need-returns-5
-returns-5 c = search needs
+returns-5 c = λ h k e. ap (positionOf _) (sym (c .before .close .given .1) ∙ c .before .before .before .find-close .ensures)
 
 pub parentheses-find-close-spec : {M : Type 1} → statement M
 parentheses-find-close-spec =
@@ -46,10 +50,10 @@ parentheses-find-close-spec =
     mul-if2
     returns-2
     get-requires
+    returns-3
     find-close-requires
     enum-known-close
     enum-told
     mul-result
-    returns-3
     returns-4
     returns-5)

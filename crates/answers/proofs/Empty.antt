@@ -1,0 +1,86 @@
+-- The empty book is the book with piece 0 alone: its outcome, its index and its answers, by computation. Assumes nothing.
+use Prim.Native.Nat.{ℕ}
+use mathlib.Core.Path.{_≡_, refl}
+use mathlib.Core.Bool.{false}
+use mathlib.Core.List.{List, [], _∷_, _++_}
+use native.Mathlib.Omega.{arith}
+use lib.ListN.{replicate}
+use Rattle.lists.specs.Tab.{tab}
+use Rattle.lists.specs.Any.{any, anyBelow}
+use Rattle.lists.specs.First.{first}
+use Rattle.rules.specs.Fact.{factOf}
+use Rattle.rules.specs.Follows.{storing, turned, table, entry, step, rounds, containment, apart, meets, notpart, derived, follows, clash}
+use Rattle.rules.specs.Verdict.{judge, verdict}
+use Rattle.rules.specs.Entries.{factsOf, shortestClash}
+use Rattle.records.specs.Record.{recordAt}
+use Rattle.records.specs.Refusal.{refusalNumber, scan}
+use Rattle.records.specs.Pieces.{piecesUpTo, stated, largest}
+use Rattle.records.specs.Check.{bookCheck, claimAt, claimsCheck}
+use Rattle.records.specs.Facts.{entryOf, entries}
+use Rattle.records.specs.declared.Refusal.{Refusal}
+use Rattle.records.specs.declared.Refusal.the-variants.{ShortBuffer, BookLength, TooManyRecords, Kind, Origin, PieceNumber, Order, Repeat, ClaimsLength, TooManyClaims, ClaimFormat, ClaimPiece, Contradiction}
+use Rattle.records.specs.declared.ClaimsCheck.the-variants as claims
+use Rattle.records.proofs.Examples.{bytes}
+use Rattle.lists.specs.Numbers.{range, keep, find}
+use Rattle.index.specs.Pairs.{joined, parts}
+use Rattle.index.specs.Breadth.{breadth, order, parent}
+use Rattle.index.specs.Tree.{hang, under, whole, visits}
+use Rattle.index.specs.Parts.{shape, parens, isNode, isShadow, place, marks, shadows, shadowList, placeList, value, packed}
+use Rattle.index.specs.Index.{parenthesesOf, visitsOf}
+use Rattle.closure.specs.PartIn.{partIn}
+use Rattle.parentheses.specs.Forest.{enc}
+use Rattle.parentheses.specs.Padded.{padded}
+use Rattle.answers.specs.Lent.{Lent, lent, shortLent, front}
+use Rattle.answers.specs.Call.{edges, byRuns, byClaims, byBook, outcome, claimed, answersTo, indexed, left}
+use Rattle.answers.specs.Outcome.{number}
+use Rattle.answers.specs.declared.Outcome.{Outcome}
+use Rattle.answers.specs.declared.Outcome.the-variants.{Accepted, Refused}
+
+-- one node: parentheses 10, no mark, no shadow, piece 0 at place 0
+abbrev pub alone : Lent → List ℕ → Lent
+alone l answers =
+    lent (front (1 ∷ replicate 2559 0) (l .parens)) (front (replicate 1280 0) (l .marks)) (front (replicate 8192 0) (l .shadows)) (front (replicate 2048 0) (l .places))
+    (front answers (l .answers))
+
+by-runs : byRuns [] 1 ≡ Accepted 1 1 0
+unfolding byRuns edges entries factsOf shortestClash first clash any anyBelow tab table entry storing turned step rounds containment meets joined partIn visitsOf whole under hang parts keep range parent order breadth find visits shadows
+by-runs = refl
+
+module _ (cs : List ℕ) (l : Lent) (long : shortLent cs l ≡ false) (fit : claimsCheck 1 cs ≡ claims.Accepted) where
+  pub empty-outcome : outcome [] cs l ≡ Accepted 1 1 0
+  unfolding outcome byBook bookCheck scan piecesUpTo byClaims
+  empty-outcome = rw (long, outcome, fit) by-runs
+
+  pub empty-left : left [] cs l (outcome [] cs l) ≡ alone l (answersTo [] 1 cs)
+  unfolding left indexed edges entries tab factsOf any anyBelow storing joined partIn parenthesesOf visitsOf whole under hang parts keep range parent order breadth find shape enc parens visits isNode isShadow place marks shadows shadowList placeList value packed padded
+  empty-left = rw empty-outcome refl
+
+-- PART 0 0 and MEETS 0 0 follow, and their opposites are denied
+pub empty-answers : answersTo [] 1 (bytes 1 0 0 0 ++ bytes 2 0 0 0 ++ bytes 3 0 0 0 ++ bytes 4 0 0 0) ≡ 1 ∷ 2 ∷ 1 ∷ 2 ∷ []
+unfolding answersTo claimed recordAt factOf entries factsOf verdict judge follows any anyBelow tab table entry storing turned step rounds containment apart meets notpart derived
+empty-answers = refl
+
+-- a claim about another piece
+pub empty-other : claimsCheck 1 (bytes 1 0 1 0) ≡ claims.Refused ClaimPiece 0
+unfolding claimsCheck scan claimAt recordAt stated largest
+empty-other = refl
+
+-- no outcome has number 2
+other : (r : Refusal) → refusalNumber r ≡ 2 → ⊥
+other ShortBuffer e = omega arith
+other BookLength e = omega arith
+other TooManyRecords e = omega arith
+other Kind e = omega arith
+other Origin e = omega arith
+other PieceNumber e = omega arith
+other Order e = omega arith
+other Repeat e = omega arith
+other ClaimsLength e = omega arith
+other TooManyClaims e = omega arith
+other ClaimFormat e = omega arith
+other ClaimPiece e = omega arith
+other Contradiction e = omega arith
+
+pub never-two : (o : Outcome) → number o ≡ 2 → ⊥
+never-two (Accepted pieces nodes shadows) e = omega arith
+never-two (Refused r i) e = other r e

@@ -1,0 +1,89 @@
+-- Row 14's outcome and what it leaves, in buffers of exactly the lengths that are written. Assumes nothing.
+use Prim.Native.Nat.{ℕ, _-_}
+use mathlib.Core.Path.{_≡_, refl, sym, ap, _∙_}
+use mathlib.Core.Bool.{false}
+use mathlib.Core.List.{List}
+use native.Mathlib.Omega.{arith}
+use borrow.Author.Tests.{le-leb, lt-leb}
+use lib.ListN.{length, replicate, length-replicate}
+use Rattle.rules.specs.Follows.{clash}
+use Rattle.rules.specs.Entries.{shortestClash}
+use Rattle.records.specs.Record.{records}
+use Rattle.records.specs.Facts.{entries, facts}
+use Rattle.records.specs.Check.{bookCheck}
+use Rattle.records.specs.declared.BookCheck.the-variants as book
+use Rattle.records.specs.declared.Refusal.the-variants.{Contradiction}
+use Rattle.index.specs.Index.{visitsOf, parenthesesOf}
+use Rattle.parentheses.specs.Padded.{padded}
+use Rattle.index.specs.Parts as on
+use Rattle.closure.specs.Opened.{Opened}
+use Rattle.closure.specs.Settled.{Settleable, Clashed}
+use Rattle.closure.proofs.Settling.{settleable, settleable-in, free-beyond, clashed-within}
+use Rattle.answers.specs.Lent.{Lent, lent, front}
+use Rattle.answers.specs.Call.{edges, byRuns, answersTo, indexed, cleared, left}
+use Rattle.answers.specs.Judging.{Cleared, Exact, Judged}
+use Rattle.answers.specs.declared.Outcome.the-variants.{Accepted, Refused}
+use Rattle.answers.proofs.Buffers.{front-whole, packed-long, answers-long, same-lent}
+
+module _ (s : List ℕ) (n : ℕ) (sound : bookCheck s ≡ book.Accepted n) where
+  refuses : (place : ℕ) → Clashed n s place → Refused Contradiction place ≡ byRuns s n
+  unfolding byRuns
+  refuses place C =
+      let q = C .last in
+      let k : place ≡ shortestClash n (entries s) - 1 = omega arith in
+      rw (le-leb (shortestClash n (entries s)) (records s) (clashed-within (settleable s n sound) C), byRuns) (ap (Refused Contradiction) k)
+
+  accepts :
+      (nodes shadows : ℕ) → false ≡ clash n (facts s) → nodes ≡ length (visitsOf n (edges n s)) → shadows ≡ length (on.shadows (visitsOf n (edges n s)))
+      → Accepted n nodes shadows ≡ byRuns s n
+  unfolding byRuns
+  accepts nodes shadows c e f = rw (lt-leb (shortestClash n (entries s)) (records s) (free-beyond (settleable s n sound) c), byRuns, e, f)
+
+pub cleared-at :
+    {w x y z : ℕ} {a b c d : List ℕ} → w ≡ 2560 → x ≡ 1280 → y ≡ 8192 → z ≡ 2048 → Cleared w x y z a b c d → Cleared 2560 1280 8192 2048 a b c d
+cleared-at p q r t C = rw (p, q, r, t) at C
+
+module _ (s : List ℕ) (n : ℕ) (cs : List ℕ) (l : Lent) (X : Exact s n cs l) where
+  pub settleable-at : Settleable n s (length (l .parens)) (length (l .marks)) (length (l .shadows)) (length (l .places))
+  settleable-at =
+      settleable-in (settleable s n (X .sound)) (omega (arith, X .parens-long)) (omega (arith, X .marks-long)) (omega (arith, X .shadows-long)) (omega (arith, X .places-long))
+
+  zeroed : (k : ℕ) (x : List ℕ) → length x ≡ k → front (replicate k 0) x ≡ replicate k 0
+  zeroed k x e = front-whole (replicate k 0) x (length-replicate {A = ℕ} k 0 ∙ sym e)
+
+  pub judged-refused :
+      (place : ℕ) (parens marks shadows places : List ℕ) → Clashed n s place → Cleared 2560 1280 8192 2048 parens marks shadows places → Judged s n cs l (Refused Contradiction place) (lent parens marks shadows places (l .answers))
+  unfolding left cleared
+  judged-refused place parens marks shadows places c z = record {
+    outcome-is = refuses s n (X .sound) place c;
+    left-is =
+        same-lent
+        (z .parens-are ∙ sym (zeroed 2560 (l .parens) (X .parens-long)))
+        (z .marks-are ∙ sym (zeroed 1280 (l .marks) (X .marks-long)))
+        (z .shadows-are ∙ sym (zeroed 8192 (l .shadows) (X .shadows-long)))
+        (z .places-are ∙ sym (zeroed 2048 (l .places) (X .places-long)))
+        refl;
+  }
+
+  pub judged-accepted :
+      (nodes shadowed : ℕ) (parens marks shadows places answers e d t : List ℕ)
+      → length parens ≡ 2560 → length marks ≡ 1280 → length shadows ≡ 8192 → length places ≡ 2048
+      → Opened n (facts s) parens marks shadows places nodes shadowed e d t false → answers ≡ answersTo s n cs
+      → Judged s n cs l (Accepted n nodes shadowed) (lent parens marks shadows places answers)
+  unfolding left indexed edges
+  judged-accepted nodes shadowed parens marks shadows places answers e d t lp lm ls la O a =
+      let I = O .index in
+      let sh : shadows ≡ padded 0 8192 (on.shadowList (visitsOf n (edges n s))) = I .shadows-are ∙ ap (λ (k : ℕ). padded 0 k (on.shadowList (visitsOf n (edges n s)))) ls in
+      let pl : places ≡ padded 0 2048 (on.placeList n (visitsOf n (edges n s))) = I .places-are ∙ ap (λ (k : ℕ). padded 0 k (on.placeList n (visitsOf n (edges n s)))) la in
+      let fs : length (padded 0 8192 (on.shadowList (visitsOf n (edges n s)))) ≡ 8192 = sym (ap length sh) ∙ ls in
+      let fp : length (padded 0 2048 (on.placeList n (visitsOf n (edges n s)))) ≡ 2048 = sym (ap length pl) ∙ la in
+      record {
+        outcome-is = accepts s n (X .sound) nodes shadowed (O .is) (I .nodes-are) (I .shadowed-are);
+        left-is =
+            same-lent
+            (I .parens-are ∙ ap (λ (k : ℕ). on.packed k (parenthesesOf n (edges n s))) lp ∙ sym (front-whole _ (l .parens) (packed-long 2560 _ ∙ sym (X .parens-long))))
+            (I .marks-are ∙ ap (λ (k : ℕ). on.packed k (on.marks (visitsOf n (edges n s)))) lm ∙ sym (front-whole _ (l .marks) (packed-long 1280 _ ∙ sym (X .marks-long))))
+            (sh ∙ sym (front-whole _ (l .shadows) (fs ∙ sym (X .shadows-long))))
+            (pl ∙ sym (front-whole _ (l .places) (fp ∙ sym (X .places-long))))
+            (a ∙ sym (front-whole _ (l .answers) (answers-long s n cs ∙ sym (X .answers-long))));
+      }

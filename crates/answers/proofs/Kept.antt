@@ -1,0 +1,162 @@
+-- A determined call keeps demands 2 and 3, names the place of a contradiction, and fits. Assumes nothing.
+use Prim.Native.Nat.{ℕ, _-_, _<_}
+use mathlib.Core.Path.{_≡_, refl, subst, _∙_}
+use mathlib.Core.Logic.{_↔_}
+use mathlib.Core.Bool.{true, false}
+use mathlib.Core.List.{List}
+use native.Mathlib.Omega.{arith}
+use borrow.Author.Tests.{leb-true, leb-false}
+use lib.Dec.{leb}
+use lib.ListN.{length, getD, length-map, List·getD-append}
+use Rattle.lists.proofs.Tabs.{tab-at, tab-length}
+use Rattle.lists.proofs.Bools.{Known, is-true, is-false, known}
+use Rattle.rules.specs.Fact.{Within}
+use Rattle.rules.specs.Derives.{Contradictory}
+use Rattle.rules.specs.Model.{Model, keepsAll}
+use Rattle.rules.specs.Follows.{clash}
+use Rattle.rules.specs.Verdict.{verdict}
+use Rattle.rules.specs.Entries.{shortestClash}
+use Rattle.rules.proofs.Verdicts.{verdict-follows, verdict-denied, verdict-open, verdict-follows-everywhere, verdict-denied-everywhere, verdict-open-iff}
+use Rattle.records.specs.Record.{records}
+use Rattle.records.specs.Facts.{entries, facts}
+use Rattle.records.specs.Pieces.{pieceCount}
+use Rattle.records.proofs.Accepted.{accepted, accepted-claims}
+use Rattle.index.specs.Index.{visitsOf}
+use Rattle.index.specs.Parts as on
+use Rattle.closure.specs.Contradiction.{Contradiction}
+use Rattle.closure.specs.Settled.{Settleable, Clashed}
+use Rattle.closure.proofs.Settling.{settleable, settled-room, beyond-free, free-consistent, free-model, within-clashed, clashed-no-model, clashed-first}
+use Rattle.answers.specs.Lent.{Lent, front}
+use Rattle.answers.specs.Outcome as of
+use Rattle.answers.specs.Call.{edges, byRuns, Passed, claimed, answersTo, indexed, left, Determined}
+use Rattle.answers.specs.Demands.{Derived, Entailed, Demand2, Demand3, Contradicted}
+use Rattle.answers.specs.Fitting.{Fits, Fitting}
+use Rattle.answers.specs.declared.Outcome.{Outcome}
+use Rattle.answers.specs.declared.Outcome.the-variants.{Accepted, Refused}
+use Rattle.answers.proofs.Outcomes.{Told, told, passed-outcome, refused-positive}
+use Rattle.answers.proofs.Buffers.{Fitted}
+
+module _ (s cs : List ℕ) (l : Lent) (n : ℕ) (p : Passed s cs l n) where
+  settles : Settleable n s 2560 1280 8192 2048
+  settles = settleable s n (p .sound)
+
+  counted : n ≡ pieceCount s
+  counted = accepted s n (p .sound) .count
+
+  claim-in : (i : ℕ) → i < records cs → Within n (claimed cs i)
+  unfolding claimed
+  claim-in i h = accepted-claims n cs (p .fit) .within i h
+
+  -- row 14, by the shortest contradictory run
+  free : leb (shortestClash n (entries s)) (records s) ≡ false → false ≡ clash n (facts s)
+  free e = beyond-free settles (leb-false (shortestClash n (entries s)) (records s) e)
+
+  clashed : leb (shortestClash n (entries s)) (records s) ≡ true → Clashed n s (shortestClash n (entries s) - 1)
+  clashed e = within-clashed settles (leb-true (shortestClash n (entries s)) (records s) e)
+
+  -- the answer byte of claim i
+  answer-at : (i : ℕ) → i < records cs → getD (indexed s cs n l .answers) i 0 ≡ verdict n (facts s) (claimed cs i)
+  unfolding indexed front answersTo
+  answer-at i h =
+      List·getD-append (answersTo s n cs) _ 0 i (omega (arith, tab-length (λ j. verdict n (facts s) (claimed cs j)) 0 (records cs)))
+      ∙ tab-at (λ j. verdict n (facts s) (claimed cs j)) (records cs) i 0 h
+
+  module _ (ok : Contradictory n (facts s) → ⊥) (i : ℕ) (h : i < records cs) where
+    derived : Derived n (facts s) (claimed cs i) (verdict n (facts s) (claimed cs i))
+    derived =
+        let B = settles .bounded in
+        record {
+          follows = verdict-follows n (facts s) (B .within) (B .some) ok (claimed cs i) (claim-in i h);
+          denied = verdict-denied n (facts s) (B .within) (B .some) ok (claimed cs i) (claim-in i h);
+          undecided = verdict-open n (facts s) (B .within) (B .some) ok (claimed cs i) (claim-in i h);
+        }
+
+    entailed : Entailed n (facts s) (claimed cs i) (verdict n (facts s) (claimed cs i))
+    entailed =
+        let B = settles .bounded in
+        record {
+          follows = verdict-follows-everywhere n (facts s) (B .within) (B .some) ok (claimed cs i) (claim-in i h);
+          denied = verdict-denied-everywhere n (facts s) (B .within) (B .some) ok (claimed cs i) (claim-in i h);
+          undecided = verdict-open-iff n (facts s) (B .within) (B .some) ok (claimed cs i) (claim-in i h);
+        }
+
+  -- refused as contradictory exactly when there is no model
+  runs-refused : (of.number (byRuns s n) ≡ 14) ↔ ((M : Model n) → keepsAll M (facts s) → ⊥)
+  unfolding byRuns
+  runs-refused = pick (known (leb (shortestClash n (entries s)) (records s)))
+    where
+      pick : Known (leb (shortestClash n (entries s)) (records s)) → (of.number (byRuns s n) ≡ 14) ↔ ((M : Model n) → keepsAll M (facts s) → ⊥)
+      pick (is-true e) = rw (e, byRuns) (λ q. clashed-no-model settles (clashed e), λ q. refl)
+      pick (is-false e) = rw (e, byRuns) (λ q. absurd (omega arith), λ none. let m = free-model settles (free e) in absurd (none (m .0) (m .1)))
+
+  -- the index fits
+  fits : (nodes : ℕ) → nodes ≡ length (visitsOf n (edges n s)) → Fits n s nodes
+  unfolding edges on.shadowList on.placeList
+  fits nodes e =
+      let R = settled-room settles in
+      record {
+        nodes-fit = omega (arith, R .marks);
+        shadows-fit = rw (length-map (on.shadows (visitsOf n (edges n s))) (on.place (visitsOf n (edges n s)))) (R .shadows);
+        places-fit = rw (tab-length (on.place (visitsOf n (edges n s))) 0 n) (R .places);
+      }
+
+module _ (s cs : List ℕ) (l : Lent) where
+  pub fitted : (r : Outcome) → Told s cs l r → Fitted s r
+  fitted (Accepted n nodes shadows) t = fits s cs l n (t .0) nodes (t .2)
+  fitted (Refused r i) t = tt
+
+  -- ---- by the outcome
+
+  two : (r : Outcome) → Told s cs l r → Demand2 s cs (left s cs l r .answers) (of.number r)
+  unfolding left
+  two (Accepted n nodes shadows) t q i h =
+      let ok = free-consistent (settles s cs l n (t .0)) (free s cs l n (t .0) (t .1)) in
+      rw (← counted s cs l n (t .0), answer-at s cs l n (t .0) i h) (derived s cs l n (t .0) ok i h)
+  two (Refused r i) t q j h = absurd (refused-positive r q)
+
+  three : (r : Outcome) → Told s cs l r → of.number r ≡ 0 → (i : ℕ) → i < records cs → Entailed (pieceCount s) (facts s) (claimed cs i) (getD (left s cs l r .answers) i 0)
+  unfolding left
+  three (Accepted n nodes shadows) t q i h =
+      let ok = free-consistent (settles s cs l n (t .0)) (free s cs l n (t .0) (t .1)) in
+      rw (← counted s cs l n (t .0), answer-at s cs l n (t .0) i h) (entailed s cs l n (t .0) ok i h)
+  three (Refused r i) t q j h = absurd (refused-positive r q)
+
+  laid : (r : Outcome) → Told s cs l r → of.number r ≡ 0 → (M : Model (pieceCount s)) × keepsAll M (facts s)
+  laid (Accepted n nodes shadows) t q =
+      subst (λ (m : ℕ). (M : Model m) × keepsAll M (facts s)) (counted s cs l n (t .0)) (free-model (settles s cs l n (t .0)) (free s cs l n (t .0) (t .1)))
+  laid (Refused r i) t q = absurd (refused-positive r q)
+
+  placed : (r : Outcome) → Told s cs l r → Contradicted s (of.number r) (of.place r)
+  placed (Accepted n nodes shadows) t q = absurd (omega arith)
+  placed (Refused r i) t q = pick (t q)
+    where
+      pick :
+          (n : ℕ) × Passed s cs l n × (leb (shortestClash n (entries s)) (records s) ≡ true) × (i ≡ shortestClash n (entries s) - 1)
+          → Contradiction (pieceCount s) s i
+      pick (n, p, e, k) = rw (← counted s cs l n p, k) (clashed-first (settles s cs l n p) (clashed s cs l n p e))
+
+  sized : (r : Outcome) → Told s cs l r → Fitting s (of.number r) (of.nodeCount r)
+  sized (Accepted n nodes shadows) t q = rw (← counted s cs l n (t .0)) (fits s cs l n (t .0) nodes (t .2))
+  sized (Refused r i) t q = absurd (refused-positive r q)
+
+  -- all of it follows from the equations for the outcome and the answers
+  module _ {r : Outcome} {l′ : Lent} (d : Determined s cs l r l′) where
+    telling : Told s cs l r
+    telling = rw (d .0) (told s cs l)
+
+    pub kept2 : Demand2 s cs (l′ .answers) (of.number r)
+    kept2 = rw (d .1) (two r telling)
+
+    pub kept3 : Demand3 s cs l (l′ .answers) (of.number r)
+    kept3 =
+        record {
+          answered = rw (d .1) (three r telling);
+          refused = λ n p. rw (d .0 ∙ passed-outcome s cs l n p) (runs-refused s cs l n p);
+          laid = laid r telling;
+        }
+
+    pub kept-place : Contradicted s (of.number r) (of.place r)
+    kept-place = placed r telling
+
+    pub kept-size : Fitting s (of.number r) (of.nodeCount r)
+    kept-size = sized r telling

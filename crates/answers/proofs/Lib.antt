@@ -1,0 +1,7 @@
+pub mod Outcomes
+pub mod Buffers
+pub mod Kept
+pub mod Judges
+pub mod Answering
+pub mod Calls
+pub mod Empty

@@ -1,0 +1,110 @@
+-- `answers::judge` meets its contract. Assumes nothing.
+use borrow.Author.Needs.{needs}
+use mathlib.Core.Path.{_∙_}
+use Rattle.answers.proofs.Judges.{settleable-at, cleared-at, judged-refused, judged-accepted}
+use Rattle.answers.proofs.judge.Statement.{statement}
+use Rattle.answers.proofs.judge.Tie as tie
+
+slice-aggregate-settle : tie.Need-slice-aggregate-settle
+slice-aggregate-settle c = search needs
+
+slice-aggregate-settle-2 : tie.Need-slice-aggregate-settle-2
+slice-aggregate-settle-2 c = search needs
+
+slice-aggregate-settle-3 : tie.Need-slice-aggregate-settle-3
+slice-aggregate-settle-3 c = search needs
+
+settle-requires : tie.Need-settle-requires
+settle-requires c κs = (settleable-at _ _ _ _ (c .before .before .before .before .before .before .before .before .before .before .before .before .before .before .pre), search needs, search needs, search needs)
+
+enum-known-settled : tie.Need-enum-known-settled
+enum-known-settled c = search needs
+
+clear-index-requires : tie.Need-clear-index-requires
+clear-index-requires c κs = search needs
+
+enum-known-settled-2 : tie.Need-enum-known-settled-2
+enum-known-settled-2 c = search needs
+
+slice-aggregate-answer-all : tie.Need-slice-aggregate-answer-all
+slice-aggregate-answer-all c = search needs
+
+slice-aggregate-answer-all-2 : tie.Need-slice-aggregate-answer-all-2
+slice-aggregate-answer-all-2 c = search needs
+
+slice-aggregate-answer-all-3 : tie.Need-slice-aggregate-answer-all-3
+slice-aggregate-answer-all-3 c = search needs
+
+answer-all-requires : tie.Need-answer-all-requires
+answer-all-requires c κs =
+    let s = c .before .before .before .before .before .before .before .before .before .before .before .before .before .before .before .before .before .before .before .before .before .before .before .before .before .before .before .before .before .before .before .before .before .pre in
+    let O = c .before .before .before .before .before .before .before .before .before .before .before .before .before .before .before .before .before .before .settle .ensures .free _ _ (c .before .before .before .before .before .settled2 .given .1) in
+    record { sound = s .sound; fit = s .fit; rooms = s .answers-long; edged = O .steps; parts = O .parts; toward = O .toward }
+
+same-length : tie.Need-same-length
+same-length c = c .before .before .before .before .before .before .before .before .clear-index .kept .0 ∙ c .before .before .before .before .before .before .before .before .before .before .before .before .before .before .before .before .before .before .before .before .before .before .before .before .before .before .before .settle .kept .1 .1 .1 .1 .1 .0
+
+same-length-2 : tie.Need-same-length-2
+same-length-2 c = c .before .before .before .before .before .before .before .before .clear-index .kept .1 .0 ∙ c .before .before .before .before .before .before .before .before .before .before .before .before .before .before .before .before .before .before .before .before .before .before .before .before .before .before .before .settle .kept .1 .1 .1 .1 .1 .1 .0
+
+same-length-3 : tie.Need-same-length-3
+same-length-3 c = c .before .before .before .before .before .before .before .before .clear-index .kept .1 .1 .0 ∙ c .before .before .before .before .before .before .before .before .before .before .before .before .before .before .before .before .before .before .before .before .before .before .before .before .before .before .before .settle .kept .1 .1 .1 .1 .1 .1 .1 .0
+
+same-length-4 : tie.Need-same-length-4
+same-length-4 c = c .before .before .before .before .before .before .before .before .clear-index .kept .1 .1 .1 .0 ∙ c .before .before .before .before .before .before .before .before .before .before .before .before .before .before .before .before .before .before .before .before .before .before .before .before .before .before .before .settle .kept .1 .1 .1 .1 .1 .1 .1 .1 .0
+
+returns : tie.Need-returns
+returns c =
+    let s = c .before .before .before .before .before .before .before .before .before .before .before .before .before .before .before .before .before .before .before .before .before .before .before .before .before .before .before .before .before .before .before .before .before .before .before .before .before .before .before .before .before .before .pre in
+    let S = c .before .before .before .before .before .before .before .before .before .before .before .before .before .before .before .before .before .before .before .before .before .before .before .before .before .before .before .settle in
+    judged-refused _ _ _ _ s _ _ _ _ _ (S .ensures .clash _ (c .before .before .before .before .before .before .before .before .before .before .before .before .before .before .settled .given .1))
+    (cleared-at (S .kept .1 .1 .1 .1 .1 .0 ∙ s .parens-long) (S .kept .1 .1 .1 .1 .1 .1 .0 ∙ s .marks-long) (S .kept .1 .1 .1 .1 .1 .1 .1 .0 ∙ s .shadows-long) (S .kept .1 .1 .1 .1 .1 .1 .1 .1 .0 ∙ s .places-long) (c .before .before .before .before .before .before .before .before .clear-index .ensures))
+
+same-length-5 : tie.Need-same-length-5
+same-length-5 c = search needs
+
+same-length-6 : tie.Need-same-length-6
+same-length-6 c = search needs
+
+same-length-7 : tie.Need-same-length-7
+same-length-7 c = search needs
+
+same-length-8 : tie.Need-same-length-8
+same-length-8 c = search needs
+
+same-length-9 : tie.Need-same-length-9
+same-length-9 c = search needs
+
+returns-2 : tie.Need-returns-2
+returns-2 c =
+    let s = c .before .before .before .before .before .before .before .before .before .before .before .before .before .before .before .before .before .before .before .before .before .before .before .before .before .before .before .before .before .before .before .before .before .before .before .before .pre in
+    let S = c .before .before .before .before .before .before .before .before .before .before .before .before .before .before .before .before .before .before .before .before .before .settle in
+    judged-accepted _ _ _ _ s _ _ _ _ _ _ _ _ _ _ (S .kept .1 .1 .1 .1 .1 .0 ∙ s .parens-long) (S .kept .1 .1 .1 .1 .1 .1 .0 ∙ s .marks-long) (S .kept .1 .1 .1 .1 .1 .1 .1 .0 ∙ s .shadows-long) (S .kept .1 .1 .1 .1 .1 .1 .1 .1 .0 ∙ s .places-long)
+    (S .ensures .free _ _ (c .before .before .before .before .before .before .before .before .settled2 .given .1)) (c .before .before .answer-all .ensures)
+
+pub judge-spec : {M : Type 1} → statement M
+judge-spec =
+    tie.close
+    (tie.spec
+    slice-aggregate-settle
+    slice-aggregate-settle-2
+    slice-aggregate-settle-3
+    settle-requires
+    enum-known-settled
+    clear-index-requires
+    enum-known-settled-2
+    slice-aggregate-answer-all
+    slice-aggregate-answer-all-2
+    slice-aggregate-answer-all-3
+    answer-all-requires
+    same-length
+    same-length-2
+    same-length-3
+    same-length-4
+    returns
+    same-length-5
+    same-length-6
+    same-length-7
+    same-length-8
+    same-length-9
+    returns-2)

@@ -1,0 +1,68 @@
+-- What the steps of a call promise each other. Assumes nothing.
+use Prim.Native.Nat.{ℕ, _≤_}
+use mathlib.Core.Path.{_≡_}
+use mathlib.Core.List.{List}
+use lib.ListN.{length, replicate}
+use Rattle.lists.specs.Tab.{tab}
+use Rattle.rules.specs.Fact.{Fact}
+use Rattle.rules.specs.Verdict.{verdict}
+use Rattle.records.specs.Record.{records}
+use Rattle.records.specs.Facts.{facts}
+use Rattle.records.specs.Check.{bookCheck, claimsCheck}
+use Rattle.records.specs.declared.BookCheck.the-variants as book
+use Rattle.records.specs.declared.ClaimsCheck.the-variants as claims
+use Rattle.closure.specs.Bounded.{Bounded}
+use Rattle.closure.specs.Stored.{edgeBit}
+use Rattle.closure.specs.Closed.{Holds, Closed, partBit, towardBit}
+use Rattle.answers.specs.Lent.{Lent}
+use Rattle.answers.specs.Call.{claimed, byRuns, left}
+use Rattle.answers.specs.declared.Outcome.{Outcome}
+
+-- five matrices, claims on n pieces, and room for their answers
+pub record Closing (cs d u p t q : List ℕ) (room : ℕ) : Type 0 where
+  pub n : ℕ
+  pub small : n ≤ 2048
+  pub fit : claimsCheck n cs ≡ claims.Accepted
+  pub rooms : room ≡ records cs
+  pub d-sized : length d ≡ 65536
+  pub u-sized : length u ≡ 65536
+  pub p-sized : length p ≡ 65536
+  pub t-sized : length t ≡ 65536
+  pub q-sized : length q ≡ 65536
+
+-- the answers are those of every list of facts whose closure the matrices are
+pub record Answers (cs d u p t q answers : List ℕ) : Type 0 where
+  pub are :
+      (n : ℕ) (fs : List Fact) → Bounded n fs → Closed n fs d u p t q → claimsCheck n cs ≡ claims.Accepted
+      → answers ≡ tab (λ i. verdict n fs (claimed cs i)) 0 (records cs)
+
+-- a book and claims that pass the rows before 14, the book's edges, D and T
+pub record Answerable (s : List ℕ) (n : ℕ) (cs e d t : List ℕ) (room : ℕ) : Type 0 where
+  pub sound : bookCheck s ≡ book.Accepted n
+  pub fit : claimsCheck n cs ≡ claims.Accepted
+  pub rooms : room ≡ records cs
+  pub edged : Holds e (edgeBit n (facts s))
+  pub parts : Holds d (partBit n (facts s))
+  pub toward : Holds t (towardBit n (facts s))
+
+-- zeroes of these lengths
+pub record Cleared (a b c d : ℕ) (parens marks shadows places : List ℕ) : Type 0 where
+  pub parens-are : parens ≡ replicate a 0
+  pub marks-are : marks ≡ replicate b 0
+  pub shadows-are : shadows ≡ replicate c 0
+  pub places-are : places ≡ replicate d 0
+
+-- a book and claims that pass the rows before 14, and buffers of exactly the lengths that are written
+pub record Exact (s : List ℕ) (n : ℕ) (cs : List ℕ) (l : Lent) : Type 0 where
+  pub sound : bookCheck s ≡ book.Accepted n
+  pub fit : claimsCheck n cs ≡ claims.Accepted
+  pub parens-long : length (l .parens) ≡ 2560
+  pub marks-long : length (l .marks) ≡ 1280
+  pub shadows-long : length (l .shadows) ≡ 8192
+  pub places-long : length (l .places) ≡ 2048
+  pub answers-long : length (l .answers) ≡ records cs
+
+-- row 14's outcome, and what it leaves in them
+pub record Judged (s : List ℕ) (n : ℕ) (cs : List ℕ) (l : Lent) (r : Outcome) (l′ : Lent) : Type 0 where
+  pub outcome-is : r ≡ byRuns s n
+  pub left-is : l′ ≡ left s cs l r

@@ -1,0 +1,20 @@
+pub mod Session
+pub mod Reached
+pub mod Joined
+pub mod Nodes
+pub mod Below
+pub mod Sizes
+pub mod Ranges
+pub mod Places
+pub mod Standing
+pub mod Packing
+pub mod Bounds
+pub mod Events
+mod Nexts
+mod Queue
+mod Rounds
+mod Written
+mod Walking
+mod Resolution
+mod Joins
+mod Buildings

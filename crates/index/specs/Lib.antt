@@ -1,0 +1,7 @@
+pub mod Pairs
+pub mod Breadth
+pub mod Tree
+pub mod Parts
+pub mod Index
+pub mod Matrix
+pub mod Steps

@@ -1,0 +1,276 @@
+// The index of a book, from the matrix of its pairs into four lent parts.
+ghost use mathlib.Core.Path.{_≡_};
+ghost use Prim.Native.Nat.{ℕ, _+_, _-_, _<_, _≤_};
+ghost use lib.ListN.{length, getD, set, replicate};
+ghost use Rattle.index.specs.Pairs.{joined};
+ghost use Rattle.index.specs.Index.{Indexed};
+ghost use Rattle.index.specs.Matrix.{pairOf, Buildable, Completed};
+ghost use Rattle.index.specs.Steps.{Marked, Held, Sized, unmet, Spread, Parented, Zero, Walkable, Walked, Resolvable, Resolved};
+
+// A piece's number.
+pub struct DatasetId(pub usize);
+
+// A node's place in the tree, counted depth first.
+pub struct TreeId(pub usize);
+
+pub struct Counts {
+    pub nodes: usize,
+    pub shadows: usize,
+}
+
+pub fn wide(x: u16) -> usize
+    ensures { λ r. ⌜ r ≡ x ⌝ }
+{
+    x as usize
+}
+
+pub fn narrow(x: usize) -> u16
+    requires { ⌜ x < 65536 ⌝ }
+    ensures { λ r. ⌜ r ≡ x ⌝ }
+{
+    x as u16
+}
+
+// The place list converts a piece's number to its place, and nothing else does.
+pub fn place_of(places: &[u16], g: DatasetId) -> TreeId
+    requires { ⌜ g .0 < length (now places) ⌝ }
+    ensures { λ r. ⌜ r .0 ≡ getD (now (places .entry)) (g .0) 0 ⌝ }
+{
+    let i = g.0;
+    TreeId(wide(places[i]))
+}
+
+fn set_place(places: &mut [u16], g: DatasetId, t: TreeId)
+    requires { ⌜ (g .0 < length (now places)) × (t .0 < 65536) ⌝ }
+    ensures { λ _. ⌜ now (places .exit) ≡ set (now (places .entry)) (g .0) (t .0) ⌝ }
+{
+    let i = g.0;
+    let k = t.0;
+    places[i] = narrow(k);
+}
+
+pub fn clear(list: &mut [u16])
+    ensures { λ _. ⌜ now (list .exit) ≡ replicate (length (now (list .entry))) 0 ⌝ }
+{
+    let mut done: usize = 0;
+    while done < list.len() {
+        list[done] = 0;
+        done += 1;
+    }
+}
+
+// Marks the parts of c.
+fn mark_parts(edges: &[u64], c: usize, held: &mut [u16])
+    requires { ⌜ (length (now edges) ≡ 65536) × (c < 2048) × (length (now held) ≡ 2048) ⌝ }
+    ensures { λ _. ⌜ Marked (now (edges .entry)) c (now (held .entry)) (now (held .exit)) ⌝ }
+{
+    let mut p = relation::next_bit(edges, c, 0);
+    while p < 2048 {
+        held[p] = 1;
+        p = relation::next_bit(edges, c, p + 1);
+    }
+}
+
+// Marks the pieces that are somebody's part.
+fn mark_held(n: usize, edges: &[u64], held: &mut [u16])
+    requires { ⌜ (n ≤ 2048) × (length (now edges) ≡ 65536) × (length (now held) ≡ 2048) × Zero (now held) ⌝ }
+    ensures { λ _. ⌜ Held n (now (edges .entry)) (now (held .exit)) ⌝ }
+{
+    let mut c: usize = 0;
+    while c < n {
+        mark_parts(edges, c, held);
+        c += 1;
+    }
+}
+
+// Joins each piece but 0 that is nobody's part to 0.
+fn join(n: usize, edges: &mut [u64], held: &[u16])
+    requires { ⌜ (n ≤ 2048) × (0 < n) × (length (now edges) ≡ 65536) × (length (now held) ≡ 2048) × Held n (now edges) (now held) ⌝ }
+    ensures { λ _. ⌜ Completed n (now (edges .entry)) (now (edges .exit)) ⌝ }
+{
+    let mut p: usize = 1;
+    while p < n {
+        if held[p] == 0 {
+            relation::insert(edges, 0, p);
+            p += 1;
+            continue;
+        }
+        p += 1;
+    }
+}
+
+// One round: the parts of c that are not met yet get c as their parent and go to the end of the queue, whose new end is returned.
+fn spread(
+    n: usize,
+    c: usize,
+    edges: &[u64],
+    parent: &mut [u16],
+    order: &mut [u16],
+    tail: usize,
+) -> usize
+    requires { ⌜ Sized n (now edges) (length (now parent)) (length (now order)) × (c < n) × (tail + length (unmet n (now parent)) ≤ length (now order)) ⌝ }
+    ensures { λ r. ⌜ Spread n (pairOf n (now (edges .entry))) c (now (parent .entry)) (now (order .entry)) tail (now (parent .exit)) (now (order .exit)) r ⌝ }
+{
+    let mut end = tail;
+    let mut p = relation::next_bit(edges, c, 1);
+    while p < n {
+        if parent[p] == 2048 {
+            parent[p] = narrow(c);
+            order[end] = narrow(p);
+            end += 1;
+            p = relation::next_bit(edges, c, p + 1);
+            continue;
+        }
+        p = relation::next_bit(edges, c, p + 1);
+    }
+    end
+}
+
+// No piece has a parent yet.
+fn forget(n: usize, parent: &mut [u16])
+    requires { ⌜ n ≤ length (now parent) ⌝ }
+    ensures { λ _. ⌜ ((q : ℕ) → q < n → getD (now (parent .exit)) q 0 ≡ 2048) ⌝ }
+{
+    let mut i: usize = 0;
+    while i < n {
+        parent[i] = 2048;
+        i += 1;
+    }
+}
+
+// The parent of each piece but 0, breadth first from 0.
+fn find_parents(n: usize, edges: &[u64], parent: &mut [u16], order: &mut [u16])
+    requires { ⌜ Sized n (now edges) (length (now parent)) (length (now order)) ⌝ }
+    ensures { λ _. ⌜ Parented n (pairOf n (now (edges .entry))) (now (parent .exit)) ⌝ }
+{
+    forget(n, parent);
+    order[0] = 0;
+    let mut head: usize = 0;
+    let mut tail: usize = 1;
+    while head < tail {
+        let c = wide(order[head]);
+        tail = spread(n, c, edges, parent, order, tail);
+        head += 1;
+    }
+}
+
+// The four parts, into parts that are zero, depth first: the walk stands at the node of c, whose parts below `from` are done. The shadow
+// list has the number of each shadow's piece yet, as the piece's node may come later.
+fn walk(
+    n: usize,
+    edges: &[u64],
+    parent: &[u16],
+    parens: &mut [u8],
+    marks: &mut [u8],
+    shadows: &mut [u16],
+    places: &mut [u16],
+) -> Counts
+    requires { ⌜ Walkable n (now edges) (now parent) (length (now parens)) (length (now marks)) (length (now shadows)) (length (now places)) × Zero (now parens) × Zero (now marks) × Zero (now shadows) × Zero (now places) ⌝ }
+    ensures { λ r. ⌜ Walked n (pairOf n (now (edges .entry))) (now (parens .exit)) (now (marks .exit)) (now (shadows .exit)) (now (places .exit)) (r .nodes) (r .shadows) ⌝ }
+{
+    parentheses::put(parens, 0);
+    set_place(places, DatasetId(0), TreeId(0));
+    let mut c = DatasetId(0);
+    let mut from: usize = 1;
+    let mut at: usize = 1;
+    let mut k = TreeId(1);
+    let mut m: usize = 0;
+    loop {
+        let p = relation::next_bit(edges, c.0, from);
+        if p < n {
+            parentheses::put(parens, at);
+            if wide(parent[p]) == c.0 {
+                set_place(places, DatasetId(p), TreeId(k.0));
+                at += 1;
+                k = TreeId(k.0 + 1);
+                c = DatasetId(p);
+                from = 1;
+            } else {
+                parentheses::put(marks, k.0);
+                shadows[m] = narrow(p);
+                at += 2;
+                k = TreeId(k.0 + 1);
+                m += 1;
+                from = p + 1;
+            }
+        } else {
+            if c.0 == 0 {
+                return Counts {
+                    nodes: k.0,
+                    shadows: m,
+                };
+            }
+            at += 1;
+            let done = c.0;
+            from = done + 1;
+            c = DatasetId(wide(parent[done]));
+        }
+    }
+}
+
+// Each shadow's piece gives way to its place.
+fn resolve(shadows: &mut [u16], places: &[u16], m: usize)
+    requires { ⌜ Resolvable (now shadows) (now places) m ⌝ }
+    ensures { λ _. ⌜ Resolved (now (shadows .entry)) (now (places .entry)) m (now (shadows .exit)) ⌝ }
+{
+    let mut j: usize = 0;
+    while j < m {
+        let g = DatasetId(wide(shadows[j]));
+        let t = place_of(places, g);
+        shadows[j] = narrow(t.0);
+        j += 1;
+    }
+}
+
+// Puts the joins into row 0.
+fn complete(n: usize, edges: &mut [u64])
+    requires { ⌜ (n ≤ 2048) × (0 < n) × (length (now edges) ≡ 65536) ⌝ }
+    ensures { λ _. ⌜ Completed n (now (edges .entry)) (now (edges .exit)) ⌝ }
+{
+    let mut held = [0u16; 2048];
+    mark_held(n, edges, &mut held);
+    join(n, edges, &held);
+}
+
+// The four parts of the book in a matrix that has the joins, with its parents.
+fn fill(
+    n: usize,
+    edges: &[u64],
+    parent: &[u16],
+    parens: &mut [u8],
+    marks: &mut [u8],
+    shadows: &mut [u16],
+    places: &mut [u16],
+) -> Counts
+    requires { ⌜ Walkable n (now edges) (now parent) (length (now parens)) (length (now marks)) (length (now shadows)) (length (now places)) ⌝ }
+    ensures { λ r. ⌜ Indexed n (pairOf n (now (edges .entry))) (now (parens .exit)) (now (marks .exit)) (now (shadows .exit)) (now (places .exit)) (r .nodes) (r .shadows) ⌝ }
+{
+    parentheses::clear(parens);
+    parentheses::clear(marks);
+    clear(shadows);
+    clear(places);
+    let counts = walk(n, edges, parent, parens, marks, shadows, places);
+    let m = counts.shadows;
+    resolve(shadows, places, m);
+    counts
+}
+
+// Writes the index of the book whose pairs are in `edges` into the four lent parts, and the joins into `edges`.
+pub fn build(
+    n: usize,
+    edges: &mut [u64],
+    parens: &mut [u8],
+    marks: &mut [u8],
+    shadows: &mut [u16],
+    places: &mut [u16],
+) -> Counts
+    requires { ⌜ Buildable n (now edges) (length (now parens)) (length (now marks)) (length (now shadows)) (length (now places)) ⌝ }
+    ensures index { λ r. ⌜ Indexed n (joined n (pairOf n (now (edges .entry)))) (now (parens .exit)) (now (marks .exit)) (now (shadows .exit)) (now (places .exit)) (r .nodes) (r .shadows) ⌝ }
+    ensures joins { λ _. ⌜ Completed n (now (edges .entry)) (now (edges .exit)) ⌝ }
+{
+    let mut parent = [0u16; 2048];
+    let mut order = [0u16; 2048];
+    complete(n, edges);
+    find_parents(n, edges, &mut parent, &mut order);
+    fill(n, edges, &parent, parens, marks, shadows, places)
+}
