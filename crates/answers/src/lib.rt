@@ -71,8 +71,8 @@ fn some_restricted(claims: &[u8]) -> bool
     let n = claims.len() / 6;
     let mut i: usize = 0;
     while i < n {
-        let claim = records::record_at(claims, i);
-        if 0 < claim.origin {
+        let r = records::record_at(claims, i);
+        if 0 < r.origin {
             return true;
         }
         i += 1;
