@@ -1,5 +1,5 @@
 //! Compares the library's two calls with the reference on many books: the outcome, every answer and every byte of every buffer, with guard
-//! values before and behind what is lent. The last line is 'N passed, M failed', where N + M books were compared.
+//! values before and behind what is lent. The last line is 'N passed, M failed', where N + M are the books compared and the numbers and answers that must occur.
 
 mod books;
 mod piecebook;
@@ -175,6 +175,9 @@ struct Tally {
     random: Random,
     passed: usize,
     failed: usize,
+    /// How often each number and each answer occurred.
+    numbers: [usize; 15],
+    answers: [usize; 4],
 }
 
 impl Tally {
@@ -182,6 +185,10 @@ impl Tally {
         let (expected, wrong) = compare(&mut self.random, &case.book, Some(&case.claims), case.lengths);
         let (_, wrong_index) = compare(&mut self.random, &case.book, None, case.lengths);
         let wrong = wrong.or(wrong_index.map(|wrong| format!("index alone: {wrong}")));
+        self.numbers[expected.outcome.number] += 1;
+        if let Change::IndexAndAnswers(_, bytes) = &expected.change {
+            bytes.iter().for_each(|&byte| self.answers[usize::from(byte)] += 1);
+        }
         self.count(wrong.map(|wrong| {
             let bytes = if case.book.len() <= 600 { format!("{:?}", case.book) } else { format!("{} bytes", case.book.len()) };
             format!("{group}, book {number}: {wrong}; book {bytes}, {} bytes of claims, {:?}", case.claims.len(), case.lengths)
@@ -198,6 +205,18 @@ impl Tally {
                     println!("FAIL {wrong}");
                 }
             }
+        }
+    }
+
+    /// Fails where a number or an answer did not occur: what never occurs is not tested.
+    fn all_occurred(&mut self) {
+        for number in 0..self.numbers.len() {
+            let missing = self.numbers[number] == 0;
+            self.count(missing.then(|| format!("number {number} never occurred")));
+        }
+        for answer in 1..self.answers.len() {
+            let missing = self.answers[answer] == 0;
+            self.count(missing.then(|| format!("answer {answer} never occurred")));
         }
     }
 
@@ -439,7 +458,7 @@ fn largest_contradictory(random: &mut Random, shape: Shape, place: usize) -> Cas
 
 /// Compares them all, `times` as many random books where that is more than once.
 fn run(times: usize) -> bool {
-    let mut tally = Tally { random: Random(1), passed: 0, failed: 0 };
+    let mut tally = Tally { random: Random(1), passed: 0, failed: 0, numbers: [0; 15], answers: [0; 4] };
     examples(&mut tally);
     tally.group("small, from a laying", 3000 * times, |random, _| small_sound(random));
     tally.group("small, facts thrown in", 3000 * times, |random, _| small_contradictory(random));
@@ -463,6 +482,7 @@ fn run(times: usize) -> bool {
             largest_contradictory(random, shape, [8191, 4000, 100][number % 3])
         });
     }
+    tally.all_occurred();
     println!("{} passed, {} failed", tally.passed, tally.failed);
     tally.failed == 0
 }

@@ -137,11 +137,9 @@ fn generate(shape: u8, bytes: &mut [u8], n: usize)
     while k < 2 * n {
         state = next(state);
         let one = opens(shape, n, opened, depth, state);
-        if parentheses::get(bytes, k) {
-            return;
-        }
-        k = parentheses::push(bytes, k, one);
+        k += 1;
         if one {
+            parentheses::put(bytes, k - 1);
             opened += 1;
             depth += 1;
             continue;
