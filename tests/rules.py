@@ -1,4 +1,4 @@
-"""What closure_run must print: the rules of document 01 applied one by one, until nothing new is found.
+"""The rules of document 01 applied one by one, until nothing new is found, and its session.
 
 A fact is (kind, a, b). Nothing is shared between rules, and no rule is skipped because another would do.
 """
@@ -53,25 +53,6 @@ def answer(known, claim):
     return 2 if (OPPOSITE[kind], a, b) in known else 3
 
 
-def judge(records, claims=()):
-    if len(set(records)) < len(records):
-        yield "REFUSED"
-        return
-    pieces = range(1 + max(max(a, 0 if kind == TRAY else b) for kind, a, b in records))
-    known = saturate(records, pieces)
-    if contradictory(known):
-        runs = (k for k in range(1, len(records) + 1) if contradictory(saturate(records[:k], pieces)))
-        yield f"CLASH {next(runs) - 1}"
-        return
-    for number, (kind, a, b) in enumerate(claims):
-        verdict = {1: "FOLLOWS", 2: "DENIED", 3: "OPEN"}[answer(known, (kind, a, b))]
-        yield f"{number} {NAMES[kind]} {a} {b} {verdict}"
-    yield "".join(
-        str(answer(known, claim)) if max(claim[1:]) in pieces else "-"
-        for claim in itertools.product(NAMES, range(8), range(8))
-    )
-
-
 SESSION = [
     (PART, 1, 0),
     (PART, 2, 0),
@@ -95,28 +76,3 @@ CLAIMS = [
     (NOTPART, 0, 1),
     (PART, 1, 2),
 ]
-BOOKS = [[(APART, 2, 2)], [(NOTPART, 1, 0)], [(APART, 1, 0)], [(NOTPART, 0, 1)]]
-
-
-def random_record(draw):
-    kind, a, b = draw % 8, draw // 8 % 8, draw // 64 % 8
-    if kind >= 4:
-        return kind - 2, a, b
-    return (MEETS, a, 0) if a == b else (PART, max(a, b), min(a, b))
-
-
-def random_books():
-    x = 1
-    for i in range(240):
-        records = []
-        for _ in range(12):
-            x = (x * 1103515245 + 12345) % 2**31
-            records.append(random_record(x // 65536))
-        yield records[: 1 + i % 12]
-
-
-def lines():
-    yield from judge(SESSION, CLAIMS)
-    yield from judge(SESSION + [(MEETS, 5, 3)], CLAIMS)
-    for book in itertools.chain(BOOKS, random_books()):
-        yield from judge(book)
