@@ -93,6 +93,11 @@ def cases():
     yield "a book that ends in a record", session[:-1], asked, "REFUSED 3 0\n"
     yield "claims that end in a claim", session, asked[:-2], "REFUSED 10 0\n"
     yield "49,158 bytes, the last one beyond them", full + b"\1\0\1\0\0\0\1", asked, "REFUSED 4 0\n"
+    # PART 2 1 is the scanner's, PART 3 2 stands on a sheet; a restricted claim's line is like any other
+    scanned = six(PART, 2, 1, 1) + six(PART, 3, 2)
+    claims = b"".join(six(*claim) for claim in [(PART, 3, 1), (PART, 3, 1, 1), (NOTPART, 2, 1), (NOTPART, 2, 1, 1), (MEETS, 3, 2, 1)])
+    words = ["0 PART 3 1 FOLLOWS", "1 PART 3 1 OPEN", "2 NOTPART 2 1 DENIED", "3 NOTPART 2 1 OPEN", "4 MEETS 3 2 FOLLOWS"]
+    yield "claims on all facts and on the sheets", scanned, claims, counts({(2, 1), (3, 2)}, 4) + "".join(word + "\n" for word in words)
     for number, record in [
         (5, six(7, 1, 0)),
         (6, six(APART, 1, 2, 9)),

@@ -8,8 +8,8 @@ import struct
 FACTS = {1, 2, 3, 4}
 
 
-def pack(kind, a, b, byte1=0):
-    return struct.pack("<BBHH", kind, byte1, a, b)
+def pack(kind, a, b, origin=0):
+    return struct.pack("<BBHH", kind, origin, a, b)
 
 
 def split(data):
@@ -22,10 +22,10 @@ def named(kind, a, b):
 
 def record_rows(record, seen):
     """The numbers of all rows that refuse a record, given the records before it."""
-    kind, byte1, a, b = struct.unpack("<BBHH", record)
+    kind, origin, a, b = struct.unpack("<BBHH", record)
     tests = {
         5: not 1 <= kind <= 5,
-        6: byte1 != 0,
+        6: origin > 1,
         7: any(piece > 2047 for piece in named(kind, a, b)),
         8: kind == 1 and not b < a,
         9: record in seen,
@@ -34,8 +34,8 @@ def record_rows(record, seen):
 
 
 def claim_rows(claim, pieces):
-    kind, byte1, a, b = struct.unpack("<BBHH", claim)
-    tests = {12: kind not in FACTS or byte1 != 0, 13: max(a, b) not in range(pieces)}
+    kind, origin, a, b = struct.unpack("<BBHH", claim)
+    tests = {12: kind not in FACTS or origin > 1, 13: max(a, b) not in range(pieces)}
     return [row for row, refuses in tests.items() if refuses]
 
 
@@ -72,15 +72,15 @@ def claims(data, pieces):
 SAMPLES = [
     pack(1, 3, 1),
     pack(2, 3, 4),
-    pack(2, 4, 3),
+    pack(2, 3, 4, 1),
     pack(5, 2047, 65535),
     pack(4, 0, 2047),
     pack(1, 3, 3),
     pack(1, 0, 0),
     pack(1, 2048, 2048),
     pack(3, 0, 2048),
-    pack(1, 2048, 2048, 1),
-    pack(0, 2048, 2048, 1),
+    pack(1, 2048, 2048, 2),
+    pack(0, 2048, 2048, 2),
     pack(6, 1, 0),
 ]
 

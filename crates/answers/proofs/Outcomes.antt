@@ -10,13 +10,13 @@ use Rattle.lists.proofs.Bools.{Known, is-true, is-false, known}
 use Rattle.rules.specs.Entries.{shortestClash}
 use Rattle.records.specs.Record.{recordAt, records}
 use Rattle.records.specs.Refusal.{refusalNumber, row, judge, scan}
-use Rattle.records.specs.Rows.{ragged, moreThan, kindRow, tagRow, pieceRow, orderRow, repeatRow, beyondRow}
+use Rattle.records.specs.Rows.{ragged, moreThan, kindRow, originRow, pieceRow, orderRow, repeatRow, beyondRow}
 use Rattle.records.specs.Check.{formFinding, recordFinding, bookCheck, claimsCheck, claimAt, claimFinding}
 use Rattle.records.specs.Facts.{entries}
 use Rattle.index.specs.Index.{visitsOf}
 use Rattle.records.specs.declared.Record.{Record}
 use Rattle.records.specs.declared.Refusal.{Refusal}
-use Rattle.records.specs.declared.Refusal.the-variants.{ShortBuffer, BookLength, TooManyRecords, Kind, Tag, PieceNumber, Order, Repeat, ClaimsLength, TooManyClaims, ClaimFormat, ClaimPiece, Contradiction}
+use Rattle.records.specs.declared.Refusal.the-variants.{ShortBuffer, BookLength, TooManyRecords, Kind, Origin, PieceNumber, Order, Repeat, ClaimsLength, TooManyClaims, ClaimFormat, ClaimPiece, Contradiction}
 use Rattle.records.specs.declared.Finding.{Finding}
 use Rattle.records.specs.declared.Finding.the-variants.{Fit, Unfit}
 use Rattle.records.specs.declared.Claim.{Claim}
@@ -51,7 +51,7 @@ judge-other (Unfit x) g h k = h
 
 form-other : (r : Record) → Others (formFinding r)
 unfolding formFinding
-form-other r = row-other (kindRow r) Kind _ (omega arith) (row-other (tagRow r) Tag _ (omega arith) (row-other (pieceRow r) PieceNumber _ (omega arith) (row-other (orderRow r) Order _ (omega arith) fit-other)))
+form-other r = row-other (kindRow r) Kind _ (omega arith) (row-other (originRow r) Origin _ (omega arith) (row-other (pieceRow r) PieceNumber _ (omega arith) (row-other (orderRow r) Order _ (omega arith) fit-other)))
 
 record-other : (s : List ℕ) (i : ℕ) → Others (recordFinding s i)
 unfolding recordFinding
@@ -98,7 +98,7 @@ refused-positive ShortBuffer e = omega arith
 refused-positive BookLength e = omega arith
 refused-positive TooManyRecords e = omega arith
 refused-positive Kind e = omega arith
-refused-positive Tag e = omega arith
+refused-positive Origin e = omega arith
 refused-positive PieceNumber e = omega arith
 refused-positive Order e = omega arith
 refused-positive Repeat e = omega arith

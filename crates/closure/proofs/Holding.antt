@@ -86,7 +86,7 @@ spread f a m p k = same-truth _ _ to from
 
 pieces-of : (n k a b : ℕ) → Within n (factOf k a b) → (a < n) × (b < n)
 pieces-of n k a b c =
-    let r : Record = record { kind = k; tag = 0; a = a; b = b } in
+    let r : Record = record { kind = k; origin = 0; a = a; b = b } in
     (rw (says-left r) at (c .0), rw (says-right r) at (c .1))
 
 -- ---- what the closure's matrices hold

@@ -21,7 +21,7 @@ turn (swapped m) = as-is m
 -- a fact has its own pieces
 same : (k x y : ℕ) → (eqb (left (factOf k x y)) x && eqb (right (factOf k x y)) y) ≡ true
 same k x y =
-    let r : Record = record { kind = k; tag = 0; a = x; b = y } in
+    let r : Record = record { kind = k; origin = 0; a = x; b = y } in
     rw (says-left r, says-right r) (both-and (eqb-self x) (eqb-self y))
 
 module _ (fs : List Fact) where

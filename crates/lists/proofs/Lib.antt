@@ -4,6 +4,7 @@ pub mod Firsts
 pub mod Searches
 pub mod Anys
 pub mod Members
+pub mod Fronts
 pub mod Numbers
 pub mod Tallies
 pub mod Sums

@@ -27,11 +27,11 @@ module _ (s : List ℕ) (i : ℕ) {r : Record} (at : r ≡ recordAt s i) where
   pub unstated : stated r ≡ false → Unsound ≡ claimAt s i
   unstated e = as-read true (rw e)
 
-  pub marked : (r .tag ≡ 0 → ⊥) → Unsound ≡ claimAt s i
-  marked n = as-read true (right-or (not (stated r)) (rw (ne-eqb (r .tag) 0 n)))
+  pub unknown : 1 < r .origin → Unsound ≡ claimAt s i
+  unknown n = as-read true (right-or (not (stated r)) (lt-ltb 1 (r .origin) n))
 
-  pub read-whole : stated r ≡ true → r .tag ≡ 0 → Sound r ≡ claimAt s i
-  read-whole e t = as-read false (rw (e, eq-eqb (r .tag) 0 t))
+  pub read-whole : stated r ≡ true → r .origin ≤ 1 → Sound r ≡ claimAt s i
+  read-whole e t = as-read false (rw (e, le-ltb 1 (r .origin) t))
 
 -- Rows 10 and 11, and the claims one by one.
 module _ (pieces : ℕ) (s : List ℕ) where

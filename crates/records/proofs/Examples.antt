@@ -6,7 +6,7 @@ use Rattle.lists.specs.Tab.{tab}
 use Rattle.lists.specs.Any.{anyBelow}
 use Rattle.rules.specs.Fact.{factOf}
 use Rattle.rules.specs.Examples.{session}
-use Rattle.records.specs.declared.Refusal.the-variants.{BookLength, Kind, Tag, PieceNumber, Order, Repeat, ClaimsLength, ClaimFormat, ClaimPiece}
+use Rattle.records.specs.declared.Refusal.the-variants.{BookLength, Kind, Origin, PieceNumber, Order, Repeat, ClaimsLength, ClaimFormat, ClaimPiece}
 use Rattle.records.specs.declared.BookCheck.{BookCheck}
 use Rattle.records.specs.declared.BookCheck.the-variants.{Accepted, Refused}
 use Rattle.records.specs.declared.ClaimsCheck.{ClaimsCheck}
@@ -34,20 +34,20 @@ abbrev outcomes : List BookCheck
 outcomes =
     map bookCheck
     (book ∷ [] ∷ (0 ∷ []) ∷ bytes 1 0 2047 0 ∷ bytes 1 0 2048 0 ∷ bytes 2 0 0 2048 ∷ bytes 5 0 3 65535 ∷ bytes 1 0 3 3 ∷ bytes 1 0 0 0 ∷ (bytes 2 0 3 4 ++ bytes 2 0 4 3)
-    ∷ (bytes 2 0 3 4 ++ bytes 3 0 3 4 ++ bytes 2 0 3 4) ∷ (bytes 2 0 1 1 ++ bytes 0 1 2048 2048) ∷ (bytes 2 0 1 1 ++ bytes 6 0 0 0) ∷ bytes 1 1 2048 2048
-    ∷ bytes 1 0 2048 2048 ∷ [])
+    ∷ (bytes 2 0 3 4 ++ bytes 3 0 3 4 ++ bytes 2 0 3 4) ∷ (bytes 2 0 1 1 ++ bytes 0 1 2048 2048) ∷ (bytes 2 0 1 1 ++ bytes 6 0 0 0) ∷ bytes 1 2 2048 2048
+    ∷ bytes 1 1 2048 2048 ∷ (bytes 2 0 3 4 ++ bytes 2 1 3 4) ∷ [])
 
 outcomes-are :
     outcomes
     ≡ Accepted 6 ∷ Accepted 1 ∷ Refused BookLength 0 ∷ Accepted 2048 ∷ Refused PieceNumber 0 ∷ Refused PieceNumber 0 ∷ Accepted 4 ∷ Refused Order 0 ∷ Refused Order 0
-    ∷ Accepted 5 ∷ Refused Repeat 2 ∷ Refused Kind 1 ∷ Refused Kind 1 ∷ Refused Tag 0 ∷ Refused PieceNumber 0 ∷ []
+    ∷ Accepted 5 ∷ Refused Repeat 2 ∷ Refused Kind 1 ∷ Refused Kind 1 ∷ Refused Origin 0 ∷ Refused PieceNumber 0 ∷ Accepted 5 ∷ []
 unfolding bookCheck scan recordFinding formFinding recordAt stated largest piecesUpTo sameBytes anyBelow
 outcomes-are = refl
 
 abbrev claimOutcomes : List ClaimsCheck
 claimOutcomes =
     map (claimsCheck 6)
-    ([] ∷ (0 ∷ []) ∷ bytes 1 0 5 2 ∷ (bytes 4 0 0 5 ++ bytes 5 0 0 0) ∷ bytes 2 1 6 6 ∷ (bytes 3 0 5 5 ++ bytes 3 0 5 6) ∷ [])
+    ([] ∷ (0 ∷ []) ∷ bytes 1 0 5 2 ∷ (bytes 4 0 0 5 ++ bytes 5 0 0 0) ∷ bytes 2 2 6 6 ∷ (bytes 3 1 5 5 ++ bytes 3 0 5 6) ∷ [])
 
 claim-outcomes-are :
     claimOutcomes

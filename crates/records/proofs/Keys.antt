@@ -72,7 +72,7 @@ pub equal-bytes : (s : List ℕ) (i j : ℕ) → ((k : ℕ) → getD s k 0 < 256
 unfolding recordAt
 equal-bytes s i j h e =
     let k : getD s (6 * i) 0 ≡ getD s (6 * j) 0 = ap (λ (r : Record). r .kind) e in
-    let t : getD s (6 * i + 1) 0 ≡ getD s (6 * j + 1) 0 = ap (λ (r : Record). r .tag) e in
+    let t : getD s (6 * i + 1) 0 ≡ getD s (6 * j + 1) 0 = ap (λ (r : Record). r .origin) e in
     let a = low-high _ _ _ _ (h (6 * i + 2)) (h (6 * j + 2)) (ap (λ (r : Record). r .a) e) in
     let b = low-high _ _ _ _ (h (6 * i + 4)) (h (6 * j + 4)) (ap (λ (r : Record). r .b) e) in
     key-same s (6 * i) (6 * j) h (omega (arith, k, t, a, b))

@@ -8,3 +8,4 @@ mod Keys
 mod Filters
 mod Books
 mod Claims
+pub mod Keeps

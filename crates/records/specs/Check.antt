@@ -4,7 +4,7 @@ use Prim.Native.Nat.{ℕ}
 use mathlib.Core.Bool.{Bool, true, false}
 use mathlib.Core.List.{List}
 use Rattle.records.specs.declared.Record.{Record}
-use Rattle.records.specs.declared.Refusal.the-variants.{BookLength, TooManyRecords, Kind, Tag, PieceNumber, Order, Repeat, ClaimsLength, TooManyClaims, ClaimFormat, ClaimPiece}
+use Rattle.records.specs.declared.Refusal.the-variants.{BookLength, TooManyRecords, Kind, Origin, PieceNumber, Order, Repeat, ClaimsLength, TooManyClaims, ClaimFormat, ClaimPiece}
 use Rattle.records.specs.declared.Finding.{Finding}
 use Rattle.records.specs.declared.Finding.the-variants.{Fit, Unfit}
 use Rattle.records.specs.declared.BookCheck.{BookCheck}
@@ -16,7 +16,7 @@ use Rattle.records.specs.declared.Claim.the-variants.{Sound, Unsound}
 use Rattle.records.specs.Record.{recordAt, records}
 use Rattle.records.specs.Refusal.{row, judge, scan}
 use Rattle.records.specs.Pieces.{piecesUpTo}
-use Rattle.records.specs.Rows.{ragged, moreThan, kindRow, tagRow, pieceRow, orderRow, repeatRow, claimRow, beyondRow}
+use Rattle.records.specs.Rows.{ragged, moreThan, kindRow, originRow, pieceRow, orderRow, repeatRow, claimRow, beyondRow}
 
 -- rows 3 and 4
 abbrev pub bookLength : List ℕ → Finding
@@ -24,7 +24,7 @@ bookLength s = row (ragged s) BookLength (row (moreThan 8192 s) TooManyRecords F
 
 -- rows 5 to 8, which look at one record alone
 unfoldable pub formFinding : Record → Finding
-formFinding r = row (kindRow r) Kind (row (tagRow r) Tag (row (pieceRow r) PieceNumber (row (orderRow r) Order Fit)))
+formFinding r = row (kindRow r) Kind (row (originRow r) Origin (row (pieceRow r) PieceNumber (row (orderRow r) Order Fit)))
 
 -- rows 5 to 9 of record i
 unfoldable pub recordFinding : List ℕ → ℕ → Finding

@@ -6,3 +6,4 @@ pub mod Check
 pub mod Facts
 pub mod Key
 pub mod Met
+pub mod Kept

@@ -1,4 +1,4 @@
--- Record i of a run of bytes: six bytes, no header. Kind, byte 1, then a and b as 16-bit numbers, low byte first.
+-- Record i of a run of bytes: six bytes, no header. Kind, origin, then a and b as 16-bit numbers, low byte first.
 -- Assumes nothing.
 use Prim.Native.Nat.{ℕ, _+_, _*_, _/_}
 use mathlib.Core.List.{List}
@@ -13,7 +13,7 @@ unfoldable pub recordAt : List ℕ → ℕ → Record
 recordAt s i =
     record {
       kind = getD s (6 * i) 0;
-      tag = getD s (6 * i + 1) 0;
+      origin = getD s (6 * i + 1) 0;
       a = pair (getD s (6 * i + 2) 0) (getD s (6 * i + 3) 0);
       b = pair (getD s (6 * i + 4) 0) (getD s (6 * i + 5) 0);
     }

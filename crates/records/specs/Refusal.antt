@@ -3,7 +3,7 @@
 use Prim.Native.Nat.{ℕ, zero, suc}
 use mathlib.Core.Bool.{Bool, true, false}
 use Rattle.records.specs.declared.Refusal.{Refusal}
-use Rattle.records.specs.declared.Refusal.the-variants.{ShortBuffer, BookLength, TooManyRecords, Kind, Tag, PieceNumber, Order, Repeat, ClaimsLength, TooManyClaims, ClaimFormat, ClaimPiece, Contradiction}
+use Rattle.records.specs.declared.Refusal.the-variants.{ShortBuffer, BookLength, TooManyRecords, Kind, Origin, PieceNumber, Order, Repeat, ClaimsLength, TooManyClaims, ClaimFormat, ClaimPiece, Contradiction}
 use Rattle.records.specs.declared.Finding.{Finding}
 use Rattle.records.specs.declared.Finding.the-variants.{Fit, Unfit}
 
@@ -12,7 +12,7 @@ refusalNumber ShortBuffer = 1
 refusalNumber BookLength = 3
 refusalNumber TooManyRecords = 4
 refusalNumber Kind = 5
-refusalNumber Tag = 6
+refusalNumber Origin = 6
 refusalNumber PieceNumber = 7
 refusalNumber Order = 8
 refusalNumber Repeat = 9

@@ -21,9 +21,9 @@ moreThan most s = ltb most (records s)
 abbrev pub kindRow : Record → Bool
 kindRow r = not (leb 1 (r .kind) && leb (r .kind) 5)
 
--- 6: byte 1 not zero
-abbrev pub tagRow : Record → Bool
-tagRow r = not (eqb (r .tag) 0)
+-- 6: an origin above 1
+abbrev pub originRow : Record → Bool
+originRow r = ltb 1 (r .origin)
 
 -- 7: a above 2,047, or b above it in kinds 1 to 4
 abbrev pub pieceRow : Record → Bool
@@ -42,9 +42,9 @@ sameBytes s p q (suc n) = eqb (getD s (p + n) 0) (getD s (q + n) 0) && sameBytes
 abbrev pub repeatRow : List ℕ → ℕ → Bool
 repeatRow s i = anyBelow (λ j. sameBytes s (6 * i) (6 * j) 6) i
 
--- 12: a claim's kind not 1 to 4, or byte 1 not zero
+-- 12: a claim's kind not 1 to 4, or byte 1 above 1
 abbrev pub claimRow : Record → Bool
-claimRow r = not (stated r) || tagRow r
+claimRow r = not (stated r) || originRow r
 
 -- 13: a or b beyond the book's pieces
 abbrev pub beyondRow : ℕ → Record → Bool

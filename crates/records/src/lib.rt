@@ -2,17 +2,21 @@
 ghost use mathlib.Core.Path.{_≡_};
 ghost use Prim.Native.Nat.{ℕ, suc, max, _+_, _*_, _≤_, _<_};
 ghost use lib.ListN.{length, getD};
+ghost use mathlib.Core.Bool.{Bool};
+ghost use Rattle.lists.specs.Front.{front, placed};
 ghost use Rattle.records.specs.Record.{recordAt};
+ghost use Rattle.records.specs.Kept.{bytesAt, bytesWhere, sheets};
 ghost use Rattle.records.specs.Refusal.{refusalNumber};
 ghost use Rattle.records.specs.Pieces.{stated, largest};
 ghost use Rattle.records.specs.Key.{keyAt, slotOf};
 ghost use Rattle.records.specs.Met.{met, Marked, start};
 ghost use Rattle.records.specs.Check.{formFinding, recordsCheck, bookCheck, claimAt, claimsCheck};
 
-// A record, or a claim: its kind, byte 1, and two 16-bit numbers.
+// A record, or a claim: its kind, its origin, and two 16-bit numbers. The origin is 0 for a cutting sheet and 1 for the scanner; that of a claim
+// picks the facts, 0 for all and 1 for those of cutting sheets.
 pub struct Record {
     pub kind: u8,
-    pub tag: u8,
+    pub origin: u8,
     pub a: usize,
     pub b: usize,
 }
@@ -23,7 +27,7 @@ pub enum Refusal {
     BookLength,
     TooManyRecords,
     Kind,
-    Tag,
+    Origin,
     PieceNumber,
     Order,
     Repeat,
@@ -46,7 +50,7 @@ pub enum BookCheck {
     Refused(Refusal, usize),
 }
 
-// A claim that is read: of a kind and a byte 1 that a claim may have, or not.
+// A claim that is read: of a kind and an origin that a claim may have, or not.
 pub enum Claim {
     Sound(Record),
     Unsound,
@@ -65,7 +69,7 @@ pub fn refusal_number(r: Refusal) -> u8
         Refusal::BookLength => 3,
         Refusal::TooManyRecords => 4,
         Refusal::Kind => 5,
-        Refusal::Tag => 6,
+        Refusal::Origin => 6,
         Refusal::PieceNumber => 7,
         Refusal::Order => 8,
         Refusal::Repeat => 9,
@@ -94,7 +98,7 @@ pub fn record_at(s: &[u8], i: usize) -> Record
     let b = wide(s[at + 4]) + 256 * wide(s[at + 5]);
     Record {
         kind: s[at],
-        tag: s[at + 1],
+        origin: s[at + 1],
         a,
         b,
     }
@@ -133,8 +137,8 @@ fn check_form(r: Record) -> Finding
     if 5 < r.kind {
         return Finding::Unfit(Refusal::Kind);
     }
-    if r.tag != 0 {
-        return Finding::Unfit(Refusal::Tag);
+    if 1 < r.origin {
+        return Finding::Unfit(Refusal::Origin);
     }
     if 2047 < largest_named(r) {
         return Finding::Unfit(Refusal::PieceNumber);
@@ -251,7 +255,7 @@ pub fn claim_at(claims: &[u8], i: usize) -> Claim
     if !states_fact(claim) {
         return Claim::Unsound;
     }
-    if claim.tag != 0 {
+    if 1 < claim.origin {
         return Claim::Unsound;
     }
     Claim::Sound(claim)
@@ -279,4 +283,46 @@ pub fn check_claims(claims: &[u8], pieces: usize) -> ClaimsCheck
         i += 1;
     }
     ClaimsCheck::Accepted
+}
+
+// Copies the six bytes of record i to place `at`.
+fn copy_record(s: &[u8], i: usize, out: &mut [u8], at: usize)
+    requires { ⌜ (6 * i + 6 ≤ length (now s)) × (at + 6 ≤ length (now out)) ⌝ }
+    ensures { λ _. ⌜ now (out .exit) ≡ placed at (bytesAt (now (s .entry)) i) (now (out .entry)) ⌝ }
+{
+    let from = 6 * i;
+    out[at] = s[from];
+    out[at + 1] = s[from + 1];
+    out[at + 2] = s[from + 2];
+    out[at + 3] = s[from + 3];
+    out[at + 4] = s[from + 4];
+    out[at + 5] = s[from + 5];
+}
+
+// Copies record i to place `at`, if so told, and says where the next one goes.
+pub fn copy_where(on: bool, s: &[u8], i: usize, out: &mut [u8], at: usize) -> usize
+    requires { ⌜ (6 * i + 6 ≤ length (now s)) × (at + 6 ≤ length (now out)) ⌝ }
+    ensures { λ r. ⌜ (now (out .exit) ≡ placed at (bytesWhere on (now (s .entry)) i) (now (out .entry))) × (r ≡ at + length (bytesWhere on (now (s .entry)) i)) ⌝ }
+{
+    if !on {
+        return at;
+    }
+    copy_record(s, i, out, at);
+    at + 6
+}
+
+// Writes the records of cutting sheets to the front of `out`, and says how many bytes they have.
+pub fn keep_sheets(s: &[u8], out: &mut [u8]) -> usize
+    requires { ⌜ length (now s) ≤ length (now out) ⌝ }
+    ensures { λ r. ⌜ (r ≡ length (sheets (now (s .entry)))) × (now (out .exit) ≡ front (sheets (now (s .entry))) (now (out .entry))) ⌝ }
+{
+    let n = s.len() / 6;
+    let mut at: usize = 0;
+    let mut i: usize = 0;
+    while i < n {
+        let r = record_at(s, i);
+        at = copy_where(r.origin == 0, s, i, out, at);
+        i += 1;
+    }
+    at
 }

@@ -1,7 +1,7 @@
 -- `records::check_form` meets its contract: each way out is one of the rows, whose tests the branches are. Assumes nothing.
 use mathlib.Core.Path.{sym}
 use native.Mathlib.Omega.{arith}
-use Rattle.records.proofs.Rows.{kind-low, kind-high, tagged, too-large, not-part, ordered, disordered}
+use Rattle.records.proofs.Rows.{kind-low, kind-high, unknown, too-large, not-part, ordered, disordered}
 use borrow.Author.Needs.{needs}
 use Rattle.records.proofs.check_form.Statement.{statement}
 use Rattle.records.proofs.check_form.Tie as tie
@@ -13,7 +13,7 @@ returns-2 : tie.Need-returns-2
 returns-2 c = sym (kind-high _ (omega arith) (omega arith))
 
 returns-3 : tie.Need-returns-3
-returns-3 c = sym (tagged _ (omega arith) (omega arith) (λ e. omega arith))
+returns-3 c = sym (unknown _ (omega arith) (omega arith) (omega arith))
 
 largest-named-requires : tie.Need-largest-named-requires
 largest-named-requires c κs = search needs

@@ -2,7 +2,7 @@
 use borrow.Author.Tests.{not-true, not-false}
 use mathlib.Core.Path.{sym, _∙_}
 use native.Mathlib.Omega.{arith}
-use Rattle.records.proofs.Claims.{unstated, marked, read-whole}
+use Rattle.records.proofs.Claims.{unstated, unknown, read-whole}
 use borrow.Author.Needs.{needs}
 use Rattle.records.proofs.claim_at.Statement.{statement}
 use Rattle.records.proofs.claim_at.Tie as tie
@@ -17,7 +17,7 @@ returns : tie.Need-returns
 returns c = unstated _ _ (c .before .before .record-at .ensures) (sym (c .before .states-fact .ensures) ∙ not-true _ (c .if1 .taken))
 
 returns-2 : tie.Need-returns-2
-returns-2 c = marked _ _ (c .before .before .before .before .record-at .ensures) (λ e. omega arith)
+returns-2 c = unknown _ _ (c .before .before .before .before .record-at .ensures) (omega arith)
 
 returns-3 : tie.Need-returns-3
 returns-3 c = read-whole _ _ (c .before .before .before .before .record-at .ensures) (sym (c .before .before .before .states-fact .ensures) ∙ not-false _ (c .before .before .if1 .left)) (omega arith)
