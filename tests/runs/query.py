@@ -1,5 +1,4 @@
-"""The printed session of document 01, as it stands there, and the question program without a book."""
-import struct
+"""The printed session of document 01, as it stands there."""
 
 SESSION = """\
 PIECES 6 NODES 7 SHADOWS 1
@@ -14,29 +13,6 @@ PIECES 6 NODES 7 SHADOWS 1
 8 NOTPART 0 1 FOLLOWS
 9 PART 1 2 OPEN
 """
-
-# R-1: piece 0 alone, which is part of itself and meets itself
-EMPTY = """\
-PIECES 1 NODES 1 SHADOWS 0
-0 PART 0 0 FOLLOWS
-1 APART 0 0 DENIED
-2 MEETS 0 0 FOLLOWS
-3 NOTPART 0 0 DENIED
-"""
-
-
-def asked(*claims):
-    return b"".join(struct.pack("<BBHH", kind, 0, a, b) for kind, a, b in claims)
-
-
-# further runs of the program: the files in its folder, standard input, and what it prints
-ALL = asked((1, 0, 0), (2, 0, 0), (3, 0, 0), (4, 0, 0))
-RUNS = {
-    "no book.rec": ({}, ALL, EMPTY),
-    "a book.rec of no bytes": ({"book.rec": b""}, ALL, EMPTY),
-    "no book.rec, no claims": ({}, b"", "PIECES 1 NODES 1 SHADOWS 0\n"),
-    "no book.rec, a claim about piece 1": ({}, asked((1, 0, 0), (1, 1, 0)), "REFUSED 13 1\n"),
-}
 
 
 def lines():
