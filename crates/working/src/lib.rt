@@ -246,28 +246,3 @@ pub fn ask_of(was: Working, area: &[u8], claim: &[u8]) -> Asked
     }
     answer_run(&area[..end], claim)
 }
-
-// The state is lent: an addition.
-pub fn add(w: &mut Working, area: &mut [u8], addition: &[u8]) -> Outcome
-    ensures { λ r. ⌜ Added (now (w .entry)) (now (area .entry)) (now (addition .entry)) r (now (w .exit)) (now (area .exit)) ⌝ }
-{
-    let done = add_to(*w, area, addition);
-    *w = done.working;
-    done.outcome
-}
-
-// A withdrawal by record number.
-pub fn withdraw(w: &mut Working, area: &mut [u8], number: usize) -> Outcome
-    ensures { λ r. ⌜ Withdrawn (now (w .entry)) (now (area .entry)) number r (now (w .exit)) (now (area .exit)) ⌝ }
-{
-    let done = withdraw_from(*w, area, number);
-    *w = done.working;
-    done.outcome
-}
-
-// A claim. It changes nothing.
-pub fn ask(w: &mut Working, area: &[u8], claim: &[u8]) -> Asked
-    ensures { λ r. ⌜ Answered (now (w .entry)) (now (area .entry)) (now (claim .entry)) r × (now (w .exit) ≡ now (w .entry)) ⌝ }
-{
-    ask_of(*w, area, claim)
-}

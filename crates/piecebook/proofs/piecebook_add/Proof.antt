@@ -1,4 +1,4 @@
--- `working::add` meets its contract: a walk of its MIR, by hand.
+-- `piecebook::piecebook_add` meets its contract: a walk of its MIR, by hand.
 -- Assumes nothing.
 use mathlib.Core.Path.{_≡_, refl, ap, subst}
 use Prim.Native.Nat.{ℕ, _<_, _^_}
@@ -30,7 +30,6 @@ use denote.Slice.{sliceVal, slice-vals, MutSlice, ShrSlice, Room, finally, mut-s
 use denote.Steps.{only, opens, closes, owned, peeks, facts, heard, nothing}
 use denote.Struct.Steps.{spelt}
 use denote.Struct.Laws as LL
-use denote.Enum.Laws as EL
 use denote.Triple.Entry.{onEntry}
 use denote.Triple.Spec.{Meets, tripleOf}
 use denote.Triple.Statement.{Contract, Triple}
@@ -40,44 +39,44 @@ use denote.Triple.Table.{entered, cited}
 use denote.Triple.Walked.{says, Stays, stay-ref, gave-slice, stay-dropped, walkOf, goes-ref, goes-gave-slice, goes-dropped, Walks, ends-at, walked, walk-meets}
 use denote.Exit.{yes}
 use denote.Signature.{Slot, plain, shrSliceOf}
-use Rattle.working.specs.Kept.{Added}
-use Rattle.working.specs.declared.Working.{Working}
-use Rattle.working.specs.declared.Settled.{Settled}
-use Rattle.working.proofs.Working as T
-use Rattle.working.proofs.Working.Laws as T′
-use Rattle.working.proofs.Settled as S
-use Rattle.working.proofs.Settled.Laws as S′
-use Rattle.answers.proofs.Outcome as O
-use Rattle.answers.proofs.Outcome.Laws as O′
-use Rattle.working.proofs.add_to as core
-use Rattle.working.proofs.add_to.Symbol as core-def
-use Rattle.working.proofs.add_to.Symbol.{name as #core}
-use Rattle.working.proofs.add_to.Met as core-thm
-use Rattle.working.proofs.add.Key.{name as #self}
-use Rattle.working.proofs.add as f
-use Rattle.working.proofs.add.Statement as stated
-use Rattle.working.proofs.add.Code as code
+use Rattle.piecebook.specs.OpenBook.{Added}
+use Rattle.piecebook.specs.declared.PiecebookWorking.{PiecebookWorking}
+use Rattle.piecebook.specs.declared.PiecebookWorked.{PiecebookWorked}
+use Rattle.piecebook.proofs.PiecebookWorking as T
+use Rattle.piecebook.proofs.PiecebookWorking.Laws as T′
+use Rattle.piecebook.proofs.PiecebookWorked as S
+use Rattle.piecebook.proofs.PiecebookWorked.Laws as S′
+use Rattle.piecebook.proofs.PiecebookWorkingResult as O
+use Rattle.piecebook.proofs.PiecebookWorkingResult.Laws as O′
+use Rattle.piecebook.proofs.add_to as core
+use Rattle.piecebook.proofs.add_to.Symbol as core-def
+use Rattle.piecebook.proofs.add_to.Symbol.{name as #core}
+use Rattle.piecebook.proofs.add_to.Met as core-thm
+use Rattle.piecebook.proofs.piecebook_add.Key.{name as #self}
+use Rattle.piecebook.proofs.piecebook_add as f
+use Rattle.piecebook.proofs.piecebook_add.Statement as stated
+use Rattle.piecebook.proofs.piecebook_add.Code as code
 
-abbrev WorkingS : Slot 3
-WorkingS = plain (λ _. T.the-row)
+abbrev PiecebookWorkingS : Slot 3
+PiecebookWorkingS = plain (λ _. T.the-row)
 
 abbrev ByteS : Slot 3
 ByteS = plain (λ _. u8)
 
 abbrev stayed : Stays (f.ended .signature .params) (f.ended .kept)
-stayed = (stay-ref (0 ∷ []) tt WorkingS, (gave-slice (1 ∷ []) tt ByteS, (stay-dropped (shrSliceOf (2 ∷ []) tt ByteS) yes, tt)))
+stayed = (stay-ref (0 ∷ []) tt PiecebookWorkingS, (gave-slice (1 ∷ []) tt ByteS, (stay-dropped (shrSliceOf (2 ∷ []) tt ByteS) yes, tt)))
 
 -- the contract that the proof cites
 abbrev Core : {M : Type 1} (𝓤 : URA M) (H : Heap 𝓤) (A : Atoms 𝓤) (mem : Memory → SProp 𝓤) (run : Routine → Fun 𝓤) → Contract 𝓤
 Core 𝓤 H A mem run = tripleOf 𝓤 H A core.signature (core.spec 𝓤 H A mem run)
 
-module _ {M : Type 1} (𝓤 : URA M) (H : Heap 𝓤) (A : Atoms 𝓤) (W : Given 𝓤 H A) (at-mem : Memory → SProp 𝓤) (run : Routine → Fun 𝓤) (κ κ₁ κ₂ : Lft) (q q₁ q₂ : Share) (b o : ℕ) (γ : GName) (h : Working) (b₁ o₁ : ℕ) (γ₁ : GName) (ys : List ℕ) (t : RefT (List ℕ)) where
+module _ {M : Type 1} (𝓤 : URA M) (H : Heap 𝓤) (A : Atoms 𝓤) (W : Given 𝓤 H A) (at-mem : Memory → SProp 𝓤) (run : Routine → Fun 𝓤) (κ κ₁ κ₂ : Lft) (q q₁ q₂ : Share) (b o : ℕ) (γ : GName) (h : PiecebookWorking) (b₁ o₁ : ℕ) (γ₁ : GName) (ys : List ℕ) (t : RefT (List ℕ)) where
   -- the borrow of the area, at the list passed
   abbrev x : RefT (List ℕ)
   x = record { ptr = (b₁, o₁); name = γ₁; now = ys }
 
   abbrev Arg : Type 0
-  Arg = RefT Working × (RefT (List ℕ) × (RefT (List ℕ) × Unit {0}))
+  Arg = RefT PiecebookWorking × (RefT (List ℕ) × (RefT (List ℕ) × Unit {0}))
 
   abbrev a : Arg
   a = (record { ptr = (b, o); name = γ; now = h }, (x, (t, tt)))
@@ -105,26 +104,26 @@ module _ {M : Type 1} (𝓤 : URA M) (H : Heap 𝓤) (A : Atoms 𝓤) (W : Given
       owned ! T.the-row (Is T.the-row) ((LL.makes T.the-type T′.the-plain) 𝓤 H A) h _ was $ move ! (0 ∷ 2 ∷ []) $ fjoin ! $ move ! (1 ∷ 0 ∷ []) $ join ! $ frame ! $ done !
 
   -- what the core says of its result and of the area's last list
-  abbrev Said : Settled → List ℕ → Type 0
-  Said r zs = Added h ys (t .now) (r .outcome) (r .working) zs
+  abbrev Said : PiecebookWorked → List ℕ → Type 0
+  Said r zs = Added h ys (t .now) (r .result) (r .working) zs
 
-  exits : (r : Settled) (u : Val) (zs : List ℕ) → Said r zs → length zs ≡ length ys → Is O.the-row (r .outcome) (u ∷ [])
+  exits : (r : PiecebookWorked) (u : Val) (zs : List ℕ) → Said r zs → length zs ≡ length ys → Is O.the-row (r .result) (u ∷ [])
       → ent 𝓤 (⋆ 𝓤 H A (‵ (fobs γ (T.the-row .coded .code (r .working))) ∷ ‵ (fbor κ (Body (mem T.the-row) b o γ)) ∷ ‵ (flft κ q) ∷ (‵ (flft κ₁ q₁) ⊛ ‵ (flft κ₂ q₂) ⊛ ‵ ftrue) ∷ ‵ (finally u8 γ₁ zs) ∷ [])) (Post u)
   exits r u zs e l is =
       qed W (‵ (fobs γ (T.the-row .coded .code (r .working))) ∷ ‵ (fbor κ (Body (mem T.the-row) b o γ)) ∷ ‵ (flft κ q) ∷ (‵ (flft κ₁ q₁) ⊛ ‵ (flft κ₂ q₂) ⊛ ‵ ftrue) ∷ ‵ (finally u8 γ₁ zs) ∷ []) ∵
-      suffices ! _ (ends-at 𝓤 H A f.ended stayed (f.clauses 𝓤 H A at-mem run) W (((κ, (κ₁, (κ₂, tt))), (q, (q₁, (q₂, tt))), tt, a, vals), tt) u (r .outcome) (r .working, (zs, (tt, tt))) (tt, (l, (tt, tt)))) $ says ! e $
+      suffices ! _ (ends-at 𝓤 H A f.ended stayed (f.clauses 𝓤 H A at-mem run) W (((κ, (κ₁, (κ₂, tt))), (q, (q₁, (q₂, tt))), tt, a, vals), tt) u (r .result) (r .working, (zs, (tt, tt))) (tt, (l, (tt, tt)))) $ says ! e $
       move ! (2 ∷ 3 ∷ []) $ join ! $ frame ! $
       -- [obs; the borrow; the last list]
       feqI ! (List Val) (vptr b o ∷ []) (vptr b o ∷ []) refl $ fjoin3 ! $
       nothing ! $ nothing ! $ fjoin ! $ move ! (2 ∷ 0 ∷ []) $ fjoin ! $ move ! (1 ∷ 0 ∷ []) $ fjoin ! $
-      owned ! O.the-row (Is O.the-row) ((EL.makes O.the-type O′.the-plain) 𝓤 H A) (r .outcome) _ is $ move ! (1 ∷ 0 ∷ []) $ done !
+      owned ! O.the-row (Is O.the-row) ((LL.makes O.the-type O′.the-plain) 𝓤 H A) (r .result) _ is $ move ! (1 ∷ 0 ∷ []) $ done !
 
   -- what whoever holds the result knows of its two fields
-  is-working : (r : Settled) (vs : List Val) → Is S.the-row r vs → Is T.the-row (r .working) (T′.lowered (r .working) ∷ [])
+  is-working : (r : PiecebookWorked) (vs : List Val) → Is S.the-row r vs → Is T.the-row (r .working) (T′.lowered (r .working) ∷ [])
   is-working r vs is = LL.owed S.the-type S′.the-laws r vs is .0
 
-  is-outcome : (r : Settled) (vs : List Val) → Is S.the-row r vs → Is O.the-row (r .outcome) (O′.lowered (r .outcome) ∷ [])
-  is-outcome r vs is = let g = LL.owed S.the-type S′.the-laws r vs is .1 .0 in subst (Is O.the-row (r .outcome)) (O′.lowers .val-is (r .outcome) _ g) g
+  is-outcome : (r : PiecebookWorked) (vs : List Val) → Is S.the-row r vs → Is O.the-row (r .result) (O′.lowered (r .result) ∷ [])
+  is-outcome r vs is = let g = LL.owed S.the-type S′.the-laws r vs is .1 .0 in subst (Is O.the-row (r .result)) (O′.lowers .val-is (r .result) _ g) g
 
   module _ (C : Calls 𝓤 H) (Λ : Loops 𝓤 H) (fm : FmC 𝓤 H (W .laws) C) (known : Triple 𝓤 (C #core) (Core 𝓤 H A at-mem run)) where
     walk : Is (MutSlice (named 1) κ₁ u8) x (s ∷ []) → Is (ShrSlice (named 2) κ₂ u8) t (s′ ∷ []) → Room u8 (length ys) → ent 𝓤 (onEntry 𝓤 H A f.signature (κ, (κ₁, (κ₂, tt))) (q, (q₁, (q₂, tt))) a vals) (WpFn 𝓤 H C Λ code.function (vptr b o ∷ s ∷ s′ ∷ []) Post)
@@ -144,7 +143,7 @@ module _ {M : Type 1} (𝓤 : URA M) (H : Heap 𝓤) (A : Atoms 𝓤) (W : Given
         -- the call: the area and the addition are given to the core
         move ! (4 ∷ 5 ∷ []) $ use2 W (raw (Core 𝓤 H A at-mem run .pre to-core)) (goes was) $
         calls-at ! fm (Core 𝓤 H A at-mem run) known to-core (and-then ! (load ! (from ! (stop !)) (look ! 9 refl)) (and-then ! (load ! (from ! (stop !)) (look ! 5 refl)) (and-then ! (load ! (from ! (stop !)) (look ! 13 refl)) (no-more !)))) (λ w.
-        use1 W (later (some (λ (r : Settled). ((‵ (flft κ₁ q₁) ⊛ ‵ (flft κ₂ q₂) ⊛ ‵ ftrue) ⊛ ‵ (S.the-row .own r (w ∷ []))) ⊛ raw (ensured 𝓤 H A core.ended (core.clauses 𝓤 H A at-mem run) (κ₁, (κ₂, tt)) (h, (x, (t, tt))) tt r)))) (id⊢ 𝓤 _) $ await ! tt $ pick ! (λ r.
+        use1 W (later (some (λ (r : PiecebookWorked). ((‵ (flft κ₁ q₁) ⊛ ‵ (flft κ₂ q₂) ⊛ ‵ ftrue) ⊛ ‵ (S.the-row .own r (w ∷ []))) ⊛ raw (ensured 𝓤 H A core.ended (core.clauses 𝓤 H A at-mem run) (κ₁, (κ₂, tt)) (h, (x, (t, tt))) tt r)))) (id⊢ 𝓤 _) $ await ! tt $ pick ! (λ r.
         -- what the core ensures, at some last list
         split ! $ move ! (1 ∷ []) $ use1 W (some (λ (zs : Unit {0} × (List ℕ × (Unit {0} × Unit {0}))). ‵ (lasts core.ended (κ₁, (κ₂, tt)) (h, (x, (t, tt))) zs) ⊛ raw (fact 𝓤 (Said r (zs .1 .0))))) (id⊢ 𝓤 _) $ pick ! (λ zs.
         split ! $ move ! (1 ∷ []) $ heard ! (Said r (zs .1 .0)) (λ e. fsplit ! $ drop ! $ fsplit ! $ fsplit ! $ move ! (1 ∷ []) $ feqL ! (λ l.
@@ -152,7 +151,7 @@ module _ {M : Type 1} (𝓤 : URA M) (H : Heap 𝓤) (A : Atoms 𝓤) (W : Given
         move ! (2 ∷ []) $ split ! $ move ! (1 ∷ []) $ facts ! S.the-row (Is S.the-row) (shows 𝓤 H A S.the-row) r (w ∷ []) (λ is.
         land ! (from ! (stop !)) (init ! 13 refl (LL.lawful S.the-type S′.the-laws 𝓤 H A W .typed r _ is .0)) $ rewrite ! 13 (λ (u : Val). ‵ (fat fullShare S′.mir l₄ 0 u)) (ap only (S′.lowers .val-is r _ is)) refl $
         assigns ! (of-opd ! (load ! (from ! (fld ! refl (stop !))) (look-in ! 13 (sub ! 0 refl (whole !))))) (from ! (hop ! (look ! 19 refl) (stop !))) (store ! 3 refl (LL.lawful T.the-type T′.the-laws 𝓤 H A W .typed (r .working) _ (is-working r _ is) .0)) $
-        assigns ! (of-opd ! (load ! (from ! (fld ! refl (stop !))) (look-in ! 13 (sub ! 1 refl (whole !))))) (from ! (stop !)) (init ! 21 refl (EL.lawful O.the-type O′.the-laws 𝓤 H A W tt .typed (r .outcome) _ (is-outcome r _ is) .0)) $
+        assigns ! (of-opd ! (load ! (from ! (fld ! refl (stop !))) (look-in ! 13 (sub ! 1 refl (whole !))))) (from ! (stop !)) (init ! 21 refl (LL.lawful O.the-type O′.the-laws 𝓤 H A W .typed (r .result) _ (is-outcome r _ is) .0)) $
         -- the borrow is closed at the new state
         owned ! T.the-row (Is T.the-row) ((LL.makes T.the-type T′.the-plain) 𝓤 H A) (r .working) _ (is-working r _ is) $
         move ! (4 ∷ []) $ use1 W (‵ (cellAt fullShare (T.the-row .mir) (T′.lowered (r .working) ∷ []) b o)) (W .laws .at-raw fullShare T′.mir b o (T′.lowered (r .working))) $
@@ -172,13 +171,13 @@ module _ {M : Type 1} (𝓤 : URA M) (H : Heap 𝓤) (A : Atoms 𝓤) (W : Given
 meets : {M : Type 1} (𝓤 : URA M) (H : Heap 𝓤) (A : Atoms 𝓤) → Given 𝓤 H A → (mem : Memory → SProp 𝓤) (run : Routine → Fun 𝓤) (𝓣 : Tables 𝓤 H) → Triple 𝓤 (𝓣 .C #core) (Core 𝓤 H A mem run)
     → Meets 𝓤 H A f.signature (WpFn 𝓤 H (𝓣 .C) (𝓣 .Λ) code.function) (f.spec 𝓤 H A mem run)
 meets 𝓤 H A W mem run 𝓣 known =
-    walk-meets 𝓤 H A f.ended stayed W (goes-ref 𝓤 H A W 3 0 tt WorkingS, (goes-gave-slice 𝓤 H A W 3 1 tt ByteS, (goes-dropped 𝓤 H A W 3 (shrSliceOf (2 ∷ []) tt ByteS) yes (λ κs x f. refl), tt))) (f.clauses 𝓤 H A mem run)
+    walk-meets 𝓤 H A f.ended stayed W (goes-ref 𝓤 H A W 3 0 tt PiecebookWorkingS, (goes-gave-slice 𝓤 H A W 3 1 tt ByteS, (goes-dropped 𝓤 H A W 3 (shrSliceOf (2 ∷ []) tt ByteS) yes (λ κs x f. refl), tt))) (f.clauses 𝓤 H A mem run)
     (WpFn 𝓤 H (𝓣 .C) (𝓣 .Λ) code.function) (WpFn-mono 𝓤 H (W .laws) 𝓣 code.function) (walks 𝓤 H A W mem run (𝓣 .C) (𝓣 .Λ) (fmOf 𝓤 H (W .laws) 𝓣) known)
 
-pub add-spec : {M : Type 1} → stated.statement M
+pub piecebook-add-spec : {M : Type 1} → stated.statement M
 unfolding code.routine tablesOf
-add-spec 𝓤 H 𝓜 𝓖 𝓡 =
+piecebook-add-spec 𝓤 H 𝓜 𝓖 𝓡 =
     entered 𝓤 H (tripleOf 𝓤 H (𝓖 .A) f.signature (f.spec 𝓤 H (𝓖 .A) (𝓜 .mem) (𝓡 .run)))
     (tables 𝓤 H 𝓜 𝓡 code.env .C) (tables 𝓤 H 𝓜 𝓡 code.env .Λ) #self code.function (code.unfolded 𝓤 H 𝓜 𝓡)
     (meets 𝓤 H (𝓖 .A) (givenOf 𝓤 H 𝓜 𝓖) (𝓜 .mem) (𝓡 .run) (tablesOf 𝓤 H 𝓜 (tables 𝓤 H 𝓜 𝓡 code.env))
-    (cited 𝓤 H (Core 𝓤 H (𝓖 .A) (𝓜 .mem) (𝓡 .run)) 𝓜 𝓡 code.env #core core-def.routine code.calls-working·add-to (core-thm.met 𝓤 H 𝓜 𝓖 𝓡)))
+    (cited 𝓤 H (Core 𝓤 H (𝓖 .A) (𝓜 .mem) (𝓡 .run)) 𝓜 𝓡 code.env #core core-def.routine code.calls-piecebook·add-to (core-thm.met 𝓤 H 𝓜 𝓖 𝓡)))
