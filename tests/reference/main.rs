@@ -2,6 +2,7 @@
 //! values before and behind what is lent. The last line is 'N passed, M failed', where N + M are the books compared and the numbers and answers that must occur.
 
 mod books;
+mod days;
 mod piecebook;
 mod reference;
 mod rules;
@@ -219,6 +220,23 @@ impl Tally {
             let missing = self.answers[origin][answer] == 0;
             self.count(missing.then(|| format!("answer {answer} to a claim of origin {origin} never occurred")));
         }
+    }
+
+    /// Days of a working book.
+    fn days(&mut self, count: usize) {
+        let start = Instant::now();
+        let failed = self.failed;
+        let mut random = Random(9);
+        let mut numbers = [0; 19];
+        for day in 0..count {
+            let wrong = days::play(&mut random, &mut numbers);
+            self.count(wrong.map(|wrong| format!("day {day}, {wrong}")));
+        }
+        for number in [0, 1, 3, 4, 5, 9, 10, 12, 13, 14, 18] {
+            let missing = numbers[number] == 0;
+            self.count(missing.then(|| format!("number {number} never occurred on a working book")));
+        }
+        println!("working books: {count} days; {} failed; {:.1} s", self.failed - failed, start.elapsed().as_secs_f64());
     }
 
     /// A group of random books, each made from the group's random numbers; prints one line.
@@ -503,6 +521,7 @@ fn run(times: usize) -> bool {
             largest_contradictory(random, shape, [8191, 4000, 100][number % 3])
         });
     }
+    tally.days(60 * times);
     tally.all_occurred();
     println!("{} passed, {} failed", tally.passed, tally.failed);
     tally.failed == 0

@@ -75,7 +75,61 @@ pub fn index(book: &[u8], index: &mut Parts) -> Outcome {
     }
 }
 
+/// The least length of a working book's record area.
+pub const AREA: usize = 49152;
+
+/// The counts of a working book.
+#[repr(C)]
+#[derive(Clone, Copy, Debug, PartialEq, Eq)]
+pub struct Working {
+    pub records: usize,
+    pub pieces: usize,
+}
+
+/// What a call on a working book returns; `answer` is 0 but for an answered claim.
+#[repr(C)]
+#[derive(Clone, Copy, Debug, PartialEq, Eq)]
+pub struct WorkingOutcome {
+    pub number: usize,
+    pub place: usize,
+    pub answer: usize,
+}
+
+impl Working {
+    /// Begins with no records.
+    pub fn start(&mut self, area: &mut [u8]) -> WorkingOutcome {
+        // SAFETY: as above.
+        unsafe { piecebook_start(self, area.as_mut_ptr(), area.len()) }
+    }
+
+    /// Adds a record.
+    pub fn add(&mut self, area: &mut [u8], record: &[u8]) -> WorkingOutcome {
+        // SAFETY: as above.
+        unsafe { piecebook_add(self, area.as_mut_ptr(), area.len(), record.as_ptr(), record.len()) }
+    }
+
+    /// Withdraws a record by its number.
+    pub fn withdraw(&mut self, area: &mut [u8], number: usize) -> WorkingOutcome {
+        // SAFETY: as above.
+        unsafe { piecebook_withdraw(self, area.as_mut_ptr(), area.len(), number) }
+    }
+
+    /// Answers one claim.
+    pub fn ask(&mut self, area: &[u8], claim: &[u8]) -> WorkingOutcome {
+        // SAFETY: as above.
+        unsafe { piecebook_ask(self, area.as_ptr(), area.len(), claim.as_ptr(), claim.len()) }
+    }
+}
+
 extern "C" {
+    fn piecebook_start(state: *mut Working, area: *mut u8, area_length: usize) -> WorkingOutcome;
+
+    fn piecebook_add(state: *mut Working, area: *mut u8, area_length: usize, record: *const u8, record_length: usize) -> WorkingOutcome;
+
+    fn piecebook_withdraw(state: *mut Working, area: *mut u8, area_length: usize, record_number: usize) -> WorkingOutcome;
+
+    fn piecebook_ask(state: *mut Working, area: *const u8, area_length: usize, claim: *const u8, claim_length: usize) -> WorkingOutcome;
+
     fn piecebook_answer(
         book: *const u8,
         book_length: usize,

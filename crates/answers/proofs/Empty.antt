@@ -20,7 +20,7 @@ use Rattle.records.specs.Check.{bookCheck, claimAt, claimsCheck}
 use Rattle.records.specs.Facts.{entryOf, entries}
 use Rattle.records.specs.Kept.{picked}
 use Rattle.records.specs.declared.Refusal.{Refusal}
-use Rattle.records.specs.declared.Refusal.the-variants.{ShortBuffer, BookLength, TooManyRecords, Kind, Origin, PieceNumber, Order, Repeat, ClaimsLength, TooManyClaims, ClaimFormat, ClaimPiece, Contradiction}
+use Rattle.records.specs.declared.Refusal.the-variants.{ShortBuffer, BookLength, TooManyRecords, Kind, Origin, PieceNumber, Order, Repeat, ClaimsLength, TooManyClaims, ClaimFormat, ClaimPiece, Contradiction, NotStanding}
 use Rattle.records.specs.declared.ClaimsCheck.the-variants as claims
 use Rattle.records.proofs.Examples.{bytes}
 use Rattle.lists.specs.Numbers.{range, keep, find}
@@ -82,6 +82,7 @@ other TooManyClaims e = omega arith
 other ClaimFormat e = omega arith
 other ClaimPiece e = omega arith
 other Contradiction e = omega arith
+other NotStanding e = omega arith
 
 pub never-two : (o : Outcome) → number o ≡ 2 → ⊥
 never-two (Accepted pieces nodes shadows) e = omega arith

@@ -36,6 +36,7 @@ pub enum Refusal {
     ClaimFormat,
     ClaimPiece,
     Contradiction,
+    NotStanding,
 }
 
 // What some rows say of one thing.
@@ -78,6 +79,7 @@ pub fn refusal_number(r: Refusal) -> u8
         Refusal::ClaimFormat => 12,
         Refusal::ClaimPiece => 13,
         Refusal::Contradiction => 14,
+        Refusal::NotStanding => 18,
     }
 }
 
