@@ -1,0 +1,5 @@
+mod Answers
+pub mod Made
+pub mod Theorems
+mod Writes
+mod Examples
