@@ -1,5 +1,5 @@
 mod Answers
 pub mod Made
 pub mod Theorems
-mod Writes
+pub mod Writes
 mod Examples

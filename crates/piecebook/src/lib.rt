@@ -1,11 +1,15 @@
-// The calls of include/piecebook.h: the two calls of `answers`, with document 01's numbers for an outcome.
+// The calls of include/piecebook.h: the two calls of `answers` and the converter, with document 01's numbers for an outcome.
 ghost use mathlib.Core.Path.{_≡_};
 ghost use mathlib.Core.List.{[]};
 ghost use Rattle.answers.specs.Lent.{lent};
 ghost use Rattle.answers.specs.Demands.{Demand2, Demand3, Contradicted};
 ghost use Rattle.answers.specs.Fitting.{Fitting};
 ghost use Rattle.piecebook.specs.Exported.{Reported, Exported};
+ghost use Rattle.convert.specs.Converted.{converted};
+ghost use Rattle.convert.specs.Same.{InForce, SameAnswers};
+ghost use Rattle.piecebook.specs.Converts.{Told, Converts};
 use answers::Outcome;
+use convert::Conversion;
 
 // The outcome as include/piecebook.h has it.
 #[repr(C)]
@@ -80,4 +84,39 @@ pub extern "C" fn piecebook_index(
 {
     let outcome = answers::write_index(book, parens, marks, shadows, places);
     result_of(outcome)
+}
+
+// A conversion as include/piecebook.h has it.
+#[repr(C)]
+pub struct PiecebookConverted {
+    pub number: usize,
+    pub place: usize,
+    pub length: usize,
+}
+
+fn converted_of(conversion: Conversion) -> PiecebookConverted
+    ensures { λ r. ⌜ Told conversion r ⌝ }
+{
+    match conversion {
+        Conversion::Written(length) => PiecebookConverted {
+            number: 0,
+            place: 0,
+            length,
+        },
+        Conversion::Refused(refusal, place) => PiecebookConverted {
+            number: wide(records::refusal_number(refusal)),
+            place,
+            length: 0,
+        },
+    }
+}
+
+#[no_mangle]
+pub extern "C" fn piecebook_convert(book: &[u8], out: &mut [u8]) -> PiecebookConverted
+    ensures converts { λ r. ⌜ Converts (now (book .entry)) (now (out .entry)) r (now (out .exit)) ⌝ }
+    ensures accepted { λ r. ⌜ (r .number ≡ 0 → InForce (now (book .entry)) (converted (now (book .entry)))) ⌝ }
+    ensures same { λ r. ⌜ (r .number ≡ 0 → SameAnswers (now (book .entry)) (converted (now (book .entry)))) ⌝ }
+{
+    let conversion = convert::convert(book, out);
+    converted_of(conversion)
 }
