@@ -45,6 +45,18 @@ piecebook_result piecebook_index(const uint8_t *book, size_t book_length,
                                  uint8_t *parentheses, size_t parentheses_length, uint8_t *marks, size_t marks_length,
                                  uint16_t *shadows, size_t shadows_length, uint16_t *places, size_t places_length);
 
+/* number is 0 where a new book was written, whose bytes are length; or the number of the refusal, 1, 3 to 9 or 14, whose record is place. */
+typedef struct {
+    size_t number;
+    size_t place;
+    size_t length;
+} piecebook_converted;
+
+/* Takes a book of the former edition, which has TRAY records (kind 5), and writes it without them to the front of out, the other records in their
+   order. Where these do not name the largest piece, PART of that piece in 0 comes last. An out shorter than the book is 1. A refusal writes nothing;
+   bytes behind the new book stay as they are. The new book is accepted by the other calls and gives every claim the answer that it had. */
+piecebook_converted piecebook_convert(const uint8_t *book, size_t book_length, uint8_t *out, size_t out_length);
+
 #ifdef __cplusplus
 }
 #endif

@@ -4,7 +4,7 @@ A fact is (kind, a, b). Nothing is shared between rules, and no rule is skipped 
 """
 import itertools
 
-PART, APART, MEETS, NOTPART, TRAY = range(1, 6)
+PART, APART, MEETS, NOTPART = range(1, 5)
 NAMES = {PART: "PART", APART: "APART", MEETS: "MEETS", NOTPART: "NOTPART"}
 OPPOSITE = {PART: NOTPART, NOTPART: PART, APART: MEETS, MEETS: APART}
 
@@ -34,7 +34,7 @@ def new_facts(known, pieces):
 
 
 def saturate(records, pieces):
-    known = {record for record in records if record[0] != TRAY}
+    known = set(records)
     while True:
         found = set(new_facts(known, pieces)) - known
         if not found:
@@ -57,7 +57,7 @@ def judge(records, claims=()):
     if len(set(records)) < len(records):
         yield "REFUSED"
         return
-    pieces = range(1 + max(max(a, 0 if kind == TRAY else b) for kind, a, b in records))
+    pieces = range(1 + max(max(a, b) for _, a, b in records))
     known = saturate(records, pieces)
     if contradictory(known):
         runs = (k for k in range(1, len(records) + 1) if contradictory(saturate(records[:k], pieces)))
@@ -101,7 +101,7 @@ BOOKS = [[(APART, 2, 2)], [(NOTPART, 1, 0)], [(APART, 1, 0)], [(NOTPART, 0, 1)]]
 def random_record(draw):
     kind, a, b = draw % 8, draw // 8 % 8, draw // 64 % 8
     if kind >= 4:
-        return kind - 2, a, b
+        return 2 + kind % 3, a, b
     return (MEETS, a, 0) if a == b else (PART, max(a, b), min(a, b))
 
 

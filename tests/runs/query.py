@@ -51,6 +51,7 @@ RUNS = {
         asked((1, 3, 1), (1, 3, 1), (4, 2, 1), (4, 2, 1), (3, 3, 2), origins=(0, 1, 0, 1, 1)),
         RESTRICTED,
     ),
+    "a TRAY record": ({"book.rec": asked((1, 1, 0), (5, 1, 7))}, ALL, "REFUSED 5 1\n"),
     "no book.rec, a claim about piece 1": ({}, asked((1, 0, 0), (1, 1, 0)), "REFUSED 13 1\n"),
 }
 

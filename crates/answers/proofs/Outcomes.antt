@@ -94,22 +94,6 @@ claims-other n cs =
     judged ClaimsOther claims.Refused (λ r i o. o) 0 _ (scanned ClaimsOther claims.Refused (λ r i o. o) _ tt _ (λ i. claim-other n (claimAt cs i)) 0 (records cs)) _
     (row-other (ragged cs) ClaimsLength _ (omega arith) (row-other (moreThan 4096 cs) TooManyClaims _ (omega arith) fit-other))
 
--- and none gives 0
-pub refused-positive : (r : Refusal) → refusalNumber r ≡ 0 → ⊥
-refused-positive ShortBuffer e = omega arith
-refused-positive BookLength e = omega arith
-refused-positive TooManyRecords e = omega arith
-refused-positive Kind e = omega arith
-refused-positive Origin e = omega arith
-refused-positive PieceNumber e = omega arith
-refused-positive Order e = omega arith
-refused-positive Repeat e = omega arith
-refused-positive ClaimsLength e = omega arith
-refused-positive TooManyClaims e = omega arith
-refused-positive ClaimFormat e = omega arith
-refused-positive ClaimPiece e = omega arith
-refused-positive Contradiction e = omega arith
-
 -- ---- from an outcome to the rows
 
 module _ (s cs : List ℕ) (l : Lent) where

@@ -318,7 +318,7 @@ fn next(x: u64) -> u64
     (x * 1103515245 + 12345) % 2147483648
 }
 
-// Record i from a number: half of them PARTs, and one in eight a TRAY.
+// Record i from a number: half of them PARTs, and one in four a MEETS.
 fn put_random(s: &mut [u8], i: usize, x: u64)
     requires { ⌜ 6 * i + 6 ≤ length (now s) ⌝ }
 {
@@ -327,7 +327,7 @@ fn put_random(s: &mut [u8], i: usize, x: u64)
     let b = (draw / 64 % 8) as u8;
     let kind = (draw % 8) as u8;
     if 4 <= kind {
-        put(s, i, kind - 2, a, b);
+        put(s, i, 2 + kind % 3, a, b);
         return;
     }
     if b < a {

@@ -3,3 +3,4 @@ pub mod Made
 pub mod Theorems
 pub mod Writes
 mod Examples
+pub mod Calls

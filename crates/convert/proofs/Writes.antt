@@ -14,13 +14,13 @@ use Rattle.rules.specs.Entries.{shortestClash}
 use Rattle.records.specs.declared.Edition.the-variants.{Former}
 use Rattle.records.specs.declared.BookCheck.the-variants as book
 use Rattle.records.specs.declared.Refusal.{Refusal}
-use Rattle.records.specs.declared.Refusal.the-variants.{ShortBuffer, BookLength, TooManyRecords, Kind, Origin, PieceNumber, Order, Repeat, ClaimsLength, TooManyClaims, ClaimFormat, ClaimPiece, Contradiction}
-use Rattle.records.specs.Refusal.{refusalNumber}
+use Rattle.records.specs.declared.Refusal.the-variants.{ShortBuffer, Contradiction}
 use Rattle.records.specs.Record.{records}
 use Rattle.records.specs.Pieces.{pieceCount}
 use Rattle.records.specs.Facts.{entries, facts}
 use Rattle.records.specs.Kept.{bytesAt, bytesWhere}
 use Rattle.records.specs.Check.{formerCheck}
+use Rattle.records.proofs.Rows.{refused-positive}
 use Rattle.records.proofs.Keeps.{Written, written-all, kept-fewer, kept-whole, kept-shorter}
 use Rattle.records.proofs.Accepted.{accepted-by, accepted-within, accepted-order, accepted-positive, accepted-pieces}
 use Rattle.closure.specs.Settled.{Settleable, Clashed}
@@ -92,21 +92,6 @@ module _ (s : List ℕ) (n : ℕ) (former : FormerBook s n) where
       rw (q, inWhole, ← c) (y ∙ rw e (sym (length-append (noTrays s) _)), x ∙ rw (e, f) (placed-front (noTrays s) _ l))
 
 -- ---- the outcome
-
-refused-positive : (r : Refusal) → refusalNumber r ≡ 0 → ⊥
-refused-positive ShortBuffer e = omega arith
-refused-positive BookLength e = omega arith
-refused-positive TooManyRecords e = omega arith
-refused-positive Kind e = omega arith
-refused-positive Origin e = omega arith
-refused-positive PieceNumber e = omega arith
-refused-positive Order e = omega arith
-refused-positive Repeat e = omega arith
-refused-positive ClaimsLength e = omega arith
-refused-positive TooManyClaims e = omega arith
-refused-positive ClaimFormat e = omega arith
-refused-positive ClaimPiece e = omega arith
-refused-positive Contradiction e = omega arith
 
 abbrev pub Promised : List ℕ → List ℕ → Conversion → List ℕ → Type 0
 Promised s out r out′ = Determined s out r out′ × ((number r ≡ 0 → InForce s (converted s)) × (number r ≡ 0 → SameAnswers s (converted s)))

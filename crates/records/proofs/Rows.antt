@@ -11,8 +11,8 @@ use Rattle.records.specs.declared.Edition.{Edition}
 use Rattle.records.specs.declared.Edition.the-variants.{Former, Current}
 use Rattle.records.specs.declared.Refusal.{Refusal}
 use Rattle.records.specs.declared.Finding.{Finding}
-use Rattle.records.specs.Refusal.{row}
-use Rattle.records.specs.declared.Refusal.the-variants.{Kind, Origin, PieceNumber, Order}
+use Rattle.records.specs.Refusal.{refusalNumber, row}
+use Rattle.records.specs.declared.Refusal.the-variants.{ShortBuffer, BookLength, TooManyRecords, Kind, Origin, PieceNumber, Order, Repeat, ClaimsLength, TooManyClaims, ClaimFormat, ClaimPiece, Contradiction}
 use Rattle.records.specs.declared.Finding.the-variants.{Fit, Unfit}
 use Rattle.records.specs.Pieces.{stated, larger, largest}
 use Rattle.records.specs.Rows.{admitted, kindRow, originRow, pieceRow, orderRow}
@@ -104,3 +104,19 @@ fits e r F = pick (ℕ-discrete (r .kind) 1)
     pick : Dec (r .kind ≡ 1) → formFinding e r ≡ Fit
     pick (yes k) = ordered e r (F .kind) (F .known) (F .named) k (F .order k)
     pick (no k) = not-part e r (F .kind) (F .known) (F .named) k
+
+-- no refusal has the number 0
+pub refused-positive : (r : Refusal) → refusalNumber r ≡ 0 → ⊥
+refused-positive ShortBuffer e = omega arith
+refused-positive BookLength e = omega arith
+refused-positive TooManyRecords e = omega arith
+refused-positive Kind e = omega arith
+refused-positive Origin e = omega arith
+refused-positive PieceNumber e = omega arith
+refused-positive Order e = omega arith
+refused-positive Repeat e = omega arith
+refused-positive ClaimsLength e = omega arith
+refused-positive TooManyClaims e = omega arith
+refused-positive ClaimFormat e = omega arith
+refused-positive ClaimPiece e = omega arith
+refused-positive Contradiction e = omega arith
