@@ -73,6 +73,17 @@ piecebook_working_result piecebook_withdraw(piecebook_working *state, uint8_t *a
 
 /* Answers one claim. It writes nothing. */
 piecebook_working_result piecebook_ask(piecebook_working *state, const uint8_t *area, size_t area_length, const uint8_t *claim, size_t claim_length);
+/* number is 0 where a new book was written, whose bytes are length; or the number of the refusal, 1, 3 to 9 or 14, whose record is place. */
+typedef struct {
+    size_t number;
+    size_t place;
+    size_t length;
+} piecebook_converted;
+
+/* Takes a book of the former edition, which has TRAY records (kind 5), and writes it without them to the front of out, the other records in their
+   order. Where these do not name the largest piece, PART of that piece in 0 comes last. An out shorter than the book is 1. A refusal writes nothing;
+   bytes behind the new book stay as they are. The new book is accepted by the other calls and gives every claim the answer that it had. */
+piecebook_converted piecebook_convert(const uint8_t *book, size_t book_length, uint8_t *out, size_t out_length);
 
 #ifdef __cplusplus
 }

@@ -14,9 +14,10 @@ import time
 ROOT = pathlib.Path(__file__).resolve().parent.parent
 sys.dont_write_bytecode = True
 sys.path.insert(0, str(ROOT / "tests"))
-from rules import APART, CLAIMS, MEETS, NAMES, NOTPART, PART, SESSION, TRAY, answer, contradictory, saturate  # noqa: E402
+from rules import APART, CLAIMS, MEETS, NAMES, NOTPART, PART, SESSION, answer, contradictory, saturate  # noqa: E402
 
 WORDS = {1: "FOLLOWS", 2: "DENIED", 3: "OPEN"}
+TRAY = 5
 DIRECTORY = "a directory"
 
 
@@ -98,6 +99,7 @@ def cases():
     claims = b"".join(six(*claim) for claim in [(PART, 3, 1), (PART, 3, 1, 1), (NOTPART, 2, 1), (NOTPART, 2, 1, 1), (MEETS, 3, 2, 1)])
     words = ["0 PART 3 1 FOLLOWS", "1 PART 3 1 OPEN", "2 NOTPART 2 1 DENIED", "3 NOTPART 2 1 OPEN", "4 MEETS 3 2 FOLLOWS"]
     yield "claims on all facts and on the sheets", scanned, claims, counts({(2, 1), (3, 2)}, 4) + "".join(word + "\n" for word in words)
+    yield "a TRAY record", six(PART, 1, 0) + six(TRAY, 1, 7), asked, "REFUSED 5 1\n"
     for number, record in [
         (5, six(7, 1, 0)),
         (6, six(APART, 1, 2, 9)),

@@ -4,7 +4,7 @@ A fact is (kind, a, b). Nothing is shared between rules, and no rule is skipped 
 """
 import itertools
 
-PART, APART, MEETS, NOTPART, TRAY = range(1, 6)
+PART, APART, MEETS, NOTPART = range(1, 5)
 NAMES = {PART: "PART", APART: "APART", MEETS: "MEETS", NOTPART: "NOTPART"}
 OPPOSITE = {PART: NOTPART, NOTPART: PART, APART: MEETS, MEETS: APART}
 
@@ -34,7 +34,7 @@ def new_facts(known, pieces):
 
 
 def saturate(records, pieces):
-    known = {record for record in records if record[0] != TRAY}
+    known = set(records)
     while True:
         found = set(new_facts(known, pieces)) - known
         if not found:

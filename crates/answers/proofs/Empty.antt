@@ -16,7 +16,7 @@ use Rattle.rules.specs.Entries.{factsOf, shortestClash}
 use Rattle.records.specs.Record.{recordAt}
 use Rattle.records.specs.Refusal.{refusalNumber, scan}
 use Rattle.records.specs.Pieces.{piecesUpTo, stated, largest}
-use Rattle.records.specs.Check.{bookCheck, claimAt, claimsCheck}
+use Rattle.records.specs.Check.{checkBy, claimAt, claimsCheck}
 use Rattle.records.specs.Facts.{entryOf, entries}
 use Rattle.records.specs.Kept.{picked}
 use Rattle.records.specs.declared.Refusal.{Refusal}
@@ -50,7 +50,7 @@ by-runs = refl
 
 module _ (cs : List ℕ) (l : Lent) (long : shortLent cs l ≡ false) (fit : claimsCheck 1 cs ≡ claims.Accepted) where
   pub empty-outcome : outcome [] cs l ≡ Accepted 1 1 0
-  unfolding outcome byBook bookCheck scan piecesUpTo byClaims
+  unfolding outcome byBook checkBy scan piecesUpTo byClaims
   empty-outcome = rw (long, outcome, fit) by-runs
 
   pub empty-left : left [] cs l (outcome [] cs l) ≡ alone l (answersTo [] 1 cs)

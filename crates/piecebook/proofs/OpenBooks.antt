@@ -8,9 +8,9 @@ use Rattle.working.specs.declared.Asked.{Asked}
 use Rattle.working.specs.Kept as on
 use Rattle.piecebook.specs.declared.PiecebookWorking.{PiecebookWorking}
 use Rattle.piecebook.specs.declared.PiecebookWorkingResult.{PiecebookWorkingResult}
-use Rattle.piecebook.specs.OpenBook.{stateOf, begunCounts, Told, Started, Added, Withdrawn, Answered}
+use Rattle.piecebook.specs.OpenBook.{stateOf, begunCounts, Replied, Started, Added, Withdrawn, Answered}
 
-module _ (w w′ : PiecebookWorking) (was s : Working) (o : Outcome) (r : PiecebookWorkingResult) (before : was ≡ stateOf w) (behind : stateOf w′ ≡ s) (told : Told o 0 r) (area area′ : List ℕ) where
+module _ (w w′ : PiecebookWorking) (was s : Working) (o : Outcome) (r : PiecebookWorkingResult) (before : was ≡ stateOf w) (behind : stateOf w′ ≡ s) (told : Replied o 0 r) (area area′ : List ℕ) where
   pub added : (a : List ℕ) → on.Added was area a o s area′ → Added w area a r w′ area′
   added a D =
       record {
@@ -27,14 +27,14 @@ module _ (w w′ : PiecebookWorking) (was s : Working) (o : Outcome) (r : Pieceb
         told = told;
       }
 
-pub answered : (w : PiecebookWorking) (was : Working) (asked : Asked) (n : ℕ) (r : PiecebookWorkingResult) (area c : List ℕ) → was ≡ stateOf w → n ≡ asked .answer → Told (asked .outcome) n r → on.Answered was area c asked → Answered w area c r
+pub answered : (w : PiecebookWorking) (was : Working) (asked : Asked) (n : ℕ) (r : PiecebookWorkingResult) (area c : List ℕ) → was ≡ stateOf w → n ≡ asked .answer → Replied (asked .outcome) n r → on.Answered was area c asked → Answered w area c r
 answered w was asked n r area c before wide told D =
     record {
       asked = asked;
       called = subst (λ (x : Working). on.Answered x area c asked) before D;
-      told = subst (λ (x : ℕ). Told (asked .outcome) x r) wide told;
+      told = subst (λ (x : ℕ). Replied (asked .outcome) x r) wide told;
     }
 
-pub began : (state area state′ area′ : List ℕ) (r : PiecebookWorkingResult) (o o′ : Outcome) (begun : Working) → o ≡ o′ → on.Started area o begun area′ → Told o′ 0 r → state′ ≡ begunCounts state begun o′ → Started state area r state′ area′
+pub began : (state area state′ area′ : List ℕ) (r : PiecebookWorkingResult) (o o′ : Outcome) (begun : Working) → o ≡ o′ → on.Started area o begun area′ → Replied o′ 0 r → state′ ≡ begunCounts state begun o′ → Started state area r state′ area′
 began state area state′ area′ r o o′ begun is D told counts =
     record { outcome = o′; begun = begun; called = subst (λ (x : Outcome). on.Started area x begun area′) is D; told = told; counts = counts }

@@ -14,7 +14,7 @@ use Rattle.piecebook.specs.declared.PiecebookWorkingResult.{PiecebookWor
 abbrev pub stateOf : PiecebookWorking → Working
 stateOf w = record { records = w .records; pieces = w .pieces }
 
-pub record Told (o : Outcome) (answer : ℕ) (r : PiecebookWorkingResult) : Type 0 where
+pub record Replied (o : Outcome) (answer : ℕ) (r : PiecebookWorkingResult) : Type 0 where
   pub number-is : r .number ≡ number o
   pub place-is : r .place ≡ place o
   pub answer-is : r .answer ≡ answer
@@ -28,20 +28,20 @@ pub record Started (state area : List ℕ) (r : PiecebookWorkingResult) (state�
   pub outcome : Outcome
   pub begun : Working
   pub called : on.Started area outcome begun area′
-  pub told : Told outcome 0 r
+  pub told : Replied outcome 0 r
   pub counts : state′ ≡ begunCounts state begun outcome
 
 pub record Added (w : PiecebookWorking) (area a : List ℕ) (r : PiecebookWorkingResult) (w′ : PiecebookWorking) (area′ : List ℕ) : Type 0 where
   pub outcome : Outcome
   pub called : on.Added (stateOf w) area a outcome (stateOf w′) area′
-  pub told : Told outcome 0 r
+  pub told : Replied outcome 0 r
 
 pub record Withdrawn (w : PiecebookWorking) (area : List ℕ) (i : ℕ) (r : PiecebookWorkingResult) (w′ : PiecebookWorking) (area′ : List ℕ) : Type 0 where
   pub outcome : Outcome
   pub called : on.Withdrawn (stateOf w) area i outcome (stateOf w′) area′
-  pub told : Told outcome 0 r
+  pub told : Replied outcome 0 r
 
 pub record Answered (w : PiecebookWorking) (area c : List ℕ) (r : PiecebookWorkingResult) : Type 0 where
   pub asked : Asked
   pub called : on.Answered (stateOf w) area c asked
-  pub told : Told (asked .outcome) (asked .answer) r
+  pub told : Replied (asked .outcome) (asked .answer) r

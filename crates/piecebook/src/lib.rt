@@ -1,13 +1,16 @@
-// The calls of include/piecebook.h: the two calls of `answers`, with document 01's numbers for an outcome.
+// The calls of include/piecebook.h: those of `answers`, `working` and `convert`, with document 01's numbers for an outcome.
 ghost use mathlib.Core.Path.{_≡_};
 ghost use mathlib.Core.List.{[]};
 ghost use Rattle.answers.specs.Lent.{lent};
 ghost use Rattle.answers.specs.Demands.{Demand2, Demand3, Contradicted};
 ghost use Rattle.answers.specs.Fitting.{Fitting};
 ghost use Rattle.piecebook.specs.Exported.{Reported, Exported};
-ghost use Rattle.piecebook.specs.OpenBook.{Started, Added, Withdrawn, Answered, Told, stateOf};
-ghost use Rattle.working.specs.Kept.{noRecords};
+ghost use Rattle.piecebook.specs.OpenBook.{Started, Added, Withdrawn, Answered, Replied, stateOf};
+ghost use Rattle.convert.specs.Converted.{converted};
+ghost use Rattle.convert.specs.Same.{InForce, SameAnswers};
+ghost use Rattle.piecebook.specs.Converts.{Told, Converts};
 use answers::Outcome;
+use convert::Conversion;
 use working::Settled;
 use working::Working;
 
@@ -109,7 +112,7 @@ pub struct PiecebookWorked {
 }
 
 fn told(outcome: Outcome, answer: usize) -> PiecebookWorkingResult
-    ensures { λ r. ⌜ Told outcome answer r ⌝ }
+    ensures { λ r. ⌜ Replied outcome answer r ⌝ }
 {
     match outcome {
         Outcome::Accepted(_, _, _) => PiecebookWorkingResult {
@@ -135,7 +138,7 @@ fn state_of(working: PiecebookWorking) -> Working
 }
 
 fn worked(settled: Settled) -> PiecebookWorked
-    ensures { λ r. ⌜ (stateOf (r .working) ≡ settled .working) × Told (settled .outcome) 0 (r .result) ⌝ }
+    ensures { λ r. ⌜ (stateOf (r .working) ≡ settled .working) × Replied (settled .outcome) 0 (r .result) ⌝ }
 {
     let state = settled.working;
     let outcome = settled.outcome;
@@ -224,4 +227,39 @@ pub extern "C" fn piecebook_ask(
     ensures { λ r. ⌜ Answered (now (state .entry)) (now (area .entry)) (now (claim .entry)) r × (now (state .exit) ≡ now (state .entry)) ⌝ }
 {
     ask_of(*state, area, claim)
+}
+
+// A conversion as include/piecebook.h has it.
+#[repr(C)]
+pub struct PiecebookConverted {
+    pub number: usize,
+    pub place: usize,
+    pub length: usize,
+}
+
+fn converted_of(conversion: Conversion) -> PiecebookConverted
+    ensures { λ r. ⌜ Told conversion r ⌝ }
+{
+    match conversion {
+        Conversion::Written(length) => PiecebookConverted {
+            number: 0,
+            place: 0,
+            length,
+        },
+        Conversion::Refused(refusal, place) => PiecebookConverted {
+            number: wide(records::refusal_number(refusal)),
+            place,
+            length: 0,
+        },
+    }
+}
+
+#[no_mangle]
+pub extern "C" fn piecebook_convert(book: &[u8], out: &mut [u8]) -> PiecebookConverted
+    ensures converts { λ r. ⌜ Converts (now (book .entry)) (now (out .entry)) r (now (out .exit)) ⌝ }
+    ensures accepted { λ r. ⌜ (r .number ≡ 0 → InForce (now (book .entry)) (converted (now (book .entry)))) ⌝ }
+    ensures same { λ r. ⌜ (r .number ≡ 0 → SameAnswers (now (book .entry)) (converted (now (book .entry)))) ⌝ }
+{
+    let conversion = convert::convert(book, out);
+    converted_of(conversion)
 }

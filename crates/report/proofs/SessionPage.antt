@@ -13,7 +13,7 @@ use Rattle.records.specs.Record.{recordAt}
 use Rattle.records.specs.Refusal.{scan}
 use Rattle.records.specs.Pieces.{stated, largest, piecesUpTo}
 use Rattle.records.specs.Rows.{sameBytes}
-use Rattle.records.specs.Check.{formFinding, recordFinding, bookCheck, claimAt, claimsCheck}
+use Rattle.records.specs.Check.{formFinding, recordFinding, checkBy, claimAt, claimsCheck}
 use Rattle.records.specs.Facts.{entryOf, entries}
 use Rattle.lists.specs.Numbers.{range, keep, find}
 use Rattle.index.specs.Pairs.{joined, parts}
@@ -52,5 +52,5 @@ pub session-printed :
     ++ ascii "7 NOTPART 1 3 FOLLOWS\n"
     ++ ascii "8 NOTPART 0 1 FOLLOWS\n"
     ++ ascii "9 PART 1 2 OPEN\n"
-unfolding printed zeros session countsLine claimLines claimLine recordAt kindName answerName decimal spell outcome shortLent byBook bookCheck scan recordFinding formFinding stated largest piecesUpTo sameBytes anyBelow byClaims claimsCheck claimAt byRuns shortestClash entries entryOf factOf tab clash any table entry storing turned step rounds containment apart meets notpart derived follows first factsOf visitsOf edges joined partIn range keep find parts breadth order parent hang under whole visits shadows isShadow left indexed front answersTo verdict judge claimed
+unfolding printed zeros session countsLine claimLines claimLine recordAt kindName answerName decimal spell outcome shortLent byBook checkBy scan recordFinding formFinding stated largest piecesUpTo sameBytes anyBelow byClaims claimsCheck claimAt byRuns shortestClash entries entryOf factOf tab clash any table entry storing turned step rounds containment apart meets notpart derived follows first factsOf visitsOf edges joined partIn range keep find parts breadth order parent hang under whole visits shadows isShadow left indexed front answersTo verdict judge claimed
 session-printed = refl

@@ -14,7 +14,8 @@ use Rattle.records.specs.Record.{recordAt, records}
 use Rattle.records.specs.Facts.{entries}
 use Rattle.records.specs.Refusal.{refusalNumber, row, judge, scan}
 use Rattle.records.specs.Rows.{ragged, moreThan, kindRow, originRow, pieceRow, orderRow, repeatRow}
-use Rattle.records.specs.Check.{bookCheck, claimsCheck, formFinding, recordFinding}
+use Rattle.records.specs.Check.{bookCheck, checkBy, claimsCheck, formFinding, recordFinding}
+use Rattle.records.specs.declared.Edition.the-variants.{Current}
 use Rattle.records.specs.declared.Record.{Record}
 use Rattle.records.specs.declared.Refusal.{Refusal}
 use Rattle.records.specs.declared.Refusal.the-variants.{ShortBuffer, BookLength, TooManyRecords, Kind, Origin, PieceNumber, Order, Repeat, Contradiction}
@@ -50,13 +51,13 @@ module _ (B : Type 0) where
   judge-only Fit g h k = k
   judge-only (Unfit x) g h k = h
 
-  form-only : (r : Record) → Onlys (formFinding r)
+  form-only : (r : Record) → Onlys (formFinding Current r)
   unfolding formFinding
-  form-only r = row-only (kindRow r) Kind _ (λ _ n. absurd (omega arith)) (row-only (originRow r) Origin _ (λ _ n. absurd (omega arith)) (row-only (pieceRow r) PieceNumber _ (λ _ n. absurd (omega arith)) (row-only (orderRow r) Order _ (λ _ n. absurd (omega arith)) fit-only)))
+  form-only r = row-only (kindRow Current r) Kind _ (λ _ n. absurd (omega arith)) (row-only (originRow r) Origin _ (λ _ n. absurd (omega arith)) (row-only (pieceRow r) PieceNumber _ (λ _ n. absurd (omega arith)) (row-only (orderRow r) Order _ (λ _ n. absurd (omega arith)) fit-only)))
 
-  record-only : (s : List ℕ) (i : ℕ) → Onlys (recordFinding s i)
+  record-only : (s : List ℕ) (i : ℕ) → Onlys (recordFinding Current s i)
   unfolding recordFinding
-  record-only s i = judge-only (formFinding (recordAt s i)) _ (form-only (recordAt s i)) (row-only (repeatRow s i) Repeat _ (λ _ n. absurd (omega arith)) fit-only)
+  record-only s i = judge-only (formFinding Current (recordAt s i)) _ (form-only (recordAt s i)) (row-only (repeatRow s i) Repeat _ (λ _ n. absurd (omega arith)) fit-only)
 
   abbrev BookOnly : BookCheck → Type 0
   BookOnly (book.Accepted n) = Unit {0}
@@ -72,9 +73,9 @@ module _ (B : Type 0) where
   scan-only accepted p find h i (suc n) = judged-only i _ (scan-only accepted p find h (suc i) n) (find i) (h i)
 
   book-only : (s : List ℕ) → (8192 < records s → B) → BookOnly (bookCheck s)
-  unfolding bookCheck
+  unfolding checkBy
   book-only s m =
-      judged-only 0 _ (scan-only _ tt (recordFinding s) (record-only s) 0 (records s)) _
+      judged-only 0 _ (scan-only _ tt (recordFinding Current s) (record-only s) 0 (records s)) _
       (row-only (ragged s) BookLength _ (λ _ n. absurd (omega arith)) (row-only (moreThan 8192 s) TooManyRecords _ (λ e _. m (ltb-true 8192 (records s) e)) fit-only))
 
   abbrev OutcomeOnly : Outcome → Type 0

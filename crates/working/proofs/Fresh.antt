@@ -11,7 +11,7 @@ use lib.Seq.{length-take-le}
 use Rattle.lists.proofs.Tabs.{tab-length}
 use Rattle.records.specs.Record.{records}
 use Rattle.records.specs.Refusal.{refusalNumber}
-use Rattle.records.specs.Check.{bookCheck}
+use Rattle.records.specs.Check.{checkBy, bookCheck}
 use Rattle.records.specs.declared.Refusal.the-variants.{TooManyRecords}
 use Rattle.records.specs.declared.BookCheck.the-variants as book
 use Rattle.answers.specs.Lent.{Lent, lent, shortLent}
@@ -50,7 +50,7 @@ module _ (s c : List ℕ) (l : Lent) (six : length c ≡ 6) (clear : l .answers 
 
 -- 8,193 records are too many
 pub over-full : (s : List ℕ) → length s ≡ 49158 → freshCall s [] ≡ Refused TooManyRecords 0
-unfolding freshCall byBook bookCheck
+unfolding freshCall byBook checkBy
 over-full s e = rw e refl
 
 pub extended-length : (area a : List ℕ) (k : ℕ) → 6 * k ≤ length area → length a ≡ 6 → length (extended area k a) ≡ 6 * k + 6

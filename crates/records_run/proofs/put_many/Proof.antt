@@ -1,11 +1,11 @@
--- `records_run::put_trays` meets its contract: each store and each part lent is within the slice. Assumes nothing.
+-- `records_run::put_many` meets its contract: each store and each part lent is within the slice. Assumes nothing.
 use borrow.Author.Needs.{needs}
 use native.Mathlib.Omega.{arith}
 use mathlib.Core.Path.{_≡_}
 use Prim.Native.Nat.{_≤_, _-_}
 use lib.ListN.{length}
-use Rattle.records_run.proofs.put_trays.Statement.{statement}
-use Rattle.records_run.proofs.put_trays.Tie as tie
+use Rattle.records_run.proofs.put_many.Statement.{statement}
+use Rattle.records_run.proofs.put_many.Tie as tie
 
 abbrev Inv-loop : tie.InvT-loop
 Inv-loop s₀ i₀ s i = (i ≤ 8193) × (length s ≡ length s₀)
@@ -34,8 +34,8 @@ same-length c = search needs
 returns : tie.Need-returns Inv-loop μ-loop
 returns c = search needs
 
-pub put-trays-spec : {M : Type 1} → statement M
-put-trays-spec =
+pub put-many-spec : {M : Type 1} → statement M
+put-many-spec =
     tie.close
     (tie.spec
     Inv-loop

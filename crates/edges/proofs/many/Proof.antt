@@ -3,8 +3,8 @@ use mathlib.Core.Path.{_≡_}
 use Prim.Native.Nat.{_≤_, _-_}
 use native.Mathlib.Omega.{arith}
 use lib.ListN.{length, length-set}
-use Rattle.edges.proofs.trays.Statement.{statement}
-use Rattle.edges.proofs.trays.Tie as tie
+use Rattle.edges.proofs.many.Statement.{statement}
+use Rattle.edges.proofs.many.Tie as tie
 
 abbrev Inv-loop : tie.InvT-loop
 Inv-loop book₀ i₀ book i = (i ≤ 8193) × (length book ≡ 49158)
@@ -54,8 +54,8 @@ same-length c = search needs
 returns : tie.Need-returns Inv-loop μ-loop
 returns c = search needs
 
-pub trays-spec : {M : Type 1} → statement M
-trays-spec =
+pub many-spec : {M : Type 1} → statement M
+many-spec =
     tie.close
     (tie.spec
     Inv-loop
