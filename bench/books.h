@@ -124,6 +124,13 @@ static void make_sample(sample *s, enum shape shape, unsigned pieces, unsigned r
         write_record(s->asked + i * 6, PART + below(4), below(pieces), below(pieces));
 }
 
+/* Asks every second claim of cutting sheets only. */
+static void restrict_half(sample *s)
+{
+    for (unsigned i = 1; i < s->claims; i += 2)
+        s->asked[i * 6 + 1] = 1;
+}
+
 static void shuffle(sample *s)
 {
     for (unsigned i = s->records - 1; i > 0; i--) {

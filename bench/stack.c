@@ -95,9 +95,13 @@ int main(void)
     make_sample(&s, DEEP, 2048, 8192, 4096);
     shuffle(&s);
     measure("deep");
+    restrict_half(&s);
+    measure("deep, half restricted");
     make_sample(&s, LADDER, 2048, 8192, 4096);
     shuffle(&s);
     measure("ladder");
+    restrict_half(&s);
+    measure("ladder, half restricted");
     make_sample(&s, DEEP, 2048, 8192, 4096);
     contradict_late(&s);
     measure("deep, contradictory");

@@ -68,15 +68,34 @@ static void measure(const char *name, const sample *s, unsigned runs, unsigned n
     fflush(stdout);
 }
 
+/* The same book with half of the claims restricted, beside C, and beside the book with none: both take turns again. */
+static void measure_restricted(const char *name, const sample *none, unsigned runs)
+{
+    static sample half;
+    static written w;
+    double times[MOST], half_times[MOST];
+    half = *none;
+    restrict_half(&half);
+    measure(name, &half, runs, 0);
+    for (unsigned i = 0; i < runs; i++) {
+        times[i] = once(piecebook_answer, none, &w);
+        half_times[i] = once(piecebook_answer, &half, &w);
+    }
+    printf("whole %s: %.2f times the book with none restricted\n", name, median(half_times, runs) / median(times, runs));
+    fflush(stdout);
+}
+
 int main(void)
 {
     static const char *accepted[] = {"tree-like", "deep", "ladder", "dense"};
+    static const char *restricted[] = {"tree-like, half restricted", "deep, half restricted", "ladder, half restricted", "dense, half restricted"};
     static const char *contradictory[] = {"tree-like, contradictory", "deep, contradictory", "ladder, contradictory", "dense, contradictory"};
     static sample s;
     for (unsigned shape = TREE; shape <= DENSE; shape++) {
         make_sample(&s, shape, 2048, 8192, 4096);
         shuffle(&s);
         measure(accepted[shape], &s, 11, 0);
+        measure_restricted(restricted[shape], &s, 21);
     }
     for (unsigned shape = TREE; shape <= DENSE; shape++) {
         make_sample(&s, shape, 2048, 8192, 4096);

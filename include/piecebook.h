@@ -16,6 +16,10 @@ extern "C" {
 #define PIECEBOOK_SHADOWS 8192
 #define PIECEBOOK_PLACES 2048
 
+/* Byte 1 of a record is its origin, byte 1 of a claim picks the facts that it is answered from: all, or those of cutting sheets only. */
+enum { PIECEBOOK_CUTTING_SHEET = 0, PIECEBOOK_SCANNER = 1 };
+enum { PIECEBOOK_ALL_FACTS = 0, PIECEBOOK_SHEETS_ONLY = 1 };
+
 /* The answer bytes. */
 enum { PIECEBOOK_FOLLOWS = 1, PIECEBOOK_DENIED = 2, PIECEBOOK_OPEN = 3 };
 

@@ -48,10 +48,27 @@ pub const MEETS: u8 = 3;
 pub const NOTPART: u8 = 4;
 pub const TRAY: u8 = 5;
 
+pub const SHEET: u8 = 0;
+pub const SCANNER: u8 = 1;
+
+/// A record of a cutting sheet, or a claim on all facts.
 pub fn record(kind: u8, a: usize, b: usize) -> Bytes {
     let [a0, a1] = (a as u16).to_le_bytes();
     let [b0, b1] = (b as u16).to_le_bytes();
     [kind, 0, a0, a1, b0, b1]
+}
+
+/// The same of another origin: of the scanner, or a claim on cutting sheets only.
+pub fn of(origin: u8, [kind, _, a0, a1, b0, b1]: Bytes) -> Bytes {
+    [kind, origin, a0, a1, b0, b1]
+}
+
+/// Gives each record or claim an origin: mostly both in turn, now and then one and the same.
+pub fn give_origins(random: &mut Random, all: &mut [Bytes]) {
+    let (sheets, scanner) = random.pick(&[(1, 1), (1, 1), (4, 1), (1, 4), (1, 0), (0, 1)]);
+    for r in all.iter_mut() {
+        *r = of(if random.below(sheets + scanner) < sheets { SHEET } else { SCANNER }, *r);
+    }
 }
 
 #[derive(Clone, Copy, Debug)]
@@ -200,6 +217,18 @@ pub fn sound(random: &mut Random, plan: Plan) -> Vec<Bytes> {
         book.pop();
         book.push(record(TRAY, plan.pieces - 1, 65535));
     }
+    give_origins(random, &mut book);
+    // the same fact once of each origin
+    for _ in 0..random.below(4) {
+        if book.is_empty() || book.len() >= plan.records {
+            break;
+        }
+        let one = random.pick(&book);
+        let other = of(1 - one[1], one);
+        if !book.contains(&other) {
+            book.push(other);
+        }
+    }
     random.shuffle(&mut book);
     book
 }
@@ -208,6 +237,7 @@ pub fn sound(random: &mut Random, plan: Plan) -> Vec<Bytes> {
 pub fn contradict(random: &mut Random, book: &mut Vec<Bytes>, pieces: usize, facts: usize) {
     for _ in 0..facts {
         let next = record(random.pick(&[APART, MEETS, NOTPART, NOTPART]), random.below(pieces), random.below(pieces));
+        let next = of(random.pick(&[SHEET, SCANNER]), next);
         if !book.contains(&next) {
             book.insert(random.below(book.len() + 1), next);
         }
@@ -215,24 +245,29 @@ pub fn contradict(random: &mut Random, book: &mut Vec<Bytes>, pieces: usize, fac
 }
 
 pub fn claims(random: &mut Random, pieces: usize, count: usize) -> Vec<Bytes> {
-    (0..count).map(|_| record(1 + random.below(4) as u8, random.below(pieces), random.below(pieces))).collect()
+    let mut all: Vec<Bytes> = (0..count).map(|_| record(1 + random.below(4) as u8, random.below(pieces), random.below(pieces))).collect();
+    give_origins(random, &mut all);
+    all
 }
 
 /// Claims about pieces near each other, of which more follow.
 pub fn near_claims(random: &mut Random, pieces: usize, count: usize) -> Vec<Bytes> {
-    (0..count)
+    let mut all: Vec<Bytes> = (0..count)
         .map(|_| {
             let a = random.below(pieces);
             let b = (a + pieces - random.below(pieces.min(8))) % pieces;
             record(1 + random.below(4) as u8, a, b)
         })
-        .collect()
+        .collect();
+    give_origins(random, &mut all);
+    all
 }
 
-/// All four claims about every two pieces.
+/// All four claims about every two pieces, on all facts and on cutting sheets only.
 pub fn all_claims(pieces: usize) -> Vec<Bytes> {
     let kinds = [PART, APART, MEETS, NOTPART];
-    kinds.iter().flat_map(|&kind| (0..pieces).flat_map(move |a| (0..pieces).map(move |b| record(kind, a, b)))).collect()
+    let plain: Vec<Bytes> = kinds.iter().flat_map(|&kind| (0..pieces).flat_map(move |a| (0..pieces).map(move |b| record(kind, a, b)))).collect();
+    [SHEET, SCANNER].iter().flat_map(|&origin| plain.iter().map(move |&claim| of(origin, claim))).collect()
 }
 
 /// Bytes that are no longer what they should be.

@@ -177,7 +177,8 @@ struct Tally {
     failed: usize,
     /// How often each number and each answer occurred.
     numbers: [usize; 15],
-    answers: [usize; 4],
+    /// answers to claims on all facts, then to restricted ones
+    answers: [[usize; 4]; 2],
 }
 
 impl Tally {
@@ -187,7 +188,7 @@ impl Tally {
         let wrong = wrong.or(wrong_index.map(|wrong| format!("index alone: {wrong}")));
         self.numbers[expected.outcome.number] += 1;
         if let Change::IndexAndAnswers(_, bytes) = &expected.change {
-            bytes.iter().for_each(|&byte| self.answers[usize::from(byte)] += 1);
+            case.claims.chunks(6).zip(bytes).for_each(|(claim, &byte)| self.answers[usize::from(claim[1])][usize::from(byte)] += 1);
         }
         self.count(wrong.map(|wrong| {
             let bytes = if case.book.len() <= 600 { format!("{:?}", case.book) } else { format!("{} bytes", case.book.len()) };
@@ -214,9 +215,9 @@ impl Tally {
             let missing = self.numbers[number] == 0;
             self.count(missing.then(|| format!("number {number} never occurred")));
         }
-        for answer in 1..self.answers.len() {
-            let missing = self.answers[answer] == 0;
-            self.count(missing.then(|| format!("answer {answer} never occurred")));
+        for (origin, answer) in [0, 1].into_iter().flat_map(|origin| (1..4).map(move |answer| (origin, answer))) {
+            let missing = self.answers[origin][answer] == 0;
+            self.count(missing.then(|| format!("answer {answer} to a claim of origin {origin} never occurred")));
         }
     }
 
@@ -278,6 +279,18 @@ fn session(random: &mut Random) -> Option<String> {
     (index != [true; 4]).then(|| "printed session: its index".into())
 }
 
+/// A fact of each kind from the scanner alone: it and its opposite are decided by all facts and open from the sheets.
+fn restricted(random: &mut Random) -> Option<String> {
+    let facts = [(PART, 2, 1), (APART, 3, 4), (MEETS, 5, 6), (NOTPART, 7, 8)];
+    let book: Vec<Bytes> = facts.iter().map(|&(kind, a, b)| of(SCANNER, record(kind, a, b))).collect();
+    let asked = |origin: u8| facts.iter().flat_map(move |&(kind, a, b)| [of(origin, record(kind, a, b)), of(origin, record(5 - kind, a, b))]);
+    let claims: Vec<Bytes> = asked(SCANNER).chain(asked(SHEET)).collect();
+    let mut lent = Lent::new(random, Lengths { answers: claims.len(), ..LEAST });
+    let number = lent.call(&book.concat(), Some(&claims.concat())).number;
+    let wanted = [[3; 8], [1, 2, 1, 2, 1, 2, 1, 2]].concat();
+    (number != 0 || lent.answers.lend() != wanted).then(|| format!("restricted claims: number {number}, answers {:?}", lent.answers.lend()))
+}
+
 /// Sound records that differ, with the largest piece number among them.
 fn many(count: usize) -> Vec<Bytes> {
     (0..count).map(|i| record(TRAY, 2047 - i % 2048, i)).collect()
@@ -292,8 +305,8 @@ fn edges() -> Vec<(&'static str, Vec<Bytes>, Vec<Bytes>, (usize, usize))> {
     let with = |more: &[Bytes]| [session(), more.to_vec()].concat();
     let one = |kind, a, b| vec![record(kind, a, b)];
     let mut bad_kind = record(7, 9000, 9000);
-    bad_kind[1] = 1;
-    let bad_second = [PART, 1, 0, 16, 0, 16];
+    bad_kind[1] = 2;
+    let bad_origin = [PART, 2, 0, 16, 0, 16];
     let none: Vec<Bytes> = vec![];
     vec![
         ("no bytes", none.clone(), none.clone(), (0, 0)),
@@ -322,7 +335,7 @@ fn edges() -> Vec<(&'static str, Vec<Bytes>, Vec<Bytes>, (usize, usize))> {
         ("the session and MEETS 5 3", with(&[record(MEETS, 5, 3)]), all_claims(6), (14, 9)),
         ("MEETS 5 3 and the session", [one(MEETS, 5, 3), session()].concat(), all_claims(6), (14, 7)),
         ("row 5 before 6", vec![record(TRAY, 0, 0), bad_kind], none.clone(), (5, 1)),
-        ("row 6 before 7", vec![record(TRAY, 0, 0), bad_second], none.clone(), (6, 1)),
+        ("row 6 before 7", vec![record(TRAY, 0, 0), bad_origin], none.clone(), (6, 1)),
         ("row 9 before a later row 5", [one(TRAY, 0, 0), one(TRAY, 0, 0), vec![bad_kind]].concat(), none.clone(), (9, 1)),
         ("row 9 before row 14", [one(APART, 2, 2), one(APART, 2, 2)].concat(), none.clone(), (9, 1)),
         ("4,096 claims", session(), vec![record(PART, 5, 2); 4096], (0, 0)),
@@ -330,7 +343,11 @@ fn edges() -> Vec<(&'static str, Vec<Bytes>, Vec<Bytes>, (usize, usize))> {
         ("4,097 claims, a bad one first", session(), [vec![bad_kind], vec![record(PART, 5, 2); 4096]].concat(), (11, 0)),
         ("a claim of kind 5", session(), [one(PART, 1, 1), one(TRAY, 1, 1)].concat(), (12, 1)),
         ("a claim of kind 0", session(), one(0, 9, 9), (12, 0)),
-        ("a claim's byte 1", session(), vec![bad_second], (12, 0)),
+        ("a claim's byte 1", session(), vec![bad_origin], (12, 0)),
+        ("APART 3 4 of both origins", vec![record(APART, 3, 4), of(SCANNER, record(APART, 3, 4))], all_claims(5), (0, 0)),
+        ("PART 2 1 of both origins is one node", vec![of(SCANNER, record(PART, 2, 1)), record(PART, 2, 1)], all_claims(3), (0, 0)),
+        ("a contradiction of both origins", vec![record(PART, 2, 1), of(SCANNER, record(APART, 2, 1))], all_claims(3), (14, 1)),
+        ("a scanner's book, all claims", session().into_iter().map(|r| of(SCANNER, r)).collect(), all_claims(6), (0, 0)),
         ("a claim about piece 6 as a", session(), one(PART, 6, 0), (13, 0)),
         ("a claim about piece 6 as b", session(), one(MEETS, 0, 6), (13, 0)),
         ("row 13 before a later row 12", session(), [one(PART, 6, 0), one(TRAY, 0, 0)].concat(), (13, 0)),
@@ -349,8 +366,10 @@ fn examples(tally: &mut Tally) {
     let failed = tally.failed;
     let wrong = session(&mut tally.random);
     tally.count(wrong);
+    let wrong = restricted(&mut tally.random);
+    tally.count(wrong);
     let edges = edges();
-    let count = edges.len() + 1;
+    let count = edges.len() + 2;
     for (i, (name, book, claims, place)) in edges.into_iter().enumerate() {
         let case = case(&mut tally.random, &book, &claims);
         let Outcome { number, place: at, .. } = tally.try_case(name, i, &case).outcome;
@@ -359,7 +378,7 @@ fn examples(tally: &mut Tally) {
             tally.failed += 1;
         }
     }
-    println!("document 01's session and edges: {count} books; {} failed", tally.failed - failed);
+    println!("document 01's session and edges, and restricted claims: {count} books; {} failed", tally.failed - failed);
 }
 
 // Random groups.
@@ -460,7 +479,7 @@ fn largest_contradictory(random: &mut Random, shape: Shape, place: usize) -> Cas
 
 /// Compares them all, `times` as many random books where that is more than once.
 fn run(times: usize) -> bool {
-    let mut tally = Tally { random: Random(1), passed: 0, failed: 0, numbers: [0; 15], answers: [0; 4] };
+    let mut tally = Tally { random: Random(1), passed: 0, failed: 0, numbers: [0; 15], answers: [[0; 4]; 2] };
     examples(&mut tally);
     tally.group("small, from a laying", 3000 * times, |random, _| small_sound(random));
     tally.group("small, facts thrown in", 3000 * times, |random, _| small_contradictory(random));

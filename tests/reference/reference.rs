@@ -1,4 +1,4 @@
-//! Document 01 once more, from its words: which input is refused, what the index is, what each claim is answered. It knows nothing of the
+//! Document 01 once more, from its words, with document 02's: which input is refused, what the index is, what each claim is answered. It knows nothing of the
 //! library's ways.
 
 use crate::piecebook::{Outcome, DENIED, FOLLOWS, MARKS, OPEN, PARENTHESES, PLACES, SHADOWS};
@@ -41,7 +41,7 @@ type Refusal = (usize, usize);
 
 struct Record {
     kind: u8,
-    second: u8,
+    origin: u8,
     a: usize,
     b: usize,
 }
@@ -49,7 +49,7 @@ struct Record {
 fn records(bytes: &[u8]) -> impl Iterator<Item = Record> + '_ {
     bytes.chunks_exact(6).map(|r| Record {
         kind: r[0],
-        second: r[1],
+        origin: r[1],
         a: u16::from_le_bytes([r[2], r[3]]) as usize,
         b: u16::from_le_bytes([r[4], r[5]]) as usize,
     })
@@ -66,8 +66,24 @@ fn fact(record: &Record) -> Option<Fact> {
     Some(Fact { kind, a: record.a, b: record.b })
 }
 
-/// Rows 3 to 9; the facts of a book that passes them, none for a TRAY, and the number of its pieces.
-fn read_book(book: &[u8]) -> Result<(Vec<Option<Fact>>, usize), Refusal> {
+/// A book that passes rows 3 to 9.
+struct Book {
+    /// the fact of each record, none for a TRAY
+    facts: Vec<Option<Fact>>,
+    /// the same with none for the scanner's records
+    sheets: Vec<Option<Fact>>,
+    pieces: usize,
+}
+
+/// A claim that passes rows 12 and 13.
+struct Claim {
+    fact: Fact,
+    /// to be answered from cutting sheets only
+    restricted: bool,
+}
+
+/// Rows 3 to 9.
+fn read_book(book: &[u8]) -> Result<Book, Refusal> {
     let whole = |number| Err((number, 0));
     match book.len() {
         length if length % 6 != 0 => return whole(3),
@@ -75,14 +91,14 @@ fn read_book(book: &[u8]) -> Result<(Vec<Option<Fact>>, usize), Refusal> {
         _ => {}
     }
     let mut seen = HashSet::new();
-    let mut facts = Vec::new();
+    let (mut facts, mut sheets) = (Vec::new(), Vec::new());
     let mut largest = 0;
     for (i, (record, bytes)) in records(book).zip(book.chunks(6)).enumerate() {
-        let Record { kind, second, a, b } = record;
+        let Record { kind, origin, a, b } = record;
         let b_is_piece = kind != 5;
         let rows = [
             (5, !(1..=5).contains(&kind)),
-            (6, second != 0),
+            (6, origin > 1),
             (7, a > 2047 || b_is_piece && b > 2047),
             (8, kind == 1 && b >= a),
             (9, !seen.insert(bytes)),
@@ -95,27 +111,28 @@ fn read_book(book: &[u8]) -> Result<(Vec<Option<Fact>>, usize), Refusal> {
             largest = largest.max(b);
         }
         facts.push(fact(&record));
+        sheets.push(fact(&record).filter(|_| origin == 0));
     }
-    Ok((facts, largest + 1))
+    Ok(Book { facts, sheets, pieces: largest + 1 })
 }
 
 /// Rows 10 to 13.
-fn read_claims(claims: &[u8], pieces: usize) -> Result<Vec<Fact>, Refusal> {
+fn read_claims(claims: &[u8], pieces: usize) -> Result<Vec<Claim>, Refusal> {
     if claims.len() % 6 != 0 {
         return Err((10, 0));
     }
     if claims.len() / 6 > 4096 {
         return Err((11, 0));
     }
-    let mut facts = Vec::new();
+    let mut all = Vec::new();
     for (i, record) in records(claims).enumerate() {
-        let claim = fact(&record).filter(|_| record.second == 0).ok_or((12, i as usize))?;
+        let claim = fact(&record).filter(|_| record.origin <= 1).ok_or((12, i as usize))?;
         if claim.a.max(claim.b) >= pieces {
             return Err((13, i as usize));
         }
-        facts.push(claim);
+        all.push(Claim { fact: claim, restricted: record.origin == 1 });
     }
-    Ok(facts)
+    Ok(all)
 }
 
 struct Node {
@@ -251,7 +268,8 @@ fn verdict(all: &dyn Derived, claim: Fact) -> u8 {
     }
 }
 
-fn answer(pieces: usize, facts: &[Option<Fact>], claims: &[Fact], doubt: &mut Option<String>) -> Vec<u8> {
+/// The answers to claims from these facts alone.
+fn answers_from(pieces: usize, facts: &[Option<Fact>], claims: &[Fact], doubt: &mut Option<String>) -> Vec<u8> {
     let stored: Vec<Fact> = facts.iter().flatten().copied().collect();
     let rows = Rows::derive(pieces, &stored);
     if rows.contradictory() {
@@ -267,6 +285,20 @@ fn answer(pieces: usize, facts: &[Option<Fact>], claims: &[Fact], doubt: &mut Op
     answers
 }
 
+/// Each claim from the facts that it picks. What the sheets say for or against it, all facts say too.
+fn answer(book: &Book, claims: &[Claim], doubt: &mut Option<String>) -> Vec<u8> {
+    let facts: Vec<Fact> = claims.iter().map(|claim| claim.fact).collect();
+    let all = answers_from(book.pieces, &book.facts, &facts, doubt);
+    if !claims.iter().any(|claim| claim.restricted) {
+        return all;
+    }
+    let sheets = answers_from(book.pieces, &book.sheets, &facts, doubt);
+    if sheets.iter().zip(&all).any(|(sheet, whole)| *sheet != OPEN && sheet != whole) {
+        *doubt = Some("the sheets decide a claim otherwise than all facts".into());
+    }
+    claims.iter().enumerate().map(|(i, claim)| if claim.restricted { sheets[i] } else { all[i] }).collect()
+}
+
 fn refused((number, place): Refusal, change: Change) -> (Outcome, Change) {
     (Outcome { number, place, pieces: 0, nodes: 0, shadows: 0 }, change)
 }
@@ -276,15 +308,16 @@ fn judge_whole(book: &[u8], claims: Option<&[u8]>, lengths: Lengths, doubt: &mut
     if !fits || claims.is_some_and(|claims| lengths.answers < claims.len() / 6) {
         return Err((1, 0));
     }
-    let (facts, pieces) = read_book(book)?;
+    let book = read_book(book)?;
+    let pieces = book.pieces;
     let claims = claims.map(|claims| read_claims(claims, pieces)).transpose()?;
-    if let Some(last) = contradiction(pieces, &facts, doubt) {
+    if let Some(last) = contradiction(pieces, &book.facts, doubt) {
         return Ok(refused((14, last as usize), Change::Index(cleared())));
     }
-    let (index, nodes, shadows) = build(pieces, &facts);
+    let (index, nodes, shadows) = build(pieces, &book.facts);
     let outcome = Outcome { number: 0, place: 0, pieces: pieces as usize, nodes: nodes as usize, shadows: shadows as usize };
     let change = match claims {
-        Some(claims) => Change::IndexAndAnswers(index, answer(pieces, &facts, &claims, doubt)),
+        Some(claims) => Change::IndexAndAnswers(index, answer(&book, &claims, doubt)),
         None => Change::Index(index),
     };
     Ok((outcome, change))

@@ -1,4 +1,5 @@
-"""Document 01's edges: what each book must come to, from that document's rows and its list of edges. A book of no bytes is piece 0 alone (R-1)."""
+"""Document 01's edges: what each book must come to, from that document's rows and its list of edges. A book of no bytes is piece 0 alone (R-1);
+byte 1 is the origin (R-5)."""
 
 
 def refused(number, place=0):
@@ -11,6 +12,24 @@ def accepted(pieces, pairs=0):
     return (0, 0, pieces, nodes, nodes - pieces)
 
 
+FOLLOWS, DENIED, OPEN = 1, 2, 3
+
+
+def restricted():
+    """R-5: ten pieces; PART 2 1, APART 3 4, MEETS 5 6 and NOTPART 7 8 are the scanner's, PART 9 2 stands on a sheet. All pieces but 2 and 9 are joined to 0."""
+    book = accepted(10)
+    for name, answers in [
+        ("stored-from-all-facts", [FOLLOWS] * 4),
+        ("opposite-from-all-facts", [DENIED] * 4),
+        ("stored-from-sheets", [OPEN] * 4),
+        ("opposite-from-sheets", [OPEN] * 4),
+        ("chained-from-all-facts", [FOLLOWS, FOLLOWS, DENIED, DENIED]),
+        ("chained-from-sheets", [OPEN, FOLLOWS, OPEN, DENIED]),
+    ]:
+        yield name, book
+        yield name, answers
+
+
 EDGES = [
     ("no-bytes", accepted(1)),
     ("no-bytes-claim-piece-0", accepted(1)),
@@ -19,7 +38,8 @@ EDGES = [
     ("8192-records", accepted(1)),
     ("8193-records", refused(4)),
     ("kind-6", refused(5)),
-    ("byte-1", refused(6)),
+    ("origin-1", accepted(1)),
+    ("origin-2", refused(6)),
     ("piece-2047", accepted(2048)),
     ("piece-2048", refused(7)),
     ("tray-65535", accepted(1)),
@@ -27,6 +47,10 @@ EDGES = [
     ("PART-0-0", refused(8)),
     ("APART-3-4-and-4-3", accepted(5)),
     ("repeat", refused(9, 1)),
+    ("APART-3-4-of-both-origins", accepted(5)),
+    ("PART-1-0-of-both-origins", accepted(2, 1)),
+    ("repeat-of-origin-1", refused(9, 1)),
+    ("contradiction-of-both-origins", refused(14, 1)),
     ("APART-2-2", refused(14, 0)),
     ("NOTPART-1-0", refused(14, 0)),
     ("APART-1-0", refused(14, 0)),
@@ -34,7 +58,10 @@ EDGES = [
     ("session-and-MEETS-5-3", refused(14, 9)),
     ("claim-ragged", refused(10)),
     ("claim-kind", refused(12)),
+    ("claim-origin-1", accepted(1)),
+    ("claim-origin-2", refused(12)),
     ("claim-piece", refused(13)),
+    *restricted(),
     ("places-2047", refused(1)),
 ]
 

@@ -1,30 +1,34 @@
 -- The answers, claim after claim. Assumes nothing.
 use Prim.Native.Nat.{ℕ, _+_, _≤_, _<_}
-use mathlib.Core.Path.{_≡_, sym, _∙_}
+use mathlib.Core.Path.{_≡_, refl, sym, ap, _∙_}
+use mathlib.Core.Bool.{true, false, false≢true}
 use mathlib.Core.List.{List}
 use native.Mathlib.Omega.{arith}
 use native.Mathlib.Decide.{ℕ-discrete}
-use borrow.Author.Tests.{leb-true}
-use lib.Dec.{leb}
+use borrow.Author.Tests.{leb-true, lt-ltb, ltb-true, ltb-false}
+use lib.Dec.{leb, ltb}
 use lib.ListN.{length, getD, set}
 use lib.Seq.{getD-set-same, getD-set-other, ext-getD}
 use Rattle.lists.specs.Tab.{tab}
 use Rattle.lists.proofs.Tabs.{tab-at, tab-length}
-use Rattle.lists.proofs.Bools.{and-both}
+use Rattle.lists.proofs.Anys.{below-find, below-hit}
+use Rattle.lists.proofs.Bools.{and-both, not-true, Known, is-true, is-false, known}
 use Rattle.rules.specs.Fact.{Fact}
 use Rattle.rules.specs.Verdict.{verdict}
 use Rattle.records.specs.Record.{recordAt, records}
 use Rattle.records.specs.Pieces.{stated}
-use Rattle.records.specs.Facts.{saying}
+use Rattle.records.specs.Facts.{saying, facts}
 use Rattle.records.specs.Check.{claimsCheck}
 use Rattle.records.specs.declared.Record.{Record}
 use Rattle.records.specs.declared.ClaimsCheck.the-variants as claims
 use Rattle.records.proofs.Accepted.{accepted-claims, says-left, says-right}
+use Rattle.records.specs.Kept.{sheets, picked}
+use Rattle.records.proofs.Keeps.{picked-all, picked-sheets}
 use Rattle.closure.specs.Bounded.{Bounded}
 use Rattle.closure.specs.Closed.{Closed}
 use Rattle.closure.specs.Tells.{Answered}
-use Rattle.answers.specs.Call.{claimed, answersTo}
-use Rattle.answers.specs.Judging.{Answers}
+use Rattle.answers.specs.Call.{claimed, pickedFacts, answersTo}
+use Rattle.answers.specs.Judging.{AnsweredFrom, Answers, restricted}
 
 -- a claim that passes rows 12 and 13 is of a kind 1 to 4 about two of the pieces
 pub record Asked (cs : List ℕ) (n i : ℕ) : Type 0 where
@@ -41,45 +45,120 @@ asked cs n i f h =
     let w = c .within i h in
     record { low = leb-true _ _ (k .0); high = leb-true _ _ (k .1); a = omega (arith, says-left (recordAt cs i)); b = omega (arith, says-right (recordAt cs i)) }
 
--- the answers before claim i stand
-pub record Standing (cs d u p t q answers : List ℕ) (i : ℕ) : Type 0 where
+-- the answers to the claims of one origin before claim i stand, and the others are as they were
+pub record Standing (origin : ℕ) (cs d u p t q before answers : List ℕ) (i : ℕ) : Type 0 where
   pub each :
       (n : ℕ) (fs : List Fact) → Bounded n fs → Closed n fs d u p t q → claimsCheck n cs ≡ claims.Accepted
-      → (j : ℕ) → j < i → j < records cs → getD answers j 0 ≡ verdict n fs (claimed cs j)
+      → (j : ℕ) → j < i → j < records cs → recordAt cs j .origin ≡ origin → getD answers j 0 ≡ verdict n fs (claimed cs j)
+  pub others : (j : ℕ) → (recordAt cs j .origin ≡ origin → ⊥) → getD answers j 0 ≡ getD before j 0
 
-module _ (cs d u p t q : List ℕ) where
-  pub standing-none : (answers : List ℕ) → Standing cs d u p t q answers 0
-  standing-none answers = record { each = λ n fs B C f j l h. absurd (omega arith) }
+module _ (origin : ℕ) (cs d u p t q before : List ℕ) where
+  pub standing-none : Standing origin cs d u p t q before before 0
+  standing-none = record { each = λ n fs B C f j l h o. absurd (omega arith); others = λ j o. refl }
 
-  pub standing-more :
-      (answers : List ℕ) (i v : ℕ) → i < length answers → Standing cs d u p t q answers i
-      → Answered d u p t q (recordAt cs i .kind) (recordAt cs i .a) (recordAt cs i .b) v → Standing cs d u p t q (set answers i v) (i + 1)
-  unfolding claimed
-  standing-more answers i v l S A = record { each = λ n fs B C f j k h. pick n fs B C f j k h (ℕ-discrete j i) }
+  -- a claim of the other origin
+  pub standing-skip :
+      (answers : List ℕ) (i : ℕ) (r : Record) → r ≡ recordAt cs i → (r .origin ≡ origin → ⊥) → Standing origin cs d u p t q before answers i
+      → Standing origin cs d u p t q before answers (i + 1)
+  standing-skip answers i r e o S = record { each = λ n fs B C f j k h a. pick n fs B C f j k h a (ℕ-discrete j i); others = S .others }
     where
       pick :
           (n : ℕ) (fs : List Fact) → Bounded n fs → Closed n fs d u p t q → claimsCheck n cs ≡ claims.Accepted
-          → (j : ℕ) → j < i + 1 → j < records cs → Dec (j ≡ i) → getD (set answers i v) j 0 ≡ verdict n fs (saying (recordAt cs j))
-      pick n fs B C f j k h (yes e) =
+          → (j : ℕ) → j < i + 1 → j < records cs → recordAt cs j .origin ≡ origin → Dec (j ≡ i) → getD answers j 0 ≡ verdict n fs (claimed cs j)
+      pick n fs B C f j k h a (yes q) = absurd (o (ap (λ (x : Record). x .origin) e ∙ ap (λ (x : ℕ). recordAt cs x .origin) (sym q) ∙ a))
+      pick n fs B C f j k h a (no q) = S .each n fs B C f j (omega arith) h a
+
+  standing-more :
+      (answers : List ℕ) (i v : ℕ) → i < length answers → recordAt cs i .origin ≡ origin → Standing origin cs d u p t q before answers i
+      → Answered d u p t q (recordAt cs i .kind) (recordAt cs i .a) (recordAt cs i .b) v → Standing origin cs d u p t q before (set answers i v) (i + 1)
+  unfolding claimed
+  standing-more answers i v l o S A =
+      record {
+        each = λ n fs B C f j k h a. pick n fs B C f j k h a (ℕ-discrete j i);
+        others = λ j x. getD-set-other answers i j v 0 (λ e. x (ap (λ (k : ℕ). recordAt cs k .origin) e ∙ o)) ∙ S .others j x;
+      }
+    where
+      pick :
+          (n : ℕ) (fs : List Fact) → Bounded n fs → Closed n fs d u p t q → claimsCheck n cs ≡ claims.Accepted
+          → (j : ℕ) → j < i + 1 → j < records cs → recordAt cs j .origin ≡ origin → Dec (j ≡ i) → getD (set answers i v) j 0 ≡ verdict n fs (saying (recordAt cs j))
+      pick n fs B C f j k h a (yes e) =
           let w = asked cs n i f (rw e at h) in
           rw e (getD-set-same answers i v 0 l ∙ A .is n fs B C (w .a) (w .b))
-      pick n fs B C f j k h (no e) = getD-set-other answers i j v 0 e ∙ S .each n fs B C f j (omega arith) h
+      pick n fs B C f j k h a (no e) = getD-set-other answers i j v 0 e ∙ S .each n fs B C f j (omega arith) h a
 
   -- the same, of the record that was read and the byte that was written
   pub standing-read :
-      (answers : List ℕ) (i v w : ℕ) (r : Record) → r ≡ recordAt cs i → v ≡ w → i < length answers → Standing cs d u p t q answers i
-      → Answered d u p t q (r .kind) (r .a) (r .b) w → Standing cs d u p t q (set answers i v) (i + 1)
-  standing-read answers i v w r e f l S A = rw f (standing-more answers i w l S (rw e at A))
+      (answers : List ℕ) (i v w : ℕ) (r : Record) → r ≡ recordAt cs i → v ≡ w → i < length answers → r .origin ≡ origin
+      → Standing origin cs d u p t q before answers i → Answered d u p t q (r .kind) (r .a) (r .b) w
+      → Standing origin cs d u p t q before (set answers i v) (i + 1)
+  standing-read answers i v w r e f l o S A = rw f (standing-more answers i w l (rw e at o) S (rw e at A))
 
-  pub standing-all : (answers : List ℕ) (i : ℕ) → i ≡ records cs → length answers ≡ records cs → Standing cs d u p t q answers i → Answers cs d u p t q answers
-  standing-all answers i e z S = record {
-    are = λ n fs B C f.
-        ext-getD 0 answers (tab (λ j. verdict n fs (claimed cs j)) 0 (records cs)) (z ∙ sym (tab-length _ 0 (records cs)))
-        (λ j h. S .each n fs B C f j (omega arith) (omega arith) ∙ sym (tab-at (λ j. verdict n fs (claimed cs j)) (records cs) j 0 (omega arith)));
-  }
+  pub standing-all : (answers : List ℕ) (i : ℕ) → records cs ≤ i → Standing origin cs d u p t q before answers i → Answers origin cs d u p t q before answers
+  standing-all answers i e S = record { are = λ n fs B C f. record { are = λ j h o. S .each n fs B C f j (omega arith) h o; others = S .others } }
 
--- no claims, no answers
-pub answers-none : (s : List ℕ) (n : ℕ) (cs answers : List ℕ) → records cs ≡ 0 → length answers ≡ records cs → answers ≡ answersTo s n cs
-unfolding answersTo
-answers-none s n cs answers e z =
-    ext-getD 0 answers (answersTo s n cs) (z ∙ sym (tab-length _ 0 (records cs))) (λ j h. absurd (omega arith))
+-- ---- the claims of both origins
+
+-- no claim before i is restricted
+abbrev pub Plain : List ℕ → ℕ → Type 0
+Plain cs i = (j : ℕ) → j < i → recordAt cs j .origin ≡ 0
+
+pub plain-none : (cs : List ℕ) → Plain cs 0
+plain-none cs j l = absurd (omega arith)
+
+pub plain-more : (cs : List ℕ) (i : ℕ) (r : Record) → r ≡ recordAt cs i → r .origin ≤ 0 → Plain cs i → Plain cs (i + 1)
+plain-more cs i r e o P j l = pick (ℕ-discrete j i)
+  where
+    pick : Dec (j ≡ i) → recordAt cs j .origin ≡ 0
+    pick (yes q) = ap (λ (k : ℕ). recordAt cs k .origin) q ∙ ap (λ (x : Record). x .origin) (sym e) ∙ omega arith
+    pick (no q) = P j (omega arith)
+
+pub plain-all : (cs : List ℕ) (i : ℕ) → records cs ≤ i → Plain cs i → false ≡ restricted cs
+unfolding restricted
+plain-all cs i h P =
+    sym (not-true _ (λ e. let f = below-find (λ j. ltb 0 (recordAt cs j .origin)) (records cs) e in omega (arith, ltb-true 0 (recordAt cs (f .0) .origin) (f .2), P (f .0) (omega (arith, f .1)))))
+
+pub restricted-found : (cs : List ℕ) (i : ℕ) (r : Record) → r ≡ recordAt cs i → i < records cs → 0 < r .origin → true ≡ restricted cs
+unfolding restricted
+restricted-found cs i r e l o = sym (below-hit (λ j. ltb 0 (recordAt cs j .origin)) (records cs) i l (lt-ltb 0 (recordAt cs i .origin) (rw e at o)))
+
+pub none-restricted : (cs : List ℕ) → restricted cs ≡ false → (i : ℕ) → i < records cs → recordAt cs i .origin ≡ 0
+unfolding restricted
+none-restricted cs e i h = pick (known (ltb 0 (recordAt cs i .origin)))
+  where
+    pick : Known (ltb 0 (recordAt cs i .origin)) → recordAt cs i .origin ≡ 0
+    pick (is-true t) = absurd (false≢true (sym e ∙ below-hit (λ j. ltb 0 (recordAt cs j .origin)) (records cs) i h t))
+    pick (is-false t) = omega (arith, ltb-false 0 (recordAt cs i .origin) t)
+
+module _ (s : List ℕ) (n : ℕ) (cs : List ℕ) where
+  each-answered :
+      (answers : List ℕ) → length answers ≡ records cs → ((j : ℕ) → j < records cs → getD answers j 0 ≡ verdict n (pickedFacts s cs j) (claimed cs j))
+      → answers ≡ answersTo s n cs
+  unfolding answersTo
+  each-answered answers z h =
+      ext-getD 0 answers (answersTo s n cs) (z ∙ sym (tab-length _ 0 (records cs)))
+      (λ j l. h j (omega arith) ∙ sym (tab-at (λ i. verdict n (pickedFacts s cs i) (claimed cs i)) (records cs) j 0 (omega arith)))
+
+  from-all : (j : ℕ) → recordAt cs j .origin ≡ 0 → verdict n (facts s) (claimed cs j) ≡ verdict n (pickedFacts s cs j) (claimed cs j)
+  from-all j o = ap (λ (r : List ℕ). verdict n (facts r) (claimed cs j)) (sym (picked-all s (recordAt cs j) o))
+
+  from-sheets : (j : ℕ) → (recordAt cs j .origin ≡ 0 → ⊥) → verdict n (facts (sheets s)) (claimed cs j) ≡ verdict n (pickedFacts s cs j) (claimed cs j)
+  from-sheets j o = ap (λ (r : List ℕ). verdict n (facts r) (claimed cs j)) (sym (picked-sheets s (recordAt cs j) o))
+
+  -- no claims, no answers
+  pub answers-none : (answers : List ℕ) → records cs ≡ 0 → length answers ≡ records cs → answers ≡ answersTo s n cs
+  answers-none answers e z = each-answered answers z (λ j h. absurd (omega arith))
+
+  -- no claim is restricted
+  pub answers-all : (before answers : List ℕ) → restricted cs ≡ false → length answers ≡ records cs → AnsweredFrom 0 n (facts s) cs before answers → answers ≡ answersTo s n cs
+  answers-all before answers e z A =
+      each-answered answers z (λ j h. let o = none-restricted cs e j h in A .are j h o ∙ from-all j o)
+
+  -- first the claims on all facts, then the restricted ones
+  pub answers-both :
+      (before between answers : List ℕ) → claimsCheck n cs ≡ claims.Accepted → length answers ≡ records cs
+      → AnsweredFrom 0 n (facts s) cs before between → AnsweredFrom 1 n (facts (sheets s)) cs between answers → answers ≡ answersTo s n cs
+  answers-both before between answers f z A R = each-answered answers z (λ j h. pick j h (ℕ-discrete (recordAt cs j .origin) 0))
+    where
+      pick : (j : ℕ) → j < records cs → Dec (recordAt cs j .origin ≡ 0) → getD answers j 0 ≡ verdict n (pickedFacts s cs j) (claimed cs j)
+      pick j h (yes o) = R .others j (λ x. omega arith) ∙ A .are j h o ∙ from-all j o
+      pick j h (no o) = R .are j h (omega (arith, accepted-claims n cs f .origins j h)) ∙ from-sheets j o

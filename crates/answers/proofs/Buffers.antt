@@ -6,12 +6,13 @@ use mathlib.Core.List.{List, _++_, append-nil}
 use lib.Dec.{eqb}
 use lib.ListN.{length, take, drop, length-replicate, take-append-drop}
 use lib.Seq.{length-take-le, drop-length}
+use Rattle.lists.specs.Front.{front}
 use Rattle.lists.proofs.Tabs.{tab-length}
 use Rattle.records.specs.Record.{records}
 use Rattle.records.specs.Refusal.{refusalNumber}
 use Rattle.index.specs.Parts as on
 use Rattle.parentheses.proofs.Paddeds.{padded-length}
-use Rattle.answers.specs.Lent.{Lent, lent, front}
+use Rattle.answers.specs.Lent.{Lent, lent}
 use Rattle.answers.specs.Fitting.{Fits}
 use Rattle.answers.specs.Call.{answersTo, indexed, cleared, left}
 use Rattle.answers.specs.declared.Outcome.{Outcome}

@@ -5,6 +5,7 @@ use mathlib.Core.Bool.{false}
 use mathlib.Core.List.{List, [], _∷_, _++_}
 use native.Mathlib.Omega.{arith}
 use lib.ListN.{replicate}
+use Rattle.lists.specs.Front.{front}
 use Rattle.lists.specs.Tab.{tab}
 use Rattle.lists.specs.Any.{any, anyBelow}
 use Rattle.lists.specs.First.{first}
@@ -17,6 +18,7 @@ use Rattle.records.specs.Refusal.{refusalNumber, scan}
 use Rattle.records.specs.Pieces.{piecesUpTo, stated, largest}
 use Rattle.records.specs.Check.{bookCheck, claimAt, claimsCheck}
 use Rattle.records.specs.Facts.{entryOf, entries}
+use Rattle.records.specs.Kept.{picked}
 use Rattle.records.specs.declared.Refusal.{Refusal}
 use Rattle.records.specs.declared.Refusal.the-variants.{ShortBuffer, BookLength, TooManyRecords, Kind, Origin, PieceNumber, Order, Repeat, ClaimsLength, TooManyClaims, ClaimFormat, ClaimPiece, Contradiction}
 use Rattle.records.specs.declared.ClaimsCheck.the-variants as claims
@@ -30,7 +32,7 @@ use Rattle.index.specs.Index.{parenthesesOf, visitsOf}
 use Rattle.closure.specs.PartIn.{partIn}
 use Rattle.parentheses.specs.Forest.{enc}
 use Rattle.parentheses.specs.Padded.{padded}
-use Rattle.answers.specs.Lent.{Lent, lent, shortLent, front}
+use Rattle.answers.specs.Lent.{Lent, lent, shortLent}
 use Rattle.answers.specs.Call.{edges, byRuns, byClaims, byBook, outcome, claimed, answersTo, indexed, left}
 use Rattle.answers.specs.Outcome.{number}
 use Rattle.answers.specs.declared.Outcome.{Outcome}
@@ -57,7 +59,7 @@ module _ (cs : List ℕ) (l : Lent) (long : shortLent cs l ≡ false) (fit : cla
 
 -- PART 0 0 and MEETS 0 0 follow, and their opposites are denied
 pub empty-answers : answersTo [] 1 (bytes 1 0 0 0 ++ bytes 2 0 0 0 ++ bytes 3 0 0 0 ++ bytes 4 0 0 0) ≡ 1 ∷ 2 ∷ 1 ∷ 2 ∷ []
-unfolding answersTo claimed recordAt factOf entries factsOf verdict judge follows any anyBelow tab table entry storing turned step rounds containment apart meets notpart derived
+unfolding answersTo claimed picked recordAt factOf entries factsOf verdict judge follows any anyBelow tab table entry storing turned step rounds containment apart meets notpart derived
 empty-answers = refl
 
 -- a claim about another piece

@@ -6,6 +6,7 @@ use mathlib.Core.List.{List}
 use native.Mathlib.Omega.{arith}
 use borrow.Author.Tests.{le-leb, lt-leb}
 use lib.ListN.{length, replicate, length-replicate}
+use Rattle.lists.specs.Front.{front}
 use Rattle.rules.specs.Follows.{clash}
 use Rattle.rules.specs.Entries.{shortestClash}
 use Rattle.records.specs.Record.{records}
@@ -19,7 +20,7 @@ use Rattle.index.specs.Parts as on
 use Rattle.closure.specs.Opened.{Opened}
 use Rattle.closure.specs.Settled.{Settleable, Clashed}
 use Rattle.closure.proofs.Settling.{settleable, settleable-in, free-beyond, clashed-within}
-use Rattle.answers.specs.Lent.{Lent, lent, front}
+use Rattle.answers.specs.Lent.{Lent, lent}
 use Rattle.answers.specs.Call.{edges, byRuns, answersTo, indexed, cleared, left}
 use Rattle.answers.specs.Judging.{Cleared, Exact, Judged}
 use Rattle.answers.specs.declared.Outcome.the-variants.{Accepted, Refused}

@@ -8,33 +8,38 @@ use native.Mathlib.Omega.{arith}
 use borrow.Author.Tests.{leb-true, leb-false}
 use lib.Dec.{leb}
 use lib.ListN.{length, getD, length-map, List·getD-append}
+use Rattle.lists.specs.Front.{front}
 use Rattle.lists.proofs.Tabs.{tab-at, tab-length}
 use Rattle.lists.proofs.Bools.{Known, is-true, is-false, known}
-use Rattle.rules.specs.Fact.{Within}
+use Rattle.rules.specs.Fact.{Fact, Within, AllWithin}
 use Rattle.rules.specs.Derives.{Contradictory}
 use Rattle.rules.specs.Model.{Model, keepsAll}
 use Rattle.rules.specs.Follows.{clash}
 use Rattle.rules.specs.Verdict.{verdict}
 use Rattle.rules.specs.Entries.{shortestClash}
 use Rattle.rules.proofs.Verdicts.{verdict-follows, verdict-denied, verdict-open, verdict-follows-everywhere, verdict-denied-everywhere, verdict-open-iff}
-use Rattle.records.specs.Record.{records}
+use Rattle.records.specs.Record.{recordAt, records}
 use Rattle.records.specs.Facts.{entries, facts}
 use Rattle.records.specs.Pieces.{pieceCount}
+use Rattle.records.specs.Kept.{sheets}
+use Rattle.records.proofs.Keeps.{sheets-among, picked-among}
 use Rattle.records.proofs.Accepted.{accepted, accepted-claims}
 use Rattle.index.specs.Index.{visitsOf}
 use Rattle.index.specs.Parts as on
 use Rattle.closure.specs.Contradiction.{Contradiction}
 use Rattle.closure.specs.Settled.{Settleable, Clashed}
 use Rattle.closure.proofs.Settling.{settleable, settled-room, beyond-free, free-consistent, free-model, within-clashed, clashed-no-model, clashed-first}
-use Rattle.answers.specs.Lent.{Lent, front}
+use Rattle.answers.specs.Lent.{Lent}
 use Rattle.answers.specs.Outcome as of
-use Rattle.answers.specs.Call.{edges, byRuns, Passed, claimed, answersTo, indexed, left, Determined}
+use Rattle.answers.specs.Call.{edges, byRuns, outcome, Passed, claimed, pickedFacts, answersTo, indexed, left, Determined}
 use Rattle.answers.specs.Demands.{Derived, Entailed, Demand2, Demand3, Contradicted}
+use Rattle.answers.specs.Agree.{Agree, SheetsAgree}
 use Rattle.answers.specs.Fitting.{Fits, Fitting}
 use Rattle.answers.specs.declared.Outcome.{Outcome}
 use Rattle.answers.specs.declared.Outcome.the-variants.{Accepted, Refused}
 use Rattle.answers.proofs.Outcomes.{Told, told, passed-outcome, refused-positive}
 use Rattle.answers.proofs.Buffers.{Fitted}
+use Rattle.answers.proofs.Sheets.{fewer-within, fewer-consistent, fewer-follows, fewer-denied}
 
 module _ (s cs : List ℕ) (l : Lent) (n : ℕ) (p : Passed s cs l n) where
   settles : Settleable n s 2560 1280 8192 2048
@@ -55,30 +60,45 @@ module _ (s cs : List ℕ) (l : Lent) (n : ℕ) (p : Passed s cs l n) where
   clashed e = within-clashed settles (leb-true (shortestClash n (entries s)) (records s) e)
 
   -- the answer byte of claim i
-  answer-at : (i : ℕ) → i < records cs → getD (indexed s cs n l .answers) i 0 ≡ verdict n (facts s) (claimed cs i)
+  answer-at : (i : ℕ) → i < records cs → getD (indexed s cs n l .answers) i 0 ≡ verdict n (pickedFacts s cs i) (claimed cs i)
   unfolding indexed front answersTo
   answer-at i h =
-      List·getD-append (answersTo s n cs) _ 0 i (omega (arith, tab-length (λ j. verdict n (facts s) (claimed cs j)) 0 (records cs)))
-      ∙ tab-at (λ j. verdict n (facts s) (claimed cs j)) (records cs) i 0 h
+      List·getD-append (answersTo s n cs) _ 0 i (omega (arith, tab-length (λ j. verdict n (pickedFacts s cs j) (claimed cs j)) 0 (records cs)))
+      ∙ tab-at (λ j. verdict n (pickedFacts s cs j) (claimed cs j)) (records cs) i 0 h
 
   module _ (ok : Contradictory n (facts s) → ⊥) (i : ℕ) (h : i < records cs) where
-    derived : Derived n (facts s) (claimed cs i) (verdict n (facts s) (claimed cs i))
+    -- the facts that the claim picks are among the book's
+    within : AllWithin n (pickedFacts s cs i)
+    within = fewer-within n (pickedFacts s cs i) (facts s) (settles .bounded .within) (settles .bounded .some) ok (picked-among s (recordAt cs i))
+
+    consistent : Contradictory n (pickedFacts s cs i) → ⊥
+    consistent = fewer-consistent n (pickedFacts s cs i) (facts s) (settles .bounded .within) (settles .bounded .some) ok (picked-among s (recordAt cs i))
+
+    derived : Derived n (pickedFacts s cs i) (claimed cs i) (verdict n (pickedFacts s cs i) (claimed cs i))
     derived =
-        let B = settles .bounded in
+        let some = settles .bounded .some in
         record {
-          follows = verdict-follows n (facts s) (B .within) (B .some) ok (claimed cs i) (claim-in i h);
-          denied = verdict-denied n (facts s) (B .within) (B .some) ok (claimed cs i) (claim-in i h);
-          undecided = verdict-open n (facts s) (B .within) (B .some) ok (claimed cs i) (claim-in i h);
+          follows = verdict-follows n (pickedFacts s cs i) within some consistent (claimed cs i) (claim-in i h);
+          denied = verdict-denied n (pickedFacts s cs i) within some consistent (claimed cs i) (claim-in i h);
+          undecided = verdict-open n (pickedFacts s cs i) within some consistent (claimed cs i) (claim-in i h);
         }
 
-    entailed : Entailed n (facts s) (claimed cs i) (verdict n (facts s) (claimed cs i))
+    entailed : Entailed n (pickedFacts s cs i) (claimed cs i) (verdict n (pickedFacts s cs i) (claimed cs i))
     entailed =
-        let B = settles .bounded in
+        let some = settles .bounded .some in
         record {
-          follows = verdict-follows-everywhere n (facts s) (B .within) (B .some) ok (claimed cs i) (claim-in i h);
-          denied = verdict-denied-everywhere n (facts s) (B .within) (B .some) ok (claimed cs i) (claim-in i h);
-          undecided = verdict-open-iff n (facts s) (B .within) (B .some) ok (claimed cs i) (claim-in i h);
+          follows = verdict-follows-everywhere n (pickedFacts s cs i) within some consistent (claimed cs i) (claim-in i h);
+          denied = verdict-denied-everywhere n (pickedFacts s cs i) within some consistent (claimed cs i) (claim-in i h);
+          undecided = verdict-open-iff n (pickedFacts s cs i) within some consistent (claimed cs i) (claim-in i h);
         }
+
+  agree : (Contradictory n (facts s) → ⊥) → (f : Fact) → Within n f → Agree n s f
+  agree ok f c =
+      let B = settles .bounded in
+      record {
+        follows = fewer-follows n (facts (sheets s)) (facts s) (B .within) (B .some) ok (sheets-among s) f c;
+        denied = fewer-denied n (facts (sheets s)) (facts s) (B .within) (B .some) ok (sheets-among s) f c;
+      }
 
   -- refused as contradictory exactly when there is no model
   runs-refused : (of.number (byRuns s n) ≡ 14) ↔ ((M : Model n) → keepsAll M (facts s) → ⊥)
@@ -114,7 +134,7 @@ module _ (s cs : List ℕ) (l : Lent) where
       rw (← counted s cs l n (t .0), answer-at s cs l n (t .0) i h) (derived s cs l n (t .0) ok i h)
   two (Refused r i) t q j h = absurd (refused-positive r q)
 
-  three : (r : Outcome) → Told s cs l r → of.number r ≡ 0 → (i : ℕ) → i < records cs → Entailed (pieceCount s) (facts s) (claimed cs i) (getD (left s cs l r .answers) i 0)
+  three : (r : Outcome) → Told s cs l r → of.number r ≡ 0 → (i : ℕ) → i < records cs → Entailed (pieceCount s) (pickedFacts s cs i) (claimed cs i) (getD (left s cs l r .answers) i 0)
   unfolding left
   three (Accepted n nodes shadows) t q i h =
       let ok = free-consistent (settles s cs l n (t .0)) (free s cs l n (t .0) (t .1)) in
@@ -160,3 +180,13 @@ module _ (s cs : List ℕ) (l : Lent) where
 
     pub kept-size : Fitting s (of.number r) (of.nodeCount r)
     kept-size = sized r telling
+
+-- an answer FOLLOWS or DENIED from the sheets is the same from all facts
+pub sheets-agree : SheetsAgree
+sheets-agree s cs l q f c = pick (outcome s cs l) (told s cs l) q
+  where
+    pick : (r : Outcome) → Told s cs l r → of.number r ≡ 0 → Agree (pieceCount s) s f
+    pick (Accepted n nodes shadows) t z =
+        let e = counted s cs l n (t .0) in
+        rw (← e) (agree s cs l n (t .0) (free-consistent (settles s cs l n (t .0)) (free s cs l n (t .0) (t .1))) f (rw (← e) at c))
+    pick (Refused r i) t z = absurd (refused-positive r z)

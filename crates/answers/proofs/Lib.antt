@@ -1,5 +1,6 @@
 pub mod Outcomes
 pub mod Buffers
+pub mod Sheets
 pub mod Kept
 pub mod Judges
 pub mod Answering

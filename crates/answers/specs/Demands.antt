@@ -12,7 +12,7 @@ use Rattle.records.specs.Facts.{facts}
 use Rattle.records.specs.Pieces.{pieceCount}
 use Rattle.closure.specs.Contradiction.{Contradiction}
 use Rattle.answers.specs.Lent.{Lent}
-use Rattle.answers.specs.Call.{claimed, Passed}
+use Rattle.answers.specs.Call.{claimed, pickedFacts, Passed}
 
 -- demand 2, of one claim: FOLLOWS exactly when it has a derivation, DENIED exactly when its opposite has one, OPEN exactly when neither has
 pub record Derived (n : ℕ) (fs : List Fact) (f : Fact) (answer : ℕ) : Type 0 where
@@ -20,21 +20,21 @@ pub record Derived (n : ℕ) (fs : List Fact) (f : Fact) (answer : ℕ) : Type 0
   pub denied : (answer ≡ 2) ↔ Derives n fs (opposite f)
   pub undecided : (answer ≡ 3) ↔ ((Derives n fs f → ⊥) × (Derives n fs (opposite f) → ⊥))
 
--- of every claim, on acceptance
+-- of every claim, on acceptance, by derivations from the facts that it picks
 abbrev pub Demand2 : List ℕ → List ℕ → List ℕ → ℕ → Type 0
-Demand2 book claims answers number = number ≡ 0 → (i : ℕ) → i < records claims → Derived (pieceCount book) (facts book) (claimed claims i) (getD answers i 0)
+Demand2 book claims answers number = number ≡ 0 → (i : ℕ) → i < records claims → Derived (pieceCount book) (pickedFacts book claims i) (claimed claims i) (getD answers i 0)
 
--- demand 3, of one claim: FOLLOWS exactly when it is true in every model of the book, DENIED exactly when it is true in none, OPEN exactly when it is
+-- demand 3, of one claim: FOLLOWS exactly when it is true in every model of the facts, DENIED exactly when it is true in none, OPEN exactly when it is
 -- true in one and untrue in another
 pub record Entailed (n : ℕ) (fs : List Fact) (f : Fact) (answer : ℕ) : Type 0 where
   pub follows : (answer ≡ 1) ↔ ((M : Model n) → keepsAll M fs → keeps M f)
   pub denied : (answer ≡ 2) ↔ ((M : Model n) → keepsAll M fs → keeps M f → ⊥)
   pub undecided : (answer ≡ 3) ↔ (((M : Model n) × keepsAll M fs × keeps M f) × ((M : Model n) × keepsAll M fs × (keeps M f → ⊥)))
 
--- of every claim, on acceptance; where no row before 14 refuses, a book is refused as contradictory exactly when it has no model; and every accepted
+-- of every claim, on acceptance, by models of the book's pieces that keep the facts it picks; where no row before 14 refuses, a book is refused as contradictory exactly when it has no model; and every accepted
 -- book has one
 pub record Demand3 (book claims : List ℕ) (l : Lent) (answers : List ℕ) (number : ℕ) : Type 0 where
-  pub answered : number ≡ 0 → (i : ℕ) → i < records claims → Entailed (pieceCount book) (facts book) (claimed claims i) (getD answers i 0)
+  pub answered : number ≡ 0 → (i : ℕ) → i < records claims → Entailed (pieceCount book) (pickedFacts book claims i) (claimed claims i) (getD answers i 0)
   pub refused : (n : ℕ) → Passed book claims l n → (number ≡ 14) ↔ ((M : Model n) → keepsAll M (facts book) → ⊥)
   pub laid : number ≡ 0 → (M : Model (pieceCount book)) × keepsAll M (facts book)
 

@@ -1,12 +1,15 @@
 -- What the steps of a call promise each other. Assumes nothing.
-use Prim.Native.Nat.{ℕ, _≤_}
+use Prim.Native.Nat.{ℕ, _≤_, _<_}
 use mathlib.Core.Path.{_≡_}
+use mathlib.Core.Bool.{Bool, false}
 use mathlib.Core.List.{List}
-use lib.ListN.{length, replicate}
-use Rattle.lists.specs.Tab.{tab}
+use lib.Dec.{ltb}
+use lib.ListN.{length, getD, replicate}
+use Rattle.lists.specs.Any.{anyBelow}
 use Rattle.rules.specs.Fact.{Fact}
+use Rattle.rules.specs.Follows.{clash}
 use Rattle.rules.specs.Verdict.{verdict}
-use Rattle.records.specs.Record.{records}
+use Rattle.records.specs.Record.{recordAt, records}
 use Rattle.records.specs.Facts.{facts}
 use Rattle.records.specs.Check.{bookCheck, claimsCheck}
 use Rattle.records.specs.declared.BookCheck.the-variants as book
@@ -30,15 +33,37 @@ pub record Closing (cs d u p t q : List ℕ) (room : ℕ) : Type 0 where
   pub t-sized : length t ≡ 65536
   pub q-sized : length q ≡ 65536
 
--- the answers are those of every list of facts whose closure the matrices are
-pub record Answers (cs d u p t q answers : List ℕ) : Type 0 where
-  pub are :
-      (n : ℕ) (fs : List Fact) → Bounded n fs → Closed n fs d u p t q → claimsCheck n cs ≡ claims.Accepted
-      → answers ≡ tab (λ i. verdict n fs (claimed cs i)) 0 (records cs)
+-- the claims of one origin are answered from these facts, and the other answers are as they were
+pub record AnsweredFrom (origin n : ℕ) (fs : List Fact) (cs before answers : List ℕ) : Type 0 where
+  pub are : (i : ℕ) → i < records cs → recordAt cs i .origin ≡ origin → getD answers i 0 ≡ verdict n fs (claimed cs i)
+  pub others : (i : ℕ) → (recordAt cs i .origin ≡ origin → ⊥) → getD answers i 0 ≡ getD before i 0
 
--- a book and claims that pass the rows before 14, the book's edges, D and T
+-- and so from every list of facts whose closure the matrices are
+pub record Answers (origin : ℕ) (cs d u p t q before answers : List ℕ) : Type 0 where
+  pub are :
+      (n : ℕ) (fs : List Fact) → Bounded n fs → Closed n fs d u p t q → claimsCheck n cs ≡ claims.Accepted → AnsweredFrom origin n fs cs before answers
+
+-- some claim is to be answered from the cutting sheets alone
+unfoldable pub restricted : List ℕ → Bool
+restricted cs = anyBelow (λ i. ltb 0 (recordAt cs i .origin)) (records cs)
+
+-- a book that is not contradictory, claims, six matrices, and room for the answers
+pub record Restrictable (s : List ℕ) (n : ℕ) (cs e d t u p q : List ℕ) (room : ℕ) : Type 0 where
+  pub sound : bookCheck s ≡ book.Accepted n
+  pub free : false ≡ clash n (facts s)
+  pub fit : claimsCheck n cs ≡ claims.Accepted
+  pub rooms : room ≡ records cs
+  pub e-sized : length e ≡ 65536
+  pub d-sized : length d ≡ 65536
+  pub t-sized : length t ≡ 65536
+  pub u-sized : length u ≡ 65536
+  pub p-sized : length p ≡ 65536
+  pub q-sized : length q ≡ 65536
+
+-- a book that is not contradictory, claims that pass the rows before 14, the book's edges, D and T
 pub record Answerable (s : List ℕ) (n : ℕ) (cs e d t : List ℕ) (room : ℕ) : Type 0 where
   pub sound : bookCheck s ≡ book.Accepted n
+  pub free : false ≡ clash n (facts s)
   pub fit : claimsCheck n cs ≡ claims.Accepted
   pub rooms : room ≡ records cs
   pub edged : Holds e (edgeBit n (facts s))

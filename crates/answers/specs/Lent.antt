@@ -1,9 +1,9 @@
 -- The lent buffers and document 01's lengths for them. Assumes nothing.
 use Prim.Native.Nat.{ℕ}
 use mathlib.Core.Bool.{Bool, _||_}
-use mathlib.Core.List.{List, _++_}
+use mathlib.Core.List.{List}
 use lib.Dec.{ltb}
-use lib.ListN.{length, drop}
+use lib.ListN.{length}
 use Rattle.records.specs.Record.{records}
 
 -- what the buffers hold: the four parts of the index, and the answers
@@ -22,7 +22,3 @@ unfoldable pub shortLent : List ℕ → Lent → Bool
 shortLent claims l =
     ltb (length (l .parens)) 2560
     || (ltb (length (l .marks)) 1280 || (ltb (length (l .shadows)) 8192 || (ltb (length (l .places)) 2048 || ltb (length (l .answers)) (records claims))))
-
--- a buffer whose front is xs, and whose rest is as it was
-unfoldable pub front : List ℕ → List ℕ → List ℕ
-front xs l = xs ++ drop (length xs) l

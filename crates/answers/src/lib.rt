@@ -4,13 +4,15 @@ ghost use mathlib.Core.List.{[]};
 ghost use lib.ListN.{length};
 ghost use lib.Dec.{ltb};
 ghost use mathlib.Core.Bool.{_||_};
+ghost use Rattle.records.specs.Facts.{facts};
+ghost use Rattle.records.specs.Kept.{sheets};
 ghost use Rattle.closure.specs.Answers.{answerByte};
 ghost use Rattle.answers.specs.Lent.{lent};
 ghost use Rattle.answers.specs.Call.{answersTo, Determined};
 ghost use Rattle.answers.specs.Outcome.{number, place, nodeCount};
 ghost use Rattle.answers.specs.Demands.{Demand2, Demand3, Contradicted};
 ghost use Rattle.answers.specs.Fitting.{Fitting};
-ghost use Rattle.answers.specs.Judging.{Closing, Answers, Answerable, Cleared, Exact, Judged};
+ghost use Rattle.answers.specs.Judging.{Closing, AnsweredFrom, Answers, restricted, Restrictable, Answerable, Cleared, Exact, Judged};
 use closure::Answer;
 use closure::Settled;
 use records::BookCheck;
@@ -34,8 +36,9 @@ fn byte_of(answer: Answer) -> u8
     }
 }
 
-// Answers each claim from the closure of the book's facts.
+// Answers each claim of one origin from the closure that is lent.
 fn answer_each(
+    origin: u8,
     claims: &[u8],
     d: &[u64],
     u: &[u64],
@@ -45,16 +48,74 @@ fn answer_each(
     answers: &mut [u8],
 )
     requires { ⌜ Closing (now claims) (now d) (now u) (now p) (now t) (now q) (length (now answers)) ⌝ }
-    ensures { λ _. ⌜ Answers (now (claims .entry)) (now (d .entry)) (now (u .entry)) (now (p .entry)) (now (t .entry)) (now (q .entry)) (now (answers .exit)) ⌝ }
+    ensures { λ _. ⌜ Answers origin (now (claims .entry)) (now (d .entry)) (now (u .entry)) (now (p .entry)) (now (t .entry)) (now (q .entry)) (now (answers .entry)) (now (answers .exit)) ⌝ }
 {
     let n = claims.len() / 6;
     let mut i: usize = 0;
     while i < n {
         let claim = records::record_at(claims, i);
+        if claim.origin != origin {
+            i += 1;
+            continue;
+        }
         let answer = closure::answer_to(claim.kind, claim.a, claim.b, d, u, p, t, q);
         answers[i] = byte_of(answer);
         i += 1;
     }
+}
+
+// Whether some claim is to be answered from the cutting sheets alone.
+fn some_restricted(claims: &[u8]) -> bool
+    ensures { λ r. ⌜ r ≡ restricted (now (claims .entry)) ⌝ }
+{
+    let n = claims.len() / 6;
+    let mut i: usize = 0;
+    while i < n {
+        let r = records::record_at(claims, i);
+        if 0 < r.origin {
+            return true;
+        }
+        i += 1;
+    }
+    false
+}
+
+// Answers the restricted claims on a book that is not contradictory: from the closure of its cutting sheets, for which the six matrices are used again.
+fn answer_restricted(
+    book: &[u8],
+    n: usize,
+    claims: &[u8],
+    e: &mut [u64],
+    d: &mut [u64],
+    t: &mut [u64],
+    u: &mut [u64],
+    p: &mut [u64],
+    q: &mut [u64],
+    answers: &mut [u8],
+)
+    requires { ⌜ Restrictable (now book) n (now claims) (now e) (now d) (now t) (now u) (now p) (now q) (length (now answers)) ⌝ }
+    ensures { λ _. ⌜ AnsweredFrom 1 n (facts (sheets (now (book .entry)))) (now (claims .entry)) (now (answers .entry)) (now (answers .exit)) ⌝ }
+{
+    let mut kept = [0u8; 49152];
+    let mut parens = [0u8; 2560];
+    let mut marks = [0u8; 1280];
+    let mut shadows = [0u16; 8192];
+    let mut places = [0u16; 2048];
+    let length = records::keep_sheets(book, &mut kept);
+    let run = &kept[..length];
+    closure::settle(
+        run,
+        n,
+        e,
+        d,
+        t,
+        &mut parens,
+        &mut marks,
+        &mut shadows,
+        &mut places,
+    );
+    closure::complete(run, n, e, u, p, q);
+    answer_each(1, claims, d, u, p, t, q, answers);
 }
 
 // Answers the claims on a book that is not contradictory: e are its edges, d and t its first two matrices. Without claims the others are not asked for.
@@ -62,9 +123,9 @@ fn answer_all(
     book: &[u8],
     n: usize,
     claims: &[u8],
-    e: &[u64],
-    d: &[u64],
-    t: &[u64],
+    e: &mut [u64],
+    d: &mut [u64],
+    t: &mut [u64],
     answers: &mut [u8],
 )
     requires { ⌜ Answerable (now book) n (now claims) (now e) (now d) (now t) (length (now answers)) ⌝ }
@@ -77,7 +138,11 @@ fn answer_all(
     let mut p = [0u64; 65536];
     let mut q = [0u64; 65536];
     closure::complete(book, n, e, &mut u, &mut p, &mut q);
-    answer_each(claims, d, &u, &p, t, &q, answers);
+    answer_each(0, claims, d, &u, &p, t, &q, answers);
+    if !some_restricted(claims) {
+        return;
+    }
+    answer_restricted(book, n, claims, e, d, t, &mut u, &mut p, &mut q, answers);
 }
 
 // Zeroes the four parts of the index.
@@ -124,7 +189,7 @@ fn judge(
             Outcome::Refused(Refusal::Contradiction, place)
         }
         Settled::Free(nodes, shadowed) => {
-            answer_all(book, n, claims, &e, &d, &t, answers);
+            answer_all(book, n, claims, &mut e, &mut d, &mut t, answers);
             Outcome::Accepted(n, nodes, shadowed)
         }
     }

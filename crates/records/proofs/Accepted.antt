@@ -146,23 +146,24 @@ pub record AcceptedClaims (p : ℕ) (s : List ℕ) : Type 0 where
   pub whole : length s ≡ 6 * records s
   pub sound : (i : ℕ) → i < records s → claimAt s i ≡ Sound (recordAt s i)
   pub kinds : (i : ℕ) → i < records s → stated (recordAt s i) ≡ true
+  pub origins : (i : ℕ) → i < records s → recordAt s i .origin ≤ 1
   pub within : (i : ℕ) → i < records s → Within p (saying (recordAt s i))
 
-claim-row : (r : Record) → claimRow r ≡ false → stated r ≡ true
+claim-row : (r : Record) → claimRow r ≡ false → (stated r ≡ true) × (r .origin ≤ 1)
 claim-row r e = pick (known (stated r))
   where
-    pick : Known (stated r) → stated r ≡ true
-    pick (is-true t) = t
+    pick : Known (stated r) → (stated r ≡ true) × (r .origin ≤ 1)
+    pick (is-true t) = (t, ltb-false 1 (r .origin) (rw t at e))
     pick (is-false t) = absurd (false≢true (sym e ∙ rw t))
 
 claim-fit :
-    (p : ℕ) (s : List ℕ) (i : ℕ) → claimFinding p (claimAt s i) ≡ Fit → (claimAt s i ≡ Sound (recordAt s i)) × (stated (recordAt s i) ≡ true) × (largest (recordAt s i) < p)
+    (p : ℕ) (s : List ℕ) (i : ℕ) → claimFinding p (claimAt s i) ≡ Fit → (claimAt s i ≡ Sound (recordAt s i)) × ((stated (recordAt s i) ≡ true) × (recordAt s i .origin ≤ 1)) × (largest (recordAt s i) < p)
 unfolding claimAt
 claim-fit p s i = pick (claimRow (recordAt s i)) refl
   where
     pick :
         (t : Bool) → claimRow (recordAt s i) ≡ t → claimFinding p (read t (recordAt s i)) ≡ Fit
-        → (read t (recordAt s i) ≡ Sound (recordAt s i)) × (stated (recordAt s i) ≡ true) × (largest (recordAt s i) < p)
+        → (read t (recordAt s i) ≡ Sound (recordAt s i)) × ((stated (recordAt s i) ≡ true) × (recordAt s i .origin ≤ 1)) × (largest (recordAt s i) < p)
     pick true q e = absurd (let z : _≡_ {A = ℕ} 0 1 = cc in omega arith)
     pick false q e = (refl, claim-row (recordAt s i) q, leb-false p (largest (recordAt s i)) (row-fit (beyondRow p (recordAt s i)) _ _ e .0))
 
@@ -180,6 +181,7 @@ accepted-claims p s e =
       few = n;
       whole = omega arith;
       sound = λ i h. claim-fit p s i (a .1 i h) .0;
-      kinds = λ i h. claim-fit p s i (a .1 i h) .1;
-      within = λ i h. let f = claim-fit p s i (a .1 i h) in says-within (recordAt s i) p (f .1) (f .2);
+      kinds = λ i h. claim-fit p s i (a .1 i h) .1 .0;
+      origins = λ i h. claim-fit p s i (a .1 i h) .1 .1;
+      within = λ i h. let f = claim-fit p s i (a .1 i h) in says-within (recordAt s i) p (f .1 .0) (f .2);
     }

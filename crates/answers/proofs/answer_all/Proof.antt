@@ -1,9 +1,10 @@
 -- `answers::answer_all` meets its contract. Assumes nothing.
 use native.Mathlib.Omega.{arith}
 use borrow.Author.Needs.{needs}
+use borrow.Author.Tests.{not-true}
+use mathlib.Core.Path.{sym, _∙_}
 use Rattle.closure.proofs.Settling.{settleable}
-use Rattle.answers.specs.Call.{answersTo}
-use Rattle.answers.proofs.Answering.{answers-none}
+use Rattle.answers.proofs.Answering.{answers-none, answers-all, answers-both}
 use Rattle.answers.proofs.answer_all.Statement.{statement}
 use Rattle.answers.proofs.answer_all.Tie as tie
 
@@ -21,7 +22,7 @@ slice-aggregate-complete-3 c = search needs
 
 complete-requires : tie.Need-complete-requires
 complete-requires c κs =
-    let s = c .before .before .before .before .before .before .before .before .before .before .pre in
+    let s = c .before .before .before .before .before .before .before .before .before .before .before .pre in
     let S = settleable _ _ (s .sound) in
     (S .bounded, S .ordered, s .edged, search needs, search needs, search needs)
 
@@ -36,29 +37,90 @@ slice-aggregate-answer-each-3 c = search needs
 
 answer-each-requires : tie.Need-answer-each-requires
 answer-each-requires c κs =
-    let s = c .before .before .before .before .before .before .before .before .before .before .before .before .before .before .before .before .before .before .pre in
-    let e = c .before .before .before .before .before .before .before .complete .ensures in
+    let s = c .before .before .before .before .before .before .before .before .before .before .before .before .before .before .before .before .before .before .before .before .before .pre in
+    let C = c .before .before .before .before .before .before .before .before .before .complete .ensures in
     record {
       n = _;
       small = settleable _ _ (s .sound) .bounded .fits;
       fit = s .fit;
       rooms = s .rooms;
       d-sized = s .parts .sized;
-      u-sized = e .0 .sized;
-      p-sized = e .1 .sized;
+      u-sized = C .0 .sized;
+      p-sized = C .1 .sized;
       t-sized = s .toward .sized;
-      q-sized = e .2 .sized;
+      q-sized = C .2 .sized;
     }
+
+some-restricted-requires : tie.Need-some-restricted-requires
+some-restricted-requires c κs = search needs
 
 same-length : tie.Need-same-length
 same-length c = search needs
 
+same-length-2 : tie.Need-same-length-2
+same-length-2 c = search needs
+
+same-length-3 : tie.Need-same-length-3
+same-length-3 c = search needs
+
+same-length-4 : tie.Need-same-length-4
+same-length-4 c = search needs
+
 returns-2 : tie.Need-returns-2
-unfolding answersTo
 returns-2 c =
-    let s = c .before .before .before .before .before .before .before .before .before .before .before .before .before .before .before .before .before .before .before .before .before .pre in
-    let e = c .before .before .before .before .before .before .before .before .before .before .complete .ensures in
-    c .before .before .answer-each .ensures .are _ _ (settleable _ _ (s .sound) .bounded) (record { parts = s .parts; wholes = e .0; away = e .1; toward = s .toward; outside = e .2 }) (s .fit)
+    let s = c .before .before .before .before .before .before .before .before .before .before .before .before .before .before .before .before .before .before .before .before .before .before .before .before .before .before .pre in
+    let C = c .before .before .before .before .before .before .before .before .before .before .before .before .before .before .complete .ensures in
+    let A = c .before .before .before .before .answer-each in
+    answers-all _ _ _ _ _ (sym (c .before .some-restricted .ensures) ∙ not-true _ (c .if2 .taken)) (A .kept .1 .1 .1 .1 .1 .1 .1 .0 ∙ s .rooms)
+    (A .ensures .are _ _ (settleable _ _ (s .sound) .bounded) (record { parts = s .parts; wholes = C .0; away = C .1; toward = s .toward; outside = C .2 }) (s .fit))
+
+slice-aggregate-answer-restricted : tie.Need-slice-aggregate-answer-restricted
+slice-aggregate-answer-restricted c = search needs
+
+slice-aggregate-answer-restricted-2 : tie.Need-slice-aggregate-answer-restricted-2
+slice-aggregate-answer-restricted-2 c = search needs
+
+slice-aggregate-answer-restricted-3 : tie.Need-slice-aggregate-answer-restricted-3
+slice-aggregate-answer-restricted-3 c = search needs
+
+answer-restricted-requires : tie.Need-answer-restricted-requires
+answer-restricted-requires c κs =
+    let s = c .before .before .before .before .before .before .before .before .before .before .before .before .before .before .before .before .before .before .before .before .before .before .before .before .before .before .before .before .before .before .before .before .before .pre in
+    let C = c .before .before .before .before .before .before .before .before .before .before .before .before .before .before .before .before .before .before .before .before .before .complete .ensures in
+    record {
+      sound = s .sound;
+      free = s .free;
+      fit = s .fit;
+      rooms = c .before .before .before .before .before .before .before .before .before .before .before .answer-each .kept .1 .1 .1 .1 .1 .1 .1 .0 ∙ s .rooms;
+      e-sized = s .edged .sized;
+      d-sized = s .parts .sized;
+      t-sized = s .toward .sized;
+      u-sized = C .0 .sized;
+      p-sized = C .1 .sized;
+      q-sized = C .2 .sized;
+    }
+
+same-length-5 : tie.Need-same-length-5
+same-length-5 c = search needs
+
+same-length-6 : tie.Need-same-length-6
+same-length-6 c = search needs
+
+same-length-7 : tie.Need-same-length-7
+same-length-7 c = search needs
+
+same-length-8 : tie.Need-same-length-8
+same-length-8 c = search needs
+
+returns-3 : tie.Need-returns-3
+returns-3 c =
+    let s = c .before .before .before .before .before .before .before .before .before .before .before .before .before .before .before .before .before .before .before .before .before .before .before .before .before .before .before .before .before .before .before .before .before .before .before .before .before .before .before .before .before .before .before .before .before .pre in
+    let C = c .before .before .before .before .before .before .before .before .before .before .before .before .before .before .before .before .before .before .before .before .before .before .before .before .before .before .before .before .before .before .before .before .before .complete .ensures in
+    let A = c .before .before .before .before .before .before .before .before .before .before .before .before .before .before .before .before .before .before .before .before .before .before .before .answer-each in
+    let R = c .before .before .before .before .before .before .before .before .before .before .before .answer-restricted in
+    answers-both _ _ _ _ _ _ (s .fit) (R .kept .1 .1 .1 .1 .1 .1 .1 .1 .1 .0 ∙ A .kept .1 .1 .1 .1 .1 .1 .1 .0 ∙ s .rooms)
+    (A .ensures .are _ _ (settleable _ _ (s .sound) .bounded) (record { parts = s .parts; wholes = C .0; away = C .1; toward = s .toward; outside = C .2 }) (s .fit))
+    (R .ensures)
 
 pub answer-all-spec : {M : Type 1} → statement M
 answer-all-spec =
@@ -73,5 +135,18 @@ answer-all-spec =
     slice-aggregate-answer-each-2
     slice-aggregate-answer-each-3
     answer-each-requires
+    some-restricted-requires
     same-length
-    returns-2)
+    same-length-2
+    same-length-3
+    same-length-4
+    returns-2
+    slice-aggregate-answer-restricted
+    slice-aggregate-answer-restricted-2
+    slice-aggregate-answer-restricted-3
+    answer-restricted-requires
+    same-length-5
+    same-length-6
+    same-length-7
+    same-length-8
+    returns-3)

@@ -39,7 +39,7 @@ answer-all-requires : tie.Need-answer-all-requires
 answer-all-requires c κs =
     let s = c .before .before .before .before .before .before .before .before .before .before .before .before .before .before .before .before .before .before .before .before .before .before .before .before .before .before .before .before .before .before .before .before .before .pre in
     let O = c .before .before .before .before .before .before .before .before .before .before .before .before .before .before .before .before .before .before .settle .ensures .free _ _ (c .before .before .before .before .before .settled2 .given .1) in
-    record { sound = s .sound; fit = s .fit; rooms = s .answers-long; edged = O .steps; parts = O .parts; toward = O .toward }
+    record { sound = s .sound; free = O .is; fit = s .fit; rooms = s .answers-long; edged = O .steps; parts = O .parts; toward = O .toward }
 
 same-length : tie.Need-same-length
 same-length c = c .before .before .before .before .before .before .before .before .clear-index .kept .0 ∙ c .before .before .before .before .before .before .before .before .before .before .before .before .before .before .before .before .before .before .before .before .before .before .before .before .before .before .before .settle .kept .1 .1 .1 .1 .1 .0
@@ -77,10 +77,10 @@ same-length-9 c = search needs
 
 returns-2 : tie.Need-returns-2
 returns-2 c =
-    let s = c .before .before .before .before .before .before .before .before .before .before .before .before .before .before .before .before .before .before .before .before .before .before .before .before .before .before .before .before .before .before .before .before .before .before .before .before .pre in
-    let S = c .before .before .before .before .before .before .before .before .before .before .before .before .before .before .before .before .before .before .before .before .before .settle in
+    let s = c .before .before .before .before .before .before .before .before .before .before .before .before .before .before .before .before .before .before .before .before .before .before .before .before .before .before .before .before .before .before .before .before .before .before .before .before .before .before .before .pre in
+    let S = c .before .before .before .before .before .before .before .before .before .before .before .before .before .before .before .before .before .before .before .before .before .before .before .before .settle in
     judged-accepted _ _ _ _ s _ _ _ _ _ _ _ _ _ _ (S .kept .1 .1 .1 .1 .1 .0 ∙ s .parens-long) (S .kept .1 .1 .1 .1 .1 .1 .0 ∙ s .marks-long) (S .kept .1 .1 .1 .1 .1 .1 .1 .0 ∙ s .shadows-long) (S .kept .1 .1 .1 .1 .1 .1 .1 .1 .0 ∙ s .places-long)
-    (S .ensures .free _ _ (c .before .before .before .before .before .before .before .before .settled2 .given .1)) (c .before .before .answer-all .ensures)
+    (S .ensures .free _ _ (c .before .before .before .before .before .before .before .before .before .before .before .settled2 .given .1)) (c .before .before .before .before .before .answer-all .ensures)
 
 pub judge-spec : {M : Type 1} → statement M
 judge-spec =
