@@ -2,7 +2,7 @@
 
 use crate::books::*;
 use crate::piecebook::{Working, WorkingOutcome, AREA, MARKS, PARENTHESES, PLACES, SHADOWS};
-use crate::reference::{judge, Change, Lengths};
+use crate::reference::{judge, Change, Edition, Lengths};
 
 enum Operation {
     Start,
@@ -14,7 +14,7 @@ enum Operation {
 /// The fresh call on a run of records with its claims: number and place, the piece count, and the first answer.
 fn fresh(run: &[u8], claims: &[u8]) -> (usize, usize, usize, usize) {
     let lengths = Lengths { parentheses: PARENTHESES, marks: MARKS, shadows: SHADOWS, places: PLACES, answers: 1 };
-    let expected = judge(run, Some(claims), lengths);
+    let expected = judge(run, Edition::InForce, Some(claims), lengths);
     let answer = match &expected.change {
         Change::IndexAndAnswers(_, answers) => answers.first().map_or(0, |&byte| usize::from(byte)),
         _ => 0,

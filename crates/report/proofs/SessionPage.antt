@@ -22,7 +22,10 @@ use Rattle.index.specs.Breadth.{breadth, order, parent}
 use Rattle.index.specs.Tree.{hang, under, whole, visits}
 use Rattle.index.specs.Index.{visitsOf}
 use Rattle.index.specs.Parts.{isShadow, shadows}
-use Rattle.answers.specs.Lent.{shortLent, front}
+use Rattle.lists.specs.Front.{front}
+use Rattle.records.specs.Kept.{picked}
+use Rattle.records.specs.Rows.{admitted}
+use Rattle.answers.specs.Lent.{shortLent}
 use Rattle.answers.specs.Call.{edges, byRuns, byClaims, byBook, outcome, claimed, answersTo, indexed, left}
 use Rattle.report.specs.Text.{ascii}
 use Rattle.report.specs.Decimal.{spell, decimal}
@@ -52,5 +55,5 @@ pub session-printed :
     ++ ascii "7 NOTPART 1 3 FOLLOWS\n"
     ++ ascii "8 NOTPART 0 1 FOLLOWS\n"
     ++ ascii "9 PART 1 2 OPEN\n"
-unfolding printed zeros session countsLine claimLines claimLine recordAt kindName answerName decimal spell outcome shortLent byBook checkBy scan recordFinding formFinding stated largest piecesUpTo sameBytes anyBelow byClaims claimsCheck claimAt byRuns shortestClash entries entryOf factOf tab clash any table entry storing turned step rounds containment apart meets notpart derived follows first factsOf visitsOf edges joined partIn range keep find parts breadth order parent hang under whole visits shadows isShadow left indexed front answersTo verdict judge claimed
+unfolding printed zeros session countsLine claimLines claimLine recordAt kindName answerName decimal spell outcome shortLent byBook checkBy scan recordFinding formFinding stated largest piecesUpTo sameBytes anyBelow byClaims claimsCheck claimAt byRuns shortestClash entries entryOf factOf tab clash any table entry storing turned step rounds containment apart meets notpart derived follows first factsOf visitsOf edges joined partIn range keep find parts breadth order parent hang under whole visits shadows isShadow left indexed front answersTo picked admitted verdict judge claimed
 session-printed = refl
