@@ -104,7 +104,7 @@ static int keeps(unsigned kind, unsigned a, unsigned b)
     return kind == APART ? common == 0 : kind == MEETS ? common != 0 : outside != 0;
 }
 
-/* A book that is accepted: containment of the given shape, then facts that one laying keeps, then as many TRAY records as are needed. */
+/* A book that is accepted: containment of the given shape, then facts that one laying keeps. */
 static void make_sample(sample *s, enum shape shape, unsigned pieces, unsigned records, unsigned claims)
 {
     random_state = shape;
@@ -112,13 +112,11 @@ static void make_sample(sample *s, enum shape shape, unsigned pieces, unsigned r
     for (unsigned part = 1; part < pieces; part++)
         add_containers(s, shape, part);
     lay(s, pieces);
-    for (unsigned i = 0; i < 2 * records && s->records < records - records / 8; i++) {
+    while (s->records < records) {
         unsigned kind = APART + below(3), a = below(pieces), b = below(pieces);
         if (keeps(kind, a, b))
             add(s, kind, a, b);
     }
-    while (s->records < records)
-        add(s, TRAY, below(pieces), below(65536));
     s->claims = claims;
     for (unsigned i = 0; i < claims; i++)
         write_record(s->asked + i * 6, PART + below(4), below(pieces), below(pieces));
@@ -129,6 +127,13 @@ static void restrict_half(sample *s)
 {
     for (unsigned i = 1; i < s->claims; i += 2)
         s->asked[i * 6 + 1] = 1;
+}
+
+/* Makes a book of the former edition: every eighth record becomes a TRAY record. */
+static void put_on_trays(sample *s, unsigned pieces)
+{
+    for (unsigned i = 7; i < s->records; i += 8)
+        write_record(s->book + i * 6, TRAY, below(pieces), i);
 }
 
 static void shuffle(sample *s)

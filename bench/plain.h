@@ -1,4 +1,4 @@
-/* The same two calls in plain C: the yardstick of bench/whole.c, and a second implementation for tests/reference to be tried on. */
+/* The same calls in plain C: the yardstick of bench/whole.c, and a second implementation for tests/reference to be tried on. */
 #ifndef PLAIN_H
 #define PLAIN_H
 
@@ -12,5 +12,7 @@ piecebook_result plain_answer(const uint8_t *book, size_t book_length, const uin
 piecebook_result plain_index(const uint8_t *book, size_t book_length,
                              uint8_t *parentheses, size_t parentheses_length, uint8_t *marks, size_t marks_length,
                              uint16_t *shadows, size_t shadows_length, uint16_t *places, size_t places_length);
+
+piecebook_converted plain_convert(const uint8_t *book, size_t book_length, uint8_t *out, size_t out_length);
 
 #endif

@@ -1,4 +1,4 @@
-/* The peak stack of the whole call: the smallest stack of a thread on which it comes to its end, found by halving. Each try is a process of its
+/* The peak stack of the calls: the smallest stack of a thread on which it comes to its end, found by halving. Each try is a process of its
    own, since one that is too small ends it. What a thread needs for a call that does nothing is taken off. */
 #define _DEFAULT_SOURCE
 #include "books.h"
@@ -27,6 +27,13 @@ static void *whole(void *unused)
 {
     piecebook_answer(s.book, s.records * 6, s.asked, s.claims * 6, parentheses, sizeof parentheses, marks, sizeof marks, shadows,
                      PIECEBOOK_SHADOWS, places, PIECEBOOK_PLACES, answers, sizeof answers);
+    return unused;
+}
+
+static void *conversion(void *unused)
+{
+    static uint8_t out[8192 * 6];
+    piecebook_convert(s.book, s.records * 6, out, sizeof out);
     return unused;
 }
 
@@ -81,12 +88,12 @@ static size_t smallest(void *f(void *))
     return large;
 }
 
-static void measure(const char *name)
+static void measure(const char *name, void *f(void *))
 {
     static size_t least;
     if (least == 0)
         least = smallest(nothing);
-    printf("stack %s: %zu KiB\n", name, (smallest(whole) - least) >> 10);
+    printf("stack %s: %zu KiB\n", name, (smallest(f) - least) >> 10);
     fflush(stdout);
 }
 
@@ -94,16 +101,20 @@ int main(void)
 {
     make_sample(&s, DEEP, 2048, 8192, 4096);
     shuffle(&s);
-    measure("deep");
+    measure("deep", whole);
     restrict_half(&s);
-    measure("deep, half restricted");
+    measure("deep, half restricted", whole);
     make_sample(&s, LADDER, 2048, 8192, 4096);
     shuffle(&s);
-    measure("ladder");
+    measure("ladder", whole);
     restrict_half(&s);
-    measure("ladder, half restricted");
+    measure("ladder, half restricted", whole);
     make_sample(&s, DEEP, 2048, 8192, 4096);
     contradict_late(&s);
-    measure("deep, contradictory");
+    measure("deep, contradictory", whole);
+    make_sample(&s, DEEP, 2048, 8192, 0);
+    shuffle(&s);
+    put_on_trays(&s, 2048);
+    measure("deep, converted", conversion);
     return 0;
 }

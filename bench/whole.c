@@ -85,6 +85,31 @@ static void measure_restricted(const char *name, const sample *none, unsigned ru
     fflush(stdout);
 }
 
+/* The converter, on the same book with TRAY records in it. */
+static void measure_convert(const char *name, const sample *s, unsigned runs)
+{
+    static uint8_t ours[8192 * 6], theirs[8192 * 6];
+    double our_times[MOST], their_times[MOST];
+    struct timespec t[3];
+    piecebook_converted x, y;
+    for (unsigned i = 0; i < runs; i++) {
+        clock_gettime(CLOCK_PROCESS_CPUTIME_ID, &t[0]);
+        x = piecebook_convert(s->book, s->records * 6, ours, sizeof ours);
+        clock_gettime(CLOCK_PROCESS_CPUTIME_ID, &t[1]);
+        y = plain_convert(s->book, s->records * 6, theirs, sizeof theirs);
+        clock_gettime(CLOCK_PROCESS_CPUTIME_ID, &t[2]);
+        our_times[i] = (t[1].tv_sec - t[0].tv_sec) * 1e6 + (t[1].tv_nsec - t[0].tv_nsec) / 1e3;
+        their_times[i] = (t[2].tv_sec - t[1].tv_sec) * 1e6 + (t[2].tv_nsec - t[1].tv_nsec) / 1e3;
+    }
+    if (memcmp(&x, &y, sizeof x) != 0 || memcmp(ours, theirs, sizeof ours) != 0 || x.number != 0) {
+        printf("convert %s: the two differ, or it is refused\n", name);
+        exit(1);
+    }
+    double a = median(our_times, runs), b = median(their_times, runs);
+    printf("convert %s: ours %.0f us, C %.0f us, ratio %.2f\n", name, a, b, a / b);
+    fflush(stdout);
+}
+
 int main(void)
 {
     static const char *accepted[] = {"tree-like", "deep", "ladder", "dense"};
@@ -96,6 +121,8 @@ int main(void)
         shuffle(&s);
         measure(accepted[shape], &s, 11, 0);
         measure_restricted(restricted[shape], &s, 21);
+        put_on_trays(&s, 2048);
+        measure_convert(accepted[shape], &s, 21);
     }
     for (unsigned shape = TREE; shape <= DENSE; shape++) {
         make_sample(&s, shape, 2048, 8192, 4096);

@@ -3,7 +3,7 @@
 import pathlib
 import struct
 
-KINDS = {"PART": 1, "APART": 2, "MEETS": 3, "NOTPART": 4, "TRAY": 5}
+KINDS = {"PART": 1, "APART": 2, "MEETS": 3, "NOTPART": 4}
 
 BOOK = "PART 1 0, PART 2 0, PART 3 1, PART 4 1, PART 4 2, PART 5 4, APART 3 4, MEETS 3 2, NOTPART 2 1"
 CLAIMS = (

@@ -45,6 +45,46 @@ piecebook_result piecebook_index(const uint8_t *book, size_t book_length,
                                  uint8_t *parentheses, size_t parentheses_length, uint8_t *marks, size_t marks_length,
                                  uint16_t *shadows, size_t shadows_length, uint16_t *places, size_t places_length);
 
+/* A working book: records are added and withdrawn one at a time, and claims are answered, each as a fresh call on the records then standing would
+   have it. The caller keeps these counts and an area of at least PIECEBOOK_AREA bytes, which holds the standing records and zeros behind them. */
+#define PIECEBOOK_AREA 49152
+
+typedef struct {
+    size_t records;
+    size_t pieces;
+} piecebook_working;
+
+/* number and place are the fresh call's, or 1 for a short area, 4 for more than 8,192 stated records, 3 for an addition and 10 for a claim of other
+   than 6 bytes, 18 for the withdrawal of a record that does not stand. answer is 0 but for an answered claim. */
+typedef struct {
+    size_t number;
+    size_t place;
+    size_t answer;
+} piecebook_working_result;
+
+/* Begins with no records. A refusal of any of these calls leaves counts and area as they were; later bytes of the area are never written. */
+piecebook_working_result piecebook_start(piecebook_working *state, uint8_t *area, size_t area_length);
+
+/* Adds a record behind the standing ones. */
+piecebook_working_result piecebook_add(piecebook_working *state, uint8_t *area, size_t area_length, const uint8_t *record, size_t record_length);
+
+/* Withdraws the record of that number, from 0; later ones move down by one. */
+piecebook_working_result piecebook_withdraw(piecebook_working *state, uint8_t *area, size_t area_length, size_t record_number);
+
+/* Answers one claim. It writes nothing. */
+piecebook_working_result piecebook_ask(piecebook_working *state, const uint8_t *area, size_t area_length, const uint8_t *claim, size_t claim_length);
+/* number is 0 where a new book was written, whose bytes are length; or the number of the refusal, 1, 3 to 9 or 14, whose record is place. */
+typedef struct {
+    size_t number;
+    size_t place;
+    size_t length;
+} piecebook_converted;
+
+/* Takes a book of the former edition, which has TRAY records (kind 5), and writes it without them to the front of out, the other records in their
+   order. Where these do not name the largest piece, PART of that piece in 0 comes last. An out shorter than the book is 1. A refusal writes nothing;
+   bytes behind the new book stay as they are. The new book is accepted by the other calls and gives every claim the answer that it had. */
+piecebook_converted piecebook_convert(const uint8_t *book, size_t book_length, uint8_t *out, size_t out_length);
+
 #ifdef __cplusplus
 }
 #endif

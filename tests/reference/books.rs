@@ -185,7 +185,7 @@ pub struct Plan {
     pub records: usize,
     /// facts besides PART, as far as there is room
     pub facts: usize,
-    /// fill up with TRAY records to just so many records
+    /// fill up with facts that say nothing new to just so many records
     pub fill: bool,
 }
 
@@ -207,15 +207,14 @@ pub fn sound(random: &mut Random, plan: Plan) -> Vec<Bytes> {
             book.push(next);
         }
     }
+    // the last piece first, so that it is named
+    let mut a = plan.pieces - 1;
     while plan.fill && book.len() < plan.records || book.len() < plan.records && random.one_in(3) {
-        let tray = record(TRAY, random.below(plan.pieces), random.below(65536));
-        if seen.insert(tray) {
-            book.push(tray);
+        let next = random.pick(&[record(MEETS, a, a), record(MEETS, a, 0), record(MEETS, 0, a), record(NOTPART, 0, a)]);
+        if (next[0] == MEETS || keeps(&sets, NOTPART, 0, a)) && seen.insert(next) {
+            book.push(next);
         }
-    }
-    if plan.fill && !book.iter().any(|r| usize::from(r[2]) + 256 * usize::from(r[3]) == plan.pieces - 1) {
-        book.pop();
-        book.push(record(TRAY, plan.pieces - 1, 65535));
+        a = random.below(plan.pieces);
     }
     give_origins(random, &mut book);
     // the same fact once of each origin
@@ -239,6 +238,19 @@ pub fn contradict(random: &mut Random, book: &mut Vec<Bytes>, pieces: usize, fac
         let next = record(random.pick(&[APART, MEETS, NOTPART, NOTPART]), random.below(pieces), random.below(pieces));
         let next = of(random.pick(&[SHEET, SCANNER]), next);
         if !book.contains(&next) {
+            book.insert(random.below(book.len() + 1), next);
+        }
+    }
+}
+
+/// Makes a book of the former edition: TRAY records of either origin at any place, some of them of pieces that no other record names.
+pub fn add_trays(random: &mut Random, book: &mut Vec<Bytes>, pieces: usize, trays: usize) {
+    let mut seen: HashSet<Bytes> = book.iter().copied().collect();
+    let last = (pieces + random.pick(&[0, 0, 1, 3])).min(2048);
+    for _ in 0..trays {
+        let b = random.pick(&[0, 1, 2047, 2048, 65535]);
+        let next = of(random.pick(&[SHEET, SCANNER]), record(TRAY, random.below(last), if random.one_in(2) { b } else { random.below(65536) }));
+        if book.len() < 8192 && seen.insert(next) {
             book.insert(random.below(book.len() + 1), next);
         }
     }

@@ -1,14 +1,15 @@
-//! Compares the library's two calls with the reference on many books: the outcome, every answer and every byte of every buffer, with guard
+//! Compares the library's calls with the reference on many books: the outcome, every answer and every byte of every buffer, with guard
 //! values before and behind what is lent. The last line is 'N passed, M failed', where N + M are the books compared and the numbers and answers that must occur.
 
 mod books;
+mod days;
 mod piecebook;
 mod reference;
 mod rules;
 
 use books::*;
-use piecebook::{Outcome, Parts};
-use reference::{judge, Change, Expected, Lengths};
+use piecebook::{Converted, Outcome, Parts};
+use reference::{convert, judge, Change, Edition, Expected, Lengths};
 use std::collections::BTreeMap;
 use std::time::Instant;
 
@@ -106,7 +107,11 @@ impl Lent {
 
 /// Calls the library once and says what is wrong.
 fn compare(random: &mut Random, book: &[u8], claims: Option<&[u8]>, lengths: Lengths) -> (Expected, Option<String>) {
-    let expected = judge(book, claims, lengths);
+    compare_to(judge(book, Edition::InForce, claims, lengths), random, book, claims, lengths)
+}
+
+/// Held to what is expected, perhaps of another book.
+fn compare_to(expected: Expected, random: &mut Random, book: &[u8], claims: Option<&[u8]>, lengths: Lengths) -> (Expected, Option<String>) {
     let mut lent = Lent::new(random, lengths);
     let mut after = lent.clone();
     after.apply(&expected.change);
@@ -140,6 +145,35 @@ fn reorder(random: &mut Random, case: &Case, claims: Option<&[u8]>) -> (usize, O
         Some(format!("{one:?} becomes {other:?}"))
     };
     (usize::from(one.place != other.place), wrong)
+}
+
+/// Converts the book into so much room, and says what is wrong. The new book must come to what the former one came to: index, counts and answers.
+fn compare_conversion(random: &mut Random, book: &[u8], room: usize) -> (Converted, Option<String>) {
+    let (expected, bytes, doubt) = convert(book, room);
+    let mut out = Buffer::new(random, room, |x| x as u8);
+    let mut after = out.clone();
+    after.write(&bytes);
+    let book_before = book.to_vec();
+    let got = piecebook::convert(book, out.lend());
+    let wrong = if let Some(doubt) = doubt {
+        Some(format!("the reference is in doubt: {doubt}"))
+    } else if got != expected {
+        Some(format!("got {got:?}, expected {expected:?}"))
+    } else if book != book_before {
+        Some("the book was written to".into())
+    } else {
+        out.difference(&after).map(|at| format!("the output differs at {at}"))
+    };
+    if wrong.is_some() || expected.number != 0 {
+        return (expected, wrong);
+    }
+    let pieces = judge(book, Edition::Former, None, LEAST).outcome.pieces;
+    let claims = if pieces <= 12 { all_claims(pieces) } else { [claims(random, pieces, 300), near_claims(random, pieces, 300)].concat() }.concat();
+    let lengths = enough(random, claims.len() / 6);
+    let wanted = judge(book, Edition::Former, Some(&claims), lengths);
+    let new = out.lend()[..got.length].to_vec();
+    let (_, wrong) = compare_to(wanted, random, &new, Some(&claims), lengths);
+    (expected, wrong.map(|wrong| format!("the new book: {wrong}")))
 }
 
 /// A book with its claims and the lengths of the lent buffers.
@@ -195,6 +229,8 @@ struct Tally {
     failed: usize,
     /// How often each number and each answer occurred.
     numbers: [usize; 15],
+    /// the same of conversions
+    conversions: [usize; 15],
     /// answers to claims on all facts, then to restricted ones
     answers: [[usize; 4]; 2],
 }
@@ -233,10 +269,66 @@ impl Tally {
             let missing = self.numbers[number] == 0;
             self.count(missing.then(|| format!("number {number} never occurred")));
         }
+        for number in [0, 1, 3, 4, 5, 6, 7, 8, 9, 14] {
+            let missing = self.conversions[number] == 0;
+            self.count(missing.then(|| format!("number {number} never occurred in a conversion")));
+        }
         for (origin, answer) in [0, 1].into_iter().flat_map(|origin| (1..4).map(move |answer| (origin, answer))) {
             let missing = self.answers[origin][answer] == 0;
             self.count(missing.then(|| format!("answer {answer} to a claim of origin {origin} never occurred")));
         }
+    }
+
+    /// Days of a working book.
+    fn days(&mut self, count: usize) {
+        let start = Instant::now();
+        let failed = self.failed;
+        let mut random = Random(9);
+        let mut numbers = [0; 19];
+        for day in 0..count {
+            let wrong = days::play(&mut random, &mut numbers);
+            self.count(wrong.map(|wrong| format!("day {day}, {wrong}")));
+        }
+        for number in [0, 1, 3, 4, 5, 9, 10, 12, 13, 14, 18] {
+            let missing = numbers[number] == 0;
+            self.count(missing.then(|| format!("number {number} never occurred on a working book")));
+        }
+        println!("working books: {count} days; {} failed; {:.1} s", self.failed - failed, start.elapsed().as_secs_f64());
+    }
+
+    fn try_conversion(&mut self, group: &str, number: usize, book: &[u8], room: usize) -> Converted {
+        let (expected, wrong) = compare_conversion(&mut self.random, book, room);
+        self.conversions[expected.number] += 1;
+        self.count(wrong.map(|wrong| {
+            let bytes = if book.len() <= 600 { format!("{book:?}") } else { format!("{} bytes", book.len()) };
+            format!("{group}, book {number}: {wrong}; book {bytes}, room {room}")
+        }));
+        expected
+    }
+
+    /// A group of random books to convert; prints one line.
+    fn converted(&mut self, name: &str, count: usize, make: impl Fn(&mut Random, usize) -> (Vec<u8>, usize)) {
+        let start = Instant::now();
+        let failed = self.failed;
+        let mut random = Random(name.bytes().fold(7, |seed, byte| seed * 31 + u64::from(byte)));
+        let mut numbers = BTreeMap::new();
+        let (mut with_trays, mut grown) = (0, 0);
+        for number in 0..count {
+            let (book, room) = make(&mut random, number);
+            let expected = self.try_conversion(name, number, &book, room);
+            *numbers.entry(expected.number).or_insert(0) += 1;
+            let kept = book.chunks_exact(6).filter(|r| r[0] != TRAY).count();
+            with_trays += usize::from(expected.number == 0 && 6 * kept < book.len());
+            grown += usize::from(expected.number == 0 && 6 * kept < expected.length);
+        }
+        let accepted = numbers.remove(&0).unwrap_or(0);
+        let refused: Vec<String> = numbers.iter().map(|(number, count)| format!("{number}: {count}")).collect();
+        println!(
+            "{name}: {count} books, {accepted} converted, {with_trays} of them with trays, {grown} with a record added, refused {{{}}}; {} failed; {:.1} s",
+            refused.join(", "),
+            self.failed - failed,
+            start.elapsed().as_secs_f64()
+        );
     }
 
     /// A group of random books, each made from the group's random numbers; prints one line.
@@ -331,7 +423,7 @@ fn restricted(random: &mut Random) -> Option<String> {
 
 /// Sound records that differ, with the largest piece number among them.
 fn many(count: usize) -> Vec<Bytes> {
-    (0..count).map(|i| record(TRAY, 2047 - i % 2048, i)).collect()
+    (0..count).map(|i| record(MEETS, 2047 - i % 2048, i / 2048)).collect()
 }
 
 /// Books with the number and the place that document 01 gives them.
@@ -357,14 +449,13 @@ fn edges() -> Vec<(&'static str, Vec<Bytes>, Vec<Bytes>, (usize, usize))> {
         ("piece 2,048 as a", one(PART, 2048, 2047), none.clone(), (7, 0)),
         ("piece 2,048 as b", one(APART, 1, 2048), none.clone(), (7, 0)),
         ("piece 2,048 as b of PART is 7 and not 8", one(PART, 1, 2048), none.clone(), (7, 0)),
-        ("piece 2,048 on a tray", one(TRAY, 2048, 0), none.clone(), (7, 0)),
-        ("tray 2,048", one(TRAY, 0, 2048), none.clone(), (0, 0)),
-        ("tray 65,535", one(TRAY, 2047, 65535), none.clone(), (0, 0)),
+        ("a TRAY record", vec![record(PART, 1, 0), record(TRAY, 1, 2)], none.clone(), (5, 1)),
+        ("a TRAY record is 5 and not 7", one(TRAY, 2048, 0), none.clone(), (5, 0)),
         ("PART 3 3", one(PART, 3, 3), none.clone(), (8, 0)),
         ("PART 0 0", one(PART, 0, 0), none.clone(), (8, 0)),
         ("PART 1 2", one(PART, 1, 2), none.clone(), (8, 0)),
         ("APART 3 4 and 4 3", vec![record(APART, 3, 4), record(APART, 4, 3)], all_claims(5), (0, 0)),
-        ("APART 3 4 twice", vec![record(APART, 3, 4), record(TRAY, 1, 1), record(APART, 3, 4)], none.clone(), (9, 2)),
+        ("APART 3 4 twice", vec![record(APART, 3, 4), record(MEETS, 1, 1), record(APART, 3, 4)], none.clone(), (9, 2)),
         ("APART 2 2", one(APART, 2, 2), all_claims(3), (14, 0)),
         ("NOTPART 1 0", one(NOTPART, 1, 0), all_claims(2), (14, 0)),
         ("APART 1 0", one(APART, 1, 0), all_claims(2), (14, 0)),
@@ -372,9 +463,9 @@ fn edges() -> Vec<(&'static str, Vec<Bytes>, Vec<Bytes>, (usize, usize))> {
         ("NOTPART 0 0", one(NOTPART, 0, 0), all_claims(1), (14, 0)),
         ("the session and MEETS 5 3", with(&[record(MEETS, 5, 3)]), all_claims(6), (14, 9)),
         ("MEETS 5 3 and the session", [one(MEETS, 5, 3), session()].concat(), all_claims(6), (14, 7)),
-        ("row 5 before 6", vec![record(TRAY, 0, 0), bad_kind], none.clone(), (5, 1)),
-        ("row 6 before 7", vec![record(TRAY, 0, 0), bad_origin], none.clone(), (6, 1)),
-        ("row 9 before a later row 5", [one(TRAY, 0, 0), one(TRAY, 0, 0), vec![bad_kind]].concat(), none.clone(), (9, 1)),
+        ("row 5 before 6", vec![record(MEETS, 0, 0), bad_kind], none.clone(), (5, 1)),
+        ("row 6 before 7", vec![record(MEETS, 0, 0), bad_origin], none.clone(), (6, 1)),
+        ("row 9 before a later row 5", [one(MEETS, 0, 0), one(MEETS, 0, 0), vec![bad_kind]].concat(), none.clone(), (9, 1)),
         ("row 9 before row 14", [one(APART, 2, 2), one(APART, 2, 2)].concat(), none.clone(), (9, 1)),
         ("4,096 claims", session(), vec![record(PART, 5, 2); 4096], (0, 0)),
         ("4,097 claims", session(), vec![record(PART, 5, 2); 4097], (11, 0)),
@@ -390,8 +481,34 @@ fn edges() -> Vec<(&'static str, Vec<Bytes>, Vec<Bytes>, (usize, usize))> {
         ("a claim about piece 6 as b", session(), one(MEETS, 0, 6), (13, 0)),
         ("row 13 before a later row 12", session(), [one(PART, 6, 0), one(TRAY, 0, 0)].concat(), (13, 0)),
         ("row 13 before row 14", one(APART, 2, 2), one(PART, 3, 0), (13, 0)),
-        ("a claim about all pieces of a book of trays", one(TRAY, 3, 9), all_claims(4), (0, 0)),
-        ("piece 0 alone", one(TRAY, 0, 0), all_claims(1), (0, 0)),
+        ("a claim about all pieces of a book of one fact", one(MEETS, 3, 3), all_claims(4), (0, 0)),
+        ("piece 0 alone", one(MEETS, 0, 0), all_claims(1), (0, 0)),
+    ]
+}
+
+/// Former books and what becomes of them, or the number and the place.
+fn conversions() -> Vec<(&'static str, Vec<Bytes>, Result<Vec<Bytes>, (usize, usize)>)> {
+    let tray = |a, b| record(TRAY, a, b);
+    let one = |kind, a, b| vec![record(kind, a, b)];
+    let trays = |count: usize| -> Vec<Bytes> { (0..count).map(|i| tray(i % 2048, i)).collect() };
+    vec![
+        ("no bytes", vec![], Ok(vec![])),
+        ("piece 0 on a tray", vec![tray(0, 7)], Ok(vec![])),
+        ("piece 3 on tray 65,535", vec![tray(3, 65535)], Ok(one(PART, 3, 0))),
+        ("a scanner's tray", vec![of(SCANNER, tray(3, 9))], Ok(one(PART, 3, 0))),
+        ("piece 2,047 on a tray", vec![tray(2047, 0), record(APART, 1, 2)], Ok(vec![record(APART, 1, 2), record(PART, 2047, 0)])),
+        ("a piece that is named as b", vec![record(MEETS, 0, 5), tray(5, 5)], Ok(one(MEETS, 0, 5))),
+        ("the others in their order", vec![tray(1, 1), record(APART, 3, 4), tray(1, 2), of(SCANNER, record(PART, 2, 1)), record(PART, 2, 1), tray(4, 1)],
+            Ok(vec![record(APART, 3, 4), of(SCANNER, record(PART, 2, 1)), record(PART, 2, 1)])),
+        ("8,192 trays", trays(8192), Ok(one(PART, 2047, 0))),
+        ("8,193 trays", trays(8193), Err((4, 0))),
+        ("piece 2,048 on a tray", vec![tray(2048, 0)], Err((7, 0))),
+        ("kind 6", vec![tray(0, 0), record(6, 1, 0)], Err((5, 1))),
+        ("a tray of origin 2", vec![tray(0, 0), of(2, tray(1, 0))], Err((6, 1))),
+        ("a tray twice", vec![tray(1, 1), tray(1, 2), tray(1, 1)], Err((9, 2))),
+        ("a tray of both origins", vec![tray(1, 1), of(SCANNER, tray(1, 1))], Ok(one(PART, 1, 0))),
+        ("PART 3 3 behind a tray", vec![tray(1, 1), record(PART, 3, 3)], Err((8, 1))),
+        ("the place of 14 counts trays", vec![tray(9, 9), tray(9, 8), record(APART, 2, 2), tray(9, 7)], Err((14, 2))),
     ]
 }
 
@@ -419,6 +536,26 @@ fn examples(tally: &mut Tally) {
     println!("document 01's session and edges, and restricted claims: {count} books; {} failed", tally.failed - failed);
 }
 
+fn conversion_examples(tally: &mut Tally) {
+    let failed = tally.failed;
+    let all = conversions();
+    let count = all.len();
+    for (i, (name, book, wanted)) in all.into_iter().enumerate() {
+        let book = book.concat();
+        let (number, place, bytes) = match wanted {
+            Ok(new) => (0, 0, new.concat()),
+            Err((number, place)) => (number, place, vec![]),
+        };
+        let (converted, new, _) = convert(&book, book.len());
+        if (converted, &new) != (Converted { number, place, length: bytes.len() }, &bytes) {
+            println!("FAIL {name}: the reference says {converted:?}");
+            tally.failed += 1;
+        }
+        tally.try_conversion(name, i, &book, book.len());
+    }
+    println!("conversions by hand: {count} books; {} failed", tally.failed - failed);
+}
+
 // Random groups.
 
 fn small_plan(random: &mut Random) -> Plan {
@@ -428,7 +565,7 @@ fn small_plan(random: &mut Random) -> Plan {
 
 /// The book with all claims about every two of its pieces.
 fn small_case(random: &mut Random, book: &[Bytes]) -> Case {
-    let largest = book.iter().map(|r| if r[0] == TRAY { r[2] } else { r[2].max(r[4]) }).max().unwrap_or(0);
+    let largest = book.iter().map(|r| r[2].max(r[4])).max().unwrap_or(0);
     let mut claims = all_claims(usize::from(largest) + 1);
     random.shuffle(&mut claims);
     case(random, book, &claims)
@@ -492,11 +629,53 @@ fn middle(random: &mut Random, shape: Shape, number: usize) -> Case {
         contradict(random, &mut book, plan.pieces, 1 + number % 20);
     }
     // where the last pieces are not named, row 13 refuses claims about them
-    if !random.one_in(10) && book.len() < 8192 {
-        book.push(record(TRAY, plan.pieces - 1, 65535));
+    let last = record(MEETS, plan.pieces - 1, plan.pieces - 1);
+    if !random.one_in(10) && book.len() < 8192 && !book.contains(&last) {
+        book.push(last);
     }
     let asked = [claims(random, plan.pieces, 500), near_claims(random, plan.pieces, 500)].concat();
     case(random, &book, &asked)
+}
+
+/// A small former book, and room for what becomes of it.
+fn small_former(random: &mut Random, number: usize) -> (Vec<u8>, usize) {
+    let plan = small_plan(random);
+    let mut book = sound(random, plan);
+    if number % 4 == 0 {
+        let facts = random.range(1, 5);
+        contradict(random, &mut book, plan.pieces, facts);
+    }
+    let trays = random.below(8);
+    add_trays(random, &mut book, plan.pieces, trays);
+    let book = book.concat();
+    let room = book.len() + if random.one_in(3) { 0 } else { random.below(50) };
+    (book, room)
+}
+
+fn damaged_former(random: &mut Random, number: usize) -> (Vec<u8>, usize) {
+    let (mut book, room) = small_former(random, number);
+    damage(random, &mut book);
+    let room = room.max(book.len());
+    (book, room)
+}
+
+fn short_output(random: &mut Random, number: usize) -> (Vec<u8>, usize) {
+    let (book, _) = if number % 3 == 0 { damaged_former(random, number) } else { small_former(random, number) };
+    let room = if random.one_in(3) { random.below(book.len() + 1) } else { book.len().saturating_sub(random.below(9)) };
+    (book, room)
+}
+
+fn middle_former(random: &mut Random, shape: Shape, number: usize) -> (Vec<u8>, usize) {
+    let plan = middle_plan(random, shape);
+    let mut book = sound(random, plan);
+    if number % 4 == 3 {
+        contradict(random, &mut book, plan.pieces, 1 + number % 20);
+    }
+    let trays = random.below(400);
+    add_trays(random, &mut book, plan.pieces, trays);
+    let book = book.concat();
+    let room = book.len() + random.below(50);
+    (book, room)
 }
 
 /// As many pieces, records and claims as can be.
@@ -517,7 +696,7 @@ fn largest_contradictory(random: &mut Random, shape: Shape, place: usize) -> Cas
 
 /// Compares them all, `times` as many random books where that is more than once.
 fn run(times: usize) -> bool {
-    let mut tally = Tally { random: Random(1), passed: 0, failed: 0, numbers: [0; 15], answers: [[0; 4]; 2] };
+    let mut tally = Tally { random: Random(1), passed: 0, failed: 0, numbers: [0; 15], conversions: [0; 15], answers: [[0; 4]; 2] };
     examples(&mut tally);
     tally.group("small, from a laying", 3000 * times, |random, _| small_sound(random));
     tally.group("small, facts thrown in", 3000 * times, |random, _| small_contradictory(random));
@@ -542,6 +721,14 @@ fn run(times: usize) -> bool {
         });
     }
     reordered(&mut tally, 1500 * times);
+    conversion_examples(&mut tally);
+    tally.converted("converted, small", 3000 * times, small_former);
+    tally.converted("converted, damaged", 3000 * times, damaged_former);
+    tally.converted("converted, short outputs", 1000 * times, short_output);
+    for shape in SHAPES {
+        tally.converted(&format!("converted, 100 to 300 pieces, {shape:?}"), 20 * times, |random, number| middle_former(random, shape, number));
+    }
+    tally.days(60 * times);
     tally.all_occurred();
     println!("{} passed, {} failed", tally.passed, tally.failed);
     tally.failed == 0

@@ -14,6 +14,15 @@ pub struct Outcome {
     pub shadows: usize,
 }
 
+/// What a conversion returns. `number` is 0 where a new book of `length` bytes was written, or the number of the refusal, whose record is `place`.
+#[repr(C)]
+#[derive(Clone, Copy, Debug, PartialEq, Eq)]
+pub struct Converted {
+    pub number: usize,
+    pub place: usize,
+    pub length: usize,
+}
+
 /// The least lengths of the four parts of an index; shorter ones are refused by number 1.
 pub const PARENTHESES: usize = 2560;
 pub const MARKS: usize = 1280;
@@ -75,7 +84,69 @@ pub fn index(book: &[u8], index: &mut Parts) -> Outcome {
     }
 }
 
+/// Writes a book of the former edition without its TRAY records to the front of `out`.
+pub fn convert(book: &[u8], out: &mut [u8]) -> Converted {
+    // SAFETY: as above.
+    unsafe { piecebook_convert(book.as_ptr(), book.len(), out.as_mut_ptr(), out.len()) }
+}
+
+/// The least length of a working book's record area.
+pub const AREA: usize = 49152;
+
+/// The counts of a working book.
+#[repr(C)]
+#[derive(Clone, Copy, Debug, PartialEq, Eq)]
+pub struct Working {
+    pub records: usize,
+    pub pieces: usize,
+}
+
+/// What a call on a working book returns; `answer` is 0 but for an answered claim.
+#[repr(C)]
+#[derive(Clone, Copy, Debug, PartialEq, Eq)]
+pub struct WorkingOutcome {
+    pub number: usize,
+    pub place: usize,
+    pub answer: usize,
+}
+
+impl Working {
+    /// Begins with no records.
+    pub fn start(&mut self, area: &mut [u8]) -> WorkingOutcome {
+        // SAFETY: as above.
+        unsafe { piecebook_start(self, area.as_mut_ptr(), area.len()) }
+    }
+
+    /// Adds a record.
+    pub fn add(&mut self, area: &mut [u8], record: &[u8]) -> WorkingOutcome {
+        // SAFETY: as above.
+        unsafe { piecebook_add(self, area.as_mut_ptr(), area.len(), record.as_ptr(), record.len()) }
+    }
+
+    /// Withdraws a record by its number.
+    pub fn withdraw(&mut self, area: &mut [u8], number: usize) -> WorkingOutcome {
+        // SAFETY: as above.
+        unsafe { piecebook_withdraw(self, area.as_mut_ptr(), area.len(), number) }
+    }
+
+    /// Answers one claim.
+    pub fn ask(&mut self, area: &[u8], claim: &[u8]) -> WorkingOutcome {
+        // SAFETY: as above.
+        unsafe { piecebook_ask(self, area.as_ptr(), area.len(), claim.as_ptr(), claim.len()) }
+    }
+}
+
 extern "C" {
+    fn piecebook_start(state: *mut Working, area: *mut u8, area_length: usize) -> WorkingOutcome;
+
+    fn piecebook_add(state: *mut Working, area: *mut u8, area_length: usize, record: *const u8, record_length: usize) -> WorkingOutcome;
+
+    fn piecebook_withdraw(state: *mut Working, area: *mut u8, area_length: usize, record_number: usize) -> WorkingOutcome;
+
+    fn piecebook_ask(state: *mut Working, area: *const u8, area_length: usize, claim: *const u8, claim_length: usize) -> WorkingOutcome;
+
+    fn piecebook_convert(book: *const u8, book_length: usize, out: *mut u8, out_length: usize) -> Converted;
+
     fn piecebook_answer(
         book: *const u8,
         book_length: usize,

@@ -1,7 +1,7 @@
-//! Document 01 once more, from its words, with document 02's: which input is refused, what the index is, what each claim is answered. It knows nothing of the
+//! Document 01 once more, from its words, with document 02's: which input is refused, what the index is, what each claim is answered. It knows nothing of the
 //! library's ways.
 
-use crate::piecebook::{Outcome, DENIED, FOLLOWS, MARKS, OPEN, PARENTHESES, PLACES, SHADOWS};
+use crate::piecebook::{Converted, Outcome, DENIED, FOLLOWS, MARKS, OPEN, PARENTHESES, PLACES, SHADOWS};
 use crate::rules::{has_no_laying, Derived, Fact, Facts, Kind, Rows};
 use std::collections::{BTreeSet, HashSet, VecDeque};
 
@@ -82,8 +82,15 @@ struct Claim {
     restricted: bool,
 }
 
+/// The former edition has TRAY records, kind 5, besides the kinds of the one in force.
+#[derive(Clone, Copy, Debug, PartialEq)]
+pub enum Edition {
+    Former,
+    InForce,
+}
+
 /// Rows 3 to 9.
-fn read_book(book: &[u8]) -> Result<Book, Refusal> {
+fn read_book(book: &[u8], edition: Edition) -> Result<Book, Refusal> {
     let whole = |number| Err((number, 0));
     match book.len() {
         length if length % 6 != 0 => return whole(3),
@@ -97,7 +104,7 @@ fn read_book(book: &[u8]) -> Result<Book, Refusal> {
         let Record { kind, origin, a, b } = record;
         let b_is_piece = kind != 5;
         let rows = [
-            (5, !(1..=5).contains(&kind)),
+            (5, !(1..=4).contains(&kind) && (edition == Edition::InForce || kind != 5)),
             (6, origin > 1),
             (7, a > 2047 || b_is_piece && b > 2047),
             (8, kind == 1 && b >= a),
@@ -303,12 +310,12 @@ fn refused((number, place): Refusal, change: Change) -> (Outcome, Change) {
     (Outcome { number, place, pieces: 0, nodes: 0, shadows: 0 }, change)
 }
 
-fn judge_whole(book: &[u8], claims: Option<&[u8]>, lengths: Lengths, doubt: &mut Option<String>) -> Result<(Outcome, Change), Refusal> {
+fn judge_whole(book: &[u8], edition: Edition, claims: Option<&[u8]>, lengths: Lengths, doubt: &mut Option<String>) -> Result<(Outcome, Change), Refusal> {
     let fits = lengths.parentheses >= 2560 && lengths.marks >= 1280 && lengths.shadows >= 8192 && lengths.places >= 2048;
     if !fits || claims.is_some_and(|claims| lengths.answers < claims.len() / 6) {
         return Err((1, 0));
     }
-    let book = read_book(book)?;
+    let book = read_book(book, edition)?;
     let pieces = book.pieces;
     let claims = claims.map(|claims| read_claims(claims, pieces)).transpose()?;
     if let Some(last) = contradiction(pieces, &book.facts, doubt) {
@@ -324,8 +331,41 @@ fn judge_whole(book: &[u8], claims: Option<&[u8]>, lengths: Lengths, doubt: &mut
 }
 
 /// What the call that answers claims, or without claims the one that writes the index alone, must return and do.
-pub fn judge(book: &[u8], claims: Option<&[u8]>, lengths: Lengths) -> Expected {
+pub fn judge(book: &[u8], edition: Edition, claims: Option<&[u8]>, lengths: Lengths) -> Expected {
     let mut doubt = None;
-    let (outcome, change) = judge_whole(book, claims, lengths, &mut doubt).unwrap_or_else(|refusal| refused(refusal, Change::Nothing));
+    let (outcome, change) = judge_whole(book, edition, claims, lengths, &mut doubt).unwrap_or_else(|refusal| refused(refusal, Change::Nothing));
     Expected { outcome, change, doubt }
+}
+
+/// The new book of a former one, which loses no piece.
+fn without_trays(book: &[u8]) -> Vec<u8> {
+    let named = |r: &Record| if r.kind == 5 { r.a } else { r.a.max(r.b) };
+    let largest = records(book).map(|r| named(&r)).max().unwrap_or(0);
+    let mut new: Vec<u8> = book.chunks_exact(6).filter(|r| r[0] != 5).flatten().copied().collect();
+    if largest > 0 && !records(&new).any(|r| named(&r) == largest) {
+        let [low, high] = (largest as u16).to_le_bytes();
+        new.extend([1, 0, low, high, 0, 0]);
+    }
+    new
+}
+
+fn convert_whole(book: &[u8], room: usize, doubt: &mut Option<String>) -> Result<Vec<u8>, Refusal> {
+    if room < book.len() {
+        return Err((1, 0));
+    }
+    let Book { facts, pieces, .. } = read_book(book, Edition::Former)?;
+    match contradiction(pieces, &facts, doubt) {
+        Some(last) => Err((14, last)),
+        None => Ok(without_trays(book)),
+    }
+}
+
+/// What the converter must return, and the bytes that it must write into so much room, if any.
+pub fn convert(book: &[u8], room: usize) -> (Converted, Vec<u8>, Option<String>) {
+    let mut doubt = None;
+    let (converted, bytes) = match convert_whole(book, room, &mut doubt) {
+        Ok(new) => (Converted { number: 0, place: 0, length: new.len() }, new),
+        Err((number, place)) => (Converted { number, place, length: 0 }, vec![]),
+    };
+    (converted, bytes, doubt)
 }

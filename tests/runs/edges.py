@@ -1,5 +1,5 @@
 """Document 01's edges: what each book must come to, from that document's rows and its list of edges. A book of no bytes is piece 0 alone (R-1);
-byte 1 is the origin (R-5)."""
+byte 1 is the origin (R-5); kind 5 is no kind (R-7)."""
 
 
 def refused(number, place=0):
@@ -27,7 +27,7 @@ def restricted():
         ("chained-from-sheets", [OPEN, FOLLOWS, OPEN, DENIED]),
     ]:
         yield name, book
-        yield name, [*answers, 0]
+        yield name, answers
 
 
 EDGES = [
@@ -35,14 +35,14 @@ EDGES = [
     ("no-bytes-claim-piece-0", accepted(1)),
     ("no-bytes-claim-piece-1", refused(13)),
     ("ragged", refused(3)),
-    ("8192-records", accepted(1)),
+    ("8192-records", accepted(256)),
     ("8193-records", refused(4)),
     ("kind-6", refused(5)),
     ("origin-1", accepted(1)),
     ("origin-2", refused(6)),
     ("piece-2047", accepted(2048)),
     ("piece-2048", refused(7)),
-    ("tray-65535", accepted(1)),
+    ("tray", refused(5, 1)),
     ("PART-3-3", refused(8)),
     ("PART-0-0", refused(8)),
     ("APART-3-4-and-4-3", accepted(5)),

@@ -1,4 +1,5 @@
-"""What records_run must print: document 01's rows 3 to 13 on books and claims that meet each of them.
+"""What records_run must print: document 01's rows 3 to 13 on books and claims that meet each of them, books by the edition in force and by the
+former one, which has TRAY records.
 
 Every row is a condition on a whole record, taken from the table; a book's outcome is the least (place, row) that refuses.
 """
@@ -20,11 +21,11 @@ def named(kind, a, b):
     return {a, b} if kind in FACTS else {a}
 
 
-def record_rows(record, seen):
-    """The numbers of all rows that refuse a record, given the records before it."""
+def record_rows(record, seen, last):
+    """The numbers of all rows that refuse a record, given the records before it and the last kind."""
     kind, origin, a, b = struct.unpack("<BBHH", record)
     tests = {
-        5: not 1 <= kind <= 5,
+        5: not 1 <= kind <= last,
         6: origin > 1,
         7: any(piece > 2047 for piece in named(kind, a, b)),
         8: kind == 1 and not b < a,
@@ -40,6 +41,10 @@ def claim_rows(claim, pieces):
 
 
 def book(data):
+    return f"{edition(data, 4)} {edition(data, 5)}"
+
+
+def edition(data, last):
     lengths = {3: len(data) % 6 != 0, 4: len(data) // 6 > 8192}
     for row in sorted(lengths):
         if lengths[row]:
@@ -47,7 +52,7 @@ def book(data):
     seen, pieces = set(), set()
     refusals = []
     for place, record in enumerate(split(data)):
-        refusals += [(place, row) for row in record_rows(record, seen)]
+        refusals += [(place, row) for row in record_rows(record, seen, last)]
         kind, _, a, b = struct.unpack("<BBHH", record)
         pieces |= named(kind, a, b)
         seen.add(record)
@@ -114,20 +119,20 @@ def lines():
     for run in varied(pack(4, 1, 299), pack(2, 256, 7)):
         yield claims(run, 300)
 
-    trays = [pack(5, i % 2048, i) for i in range(8193)]
-    full = b"".join(trays)
+    many = [pack(2, i % 2048, i // 2048) for i in range(8193)]
+    full = b"".join(many)
     for length in (49152, 49158, 49151, 49157):
         yield book(full[:length])
-    trays[8191] = pack(5, 0, 0)
-    yield book(b"".join(trays[:8192]))
-    yield book(b"".join(trays))
-    trays[8191] = pack(5, 2046, 8190)
-    yield book(b"".join(trays[:8192]))
-    trays[8191] = pack(5, 2047, 65535)
-    yield book(b"".join(trays[:8192]))
-    trays[0] = pack(0, 0, 0)
-    yield book(b"".join(trays[:8192]))
-    yield book(b"".join(trays))
+    many[8191] = pack(2, 0, 0)
+    yield book(b"".join(many[:8192]))
+    yield book(b"".join(many))
+    many[8191] = pack(2, 2046, 3)
+    yield book(b"".join(many[:8192]))
+    many[8191] = pack(5, 2047, 65535)
+    yield book(b"".join(many[:8192]))
+    many[0] = pack(0, 0, 0)
+    yield book(b"".join(many[:8192]))
+    yield book(b"".join(many))
 
     asked = [pack(1, 0, 0)] * 4097
     for length in (24576, 24582, 24581):

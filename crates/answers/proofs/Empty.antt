@@ -16,11 +16,11 @@ use Rattle.rules.specs.Entries.{factsOf, shortestClash}
 use Rattle.records.specs.Record.{recordAt}
 use Rattle.records.specs.Refusal.{refusalNumber, scan}
 use Rattle.records.specs.Pieces.{piecesUpTo, stated, largest}
-use Rattle.records.specs.Check.{bookCheck, claimAt, claimsCheck}
+use Rattle.records.specs.Check.{checkBy, claimAt, claimsCheck}
 use Rattle.records.specs.Facts.{entryOf, entries}
 use Rattle.records.specs.Kept.{picked}
 use Rattle.records.specs.declared.Refusal.{Refusal}
-use Rattle.records.specs.declared.Refusal.the-variants.{ShortBuffer, BookLength, TooManyRecords, Kind, Origin, PieceNumber, Order, Repeat, ClaimsLength, TooManyClaims, ClaimFormat, ClaimPiece, Contradiction}
+use Rattle.records.specs.declared.Refusal.the-variants.{ShortBuffer, BookLength, TooManyRecords, Kind, Origin, PieceNumber, Order, Repeat, ClaimsLength, TooManyClaims, ClaimFormat, ClaimPiece, Contradiction, NotStanding}
 use Rattle.records.specs.declared.ClaimsCheck.the-variants as claims
 use Rattle.records.proofs.Examples.{bytes}
 use Rattle.lists.specs.Numbers.{range, keep, find}
@@ -50,7 +50,7 @@ by-runs = refl
 
 module _ (cs : List ℕ) (l : Lent) (long : shortLent cs l ≡ false) (fit : claimsCheck 1 cs ≡ claims.Accepted) where
   pub empty-outcome : outcome [] cs l ≡ Accepted 1 1 0
-  unfolding outcome byBook bookCheck scan piecesUpTo byClaims
+  unfolding outcome byBook checkBy scan piecesUpTo byClaims
   empty-outcome = rw (long, outcome, fit) by-runs
 
   pub empty-left : left [] cs l (outcome [] cs l) ≡ alone l (answersTo [] 1 cs)
@@ -82,6 +82,7 @@ other TooManyClaims e = omega arith
 other ClaimFormat e = omega arith
 other ClaimPiece e = omega arith
 other Contradiction e = omega arith
+other NotStanding e = omega arith
 
 pub never-two : (o : Outcome) → number o ≡ 2 → ⊥
 never-two (Accepted pieces nodes shadows) e = omega arith

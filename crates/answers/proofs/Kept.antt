@@ -22,6 +22,7 @@ use Rattle.records.specs.Record.{recordAt, records}
 use Rattle.records.specs.Facts.{entries, facts}
 use Rattle.records.specs.Pieces.{pieceCount}
 use Rattle.records.specs.Kept.{sheets}
+use Rattle.records.proofs.Rows.{refused-positive}
 use Rattle.records.proofs.Keeps.{sheets-among, picked-among}
 use Rattle.records.proofs.Accepted.{accepted, accepted-claims}
 use Rattle.index.specs.Index.{visitsOf}
@@ -37,7 +38,7 @@ use Rattle.answers.specs.Agree.{Agree, SheetsAgree}
 use Rattle.answers.specs.Fitting.{Fits, Fitting}
 use Rattle.answers.specs.declared.Outcome.{Outcome}
 use Rattle.answers.specs.declared.Outcome.the-variants.{Accepted, Refused}
-use Rattle.answers.proofs.Outcomes.{Told, told, passed-outcome, refused-positive}
+use Rattle.answers.proofs.Outcomes.{Told, told, passed-outcome}
 use Rattle.answers.proofs.Buffers.{Fitted}
 use Rattle.answers.proofs.Sheets.{fewer-within, fewer-consistent, fewer-follows, fewer-denied}
 

@@ -11,13 +11,15 @@ use Rattle.rules.specs.Entries.{shortestClash}
 use Rattle.records.specs.Record.{recordAt, records}
 use Rattle.records.specs.Refusal.{refusalNumber, row, judge, scan}
 use Rattle.records.specs.Rows.{ragged, moreThan, kindRow, originRow, pieceRow, orderRow, repeatRow, beyondRow}
-use Rattle.records.specs.Check.{formFinding, recordFinding, bookCheck, claimsCheck, claimAt, claimFinding}
+use Rattle.records.specs.Check.{formFinding, recordFinding, checkBy, bookCheck, claimsCheck, claimAt, claimFinding}
 use Rattle.records.specs.Facts.{entries}
 use Rattle.index.specs.Index.{visitsOf}
 use Rattle.records.specs.declared.Record.{Record}
 use Rattle.records.specs.declared.Refusal.{Refusal}
-use Rattle.records.specs.declared.Refusal.the-variants.{ShortBuffer, BookLength, TooManyRecords, Kind, Origin, PieceNumber, Order, Repeat, ClaimsLength, TooManyClaims, ClaimFormat, ClaimPiece, Contradiction}
+use Rattle.records.specs.declared.Refusal.the-variants.{ShortBuffer, BookLength, TooManyRecords, Kind, Origin, PieceNumber, Order, Repeat, ClaimsLength, TooManyClaims, ClaimFormat, ClaimPiece, Contradiction, NotStanding}
 use Rattle.records.specs.declared.Finding.{Finding}
+use Rattle.records.specs.declared.Edition.{Edition}
+use Rattle.records.specs.declared.Edition.the-variants.{Current}
 use Rattle.records.specs.declared.Finding.the-variants.{Fit, Unfit}
 use Rattle.records.specs.declared.Claim.{Claim}
 use Rattle.records.specs.declared.Claim.the-variants.{Sound, Unsound}
@@ -49,13 +51,13 @@ judge-other : (f g : Finding) → Others f → Others g → Others (judge Unfit 
 judge-other Fit g h k = k
 judge-other (Unfit x) g h k = h
 
-form-other : (r : Record) → Others (formFinding r)
+form-other : (e : Edition) (r : Record) → Others (formFinding e r)
 unfolding formFinding
-form-other r = row-other (kindRow r) Kind _ (omega arith) (row-other (originRow r) Origin _ (omega arith) (row-other (pieceRow r) PieceNumber _ (omega arith) (row-other (orderRow r) Order _ (omega arith) fit-other)))
+form-other e r = row-other (kindRow e r) Kind _ (omega arith) (row-other (originRow r) Origin _ (omega arith) (row-other (pieceRow r) PieceNumber _ (omega arith) (row-other (orderRow r) Order _ (omega arith) fit-other)))
 
-record-other : (s : List ℕ) (i : ℕ) → Others (recordFinding s i)
+record-other : (e : Edition) (s : List ℕ) (i : ℕ) → Others (recordFinding e s i)
 unfolding recordFinding
-record-other s i = judge-other (formFinding (recordAt s i)) _ (form-other (recordAt s i)) (row-other (repeatRow s i) Repeat _ (omega arith) fit-other)
+record-other e s i = judge-other (formFinding e (recordAt s i)) _ (form-other e (recordAt s i)) (row-other (repeatRow s i) Repeat _ (omega arith) fit-other)
 
 claim-other : (n : ℕ) (c : Claim) → Others (claimFinding n c)
 claim-other n Unsound = row-other true ClaimFormat Fit (omega arith) fit-other
@@ -77,9 +79,9 @@ BookOther (book.Accepted n) = Unit {0}
 BookOther (book.Refused r i) = Other r
 
 pub book-other : (s : List ℕ) → BookOther (bookCheck s)
-unfolding bookCheck
+unfolding checkBy
 book-other s =
-    judged BookOther book.Refused (λ r i o. o) 0 _ (scanned BookOther book.Refused (λ r i o. o) _ tt (recordFinding s) (record-other s) 0 (records s)) _
+    judged BookOther book.Refused (λ r i o. o) 0 _ (scanned BookOther book.Refused (λ r i o. o) _ tt (recordFinding Current s) (record-other Current s) 0 (records s)) _
     (row-other (ragged s) BookLength _ (omega arith) (row-other (moreThan 8192 s) TooManyRecords _ (omega arith) fit-other))
 
 abbrev pub ClaimsOther : ClaimsCheck → Type 0
@@ -91,22 +93,6 @@ unfolding claimsCheck
 claims-other n cs =
     judged ClaimsOther claims.Refused (λ r i o. o) 0 _ (scanned ClaimsOther claims.Refused (λ r i o. o) _ tt _ (λ i. claim-other n (claimAt cs i)) 0 (records cs)) _
     (row-other (ragged cs) ClaimsLength _ (omega arith) (row-other (moreThan 4096 cs) TooManyClaims _ (omega arith) fit-other))
-
--- and none gives 0
-pub refused-positive : (r : Refusal) → refusalNumber r ≡ 0 → ⊥
-refused-positive ShortBuffer e = omega arith
-refused-positive BookLength e = omega arith
-refused-positive TooManyRecords e = omega arith
-refused-positive Kind e = omega arith
-refused-positive Origin e = omega arith
-refused-positive PieceNumber e = omega arith
-refused-positive Order e = omega arith
-refused-positive Repeat e = omega arith
-refused-positive ClaimsLength e = omega arith
-refused-positive TooManyClaims e = omega arith
-refused-positive ClaimFormat e = omega arith
-refused-positive ClaimPiece e = omega arith
-refused-positive Contradiction e = omega arith
 
 -- ---- from an outcome to the rows
 

@@ -15,13 +15,14 @@ use Rattle.records.specs.Record.{recordAt, records}
 use Rattle.records.specs.Reordered.{Reordered}
 use Rattle.records.specs.Refusal.{scan}
 use Rattle.records.specs.Pieces.{piecesUpTo, stated, largest}
-use Rattle.records.specs.Rows.{sameBytes}
-use Rattle.records.specs.Check.{formFinding, recordFinding, bookCheck, claimsCheck}
+use Rattle.records.specs.Rows.{admitted, sameBytes}
+use Rattle.records.specs.Check.{formFinding, recordFinding, checkBy, bookCheck, claimsCheck}
 use Rattle.records.specs.Facts.{entryOf, entries}
 use Rattle.records.specs.Kept.{bytesAt}
 use Rattle.records.specs.declared.Refusal.the-variants.{Contradiction}
 use Rattle.records.specs.declared.BookCheck.the-variants as book
 use Rattle.records.specs.declared.ClaimsCheck.the-variants as claims
+use Rattle.records.proofs.Rows.{refused-positive}
 use Rattle.records.proofs.Accepted.{accepted}
 use Rattle.records.proofs.Examples.{bytes}
 use Rattle.records.proofs.Orders.{Found, picked-found, count-found, found-before, found-through, found-moved}
@@ -31,7 +32,7 @@ use Rattle.answers.specs.Call.{byRuns, outcome}
 use Rattle.answers.specs.Order.{PlaceDiffers, Steady}
 use Rattle.answers.specs.declared.Outcome.{Outcome}
 use Rattle.answers.specs.declared.Outcome.the-variants.{Accepted, Refused}
-use Rattle.answers.proofs.Outcomes.{Told, told, passed-outcome, refused-positive}
+use Rattle.answers.proofs.Outcomes.{Told, told, passed-outcome}
 use Rattle.answers.proofs.Kept.{kept2}
 
 -- an accepted book ends with a whole record
@@ -79,7 +80,7 @@ two-orders = record {
 }
 
 checks : (bookCheck early ≡ book.Accepted 3) × (bookCheck late ≡ book.Accepted 3)
-unfolding bookCheck scan recordFinding formFinding recordAt stated largest piecesUpTo sameBytes anyBelow
+unfolding checkBy scan recordFinding formFinding admitted recordAt stated largest piecesUpTo sameBytes anyBelow
 checks = (refl, refl)
 
 no-claims : claimsCheck 3 [] ≡ claims.Accepted

@@ -66,96 +66,43 @@ fn ask_short(name: &[u8], book: &[u8]) {
     report(name, outcome);
 }
 
-// TRAY records of piece 0, each on another tray.
-fn trays(book: &mut [u8])
+// MEETS records of two among 256 pieces, all of which differ.
+fn many(book: &mut [u8])
     requires { ⌜ length (now book) ≡ 49158 ⌝ }
     ensures { λ _. ⌜ length (now (book .exit)) ≡ 49158 ⌝ }
 {
     let mut i: usize = 0;
     while i < 8193 {
         let at = 6 * i;
-        book[at] = 5;
+        book[at] = 3;
         book[at + 4] = (i % 256) as u8;
-        book[at + 5] = (i / 256 % 256) as u8;
+        book[at + 2] = (i / 256 % 256) as u8;
         i += 1;
     }
 }
 
 fn full() {
     let mut book = [0u8; 49158];
-    trays(&mut book);
+    many(&mut book);
     ask(b"8192-records", &book[..49152], b"");
     ask(b"8193-records", &book, b"");
 }
 
-// The session's book with MEETS 5 3 added.
-fn contradicted() {
-    let book = [
-        1u8,
-        0,
-        1,
-        0,
-        0,
-        0,
-        1,
-        0,
-        2,
-        0,
-        0,
-        0,
-        1,
-        0,
-        3,
-        0,
-        1,
-        0,
-        1,
-        0,
-        4,
-        0,
-        1,
-        0,
-        1,
-        0,
-        4,
-        0,
-        2,
-        0,
-        1,
-        0,
-        5,
-        0,
-        4,
-        0,
-        2,
-        0,
-        3,
-        0,
-        4,
-        0,
-        3,
-        0,
-        3,
-        0,
-        2,
-        0,
-        4,
-        0,
-        2,
-        0,
-        1,
-        0,
-        3,
-        0,
-        5,
-        0,
-        3,
-        0,
-    ];
-    ask(b"session-and-MEETS-5-3", &book, b"");
+// A name, and four answers.
+fn four(name: &[u8], first: u8, second: u8, third: u8, fourth: u8) {
+    print(name);
+    print(b" ");
+    io::print_decimal(STDOUT_FILENO, first as u64);
+    print(b" ");
+    io::print_decimal(STDOUT_FILENO, second as u64);
+    print(b" ");
+    io::print_decimal(STDOUT_FILENO, third as u64);
+    print(b" ");
+    io::print_decimal(STDOUT_FILENO, fourth as u64);
+    print(b"\n");
 }
 
-// A name, and the answers to four claims.
+// The line of a book, and the answers to four claims on it.
 fn ask_four(name: &[u8], book: &[u8], claims: &[u8]) {
     let mut parens = [0u8; 2560];
     let mut marks = [0u8; 1280];
@@ -172,14 +119,7 @@ fn ask_four(name: &[u8], book: &[u8], claims: &[u8]) {
         &mut answers,
     );
     report(name, outcome);
-    line(
-        name,
-        answers[0],
-        answers[1] as usize,
-        answers[2] as usize,
-        answers[3] as usize,
-        0,
-    );
+    four(name, answers[0], answers[1], answers[2], answers[3]);
 }
 
 // PART 2 1, APART 3 4, MEETS 5 6 and NOTPART 7 8 from the scanner, PART 9 2 from a cutting sheet. Each of the scanner's facts and its opposite, then
@@ -219,64 +159,105 @@ fn restricted() {
     );
 }
 
-fn main() {
+// Rows 3 to 9: lengths, kinds, pieces, order, repeats.
+fn rows() {
     ask(b"no-bytes", b"", b"");
-    ask(b"no-bytes-claim-piece-0", b"", &[3u8, 0, 0, 0, 0, 0]);
-    ask(b"no-bytes-claim-piece-1", b"", &[3u8, 0, 0, 0, 1, 0]);
-    ask(b"ragged", &[5u8, 0, 0, 0, 0], b"");
+    ask(b"no-bytes-claim-piece-0", b"", b"\x03\x00\x00\x00\x00\x00");
+    ask(b"no-bytes-claim-piece-1", b"", b"\x03\x00\x00\x00\x01\x00");
+    ask(b"ragged", b"\x03\x00\x00\x00\x00", b"");
     full();
-    ask(b"kind-6", &[6u8, 0, 0, 0, 0, 0], b"");
-    ask(b"origin-1", &[5u8, 1, 0, 0, 0, 0], b"");
-    ask(b"origin-2", &[5u8, 2, 0, 0, 0, 0], b"");
-    ask(b"piece-2047", &[2u8, 0, 1, 0, 255, 7], b"");
-    ask(b"piece-2048", &[2u8, 0, 1, 0, 0, 8], b"");
-    ask(b"tray-65535", &[5u8, 0, 0, 0, 255, 255], b"");
-    ask(b"PART-3-3", &[1u8, 0, 3, 0, 3, 0], b"");
-    ask(b"PART-0-0", &[1u8, 0, 0, 0, 0, 0], b"");
+    ask(b"kind-6", b"\x06\x00\x00\x00\x00\x00", b"");
+    ask(b"origin-1", b"\x03\x01\x00\x00\x00\x00", b"");
+    ask(b"origin-2", b"\x03\x02\x00\x00\x00\x00", b"");
+    ask(b"piece-2047", b"\x02\x00\x01\x00\xff\x07", b"");
+    ask(b"piece-2048", b"\x02\x00\x01\x00\x00\x08", b"");
     ask(
-        b"APART-3-4-and-4-3",
-        &[2u8, 0, 3, 0, 4, 0, 2, 0, 4, 0, 3, 0],
+        b"tray",
+        b"\x03\x00\x00\x00\x00\x00\x05\x00\x00\x00\xff\xff",
         b"",
     );
-    ask(b"repeat", &[2u8, 0, 3, 0, 4, 0, 2, 0, 3, 0, 4, 0], b"");
+    ask(b"PART-3-3", b"\x01\x00\x03\x00\x03\x00", b"");
+    ask(b"PART-0-0", b"\x01\x00\x00\x00\x00\x00", b"");
+    ask(
+        b"APART-3-4-and-4-3",
+        b"\x02\x00\x03\x00\x04\x00\x02\x00\x04\x00\x03\x00",
+        b"",
+    );
+    ask(
+        b"repeat",
+        b"\x02\x00\x03\x00\x04\x00\x02\x00\x03\x00\x04\x00",
+        b"",
+    );
+}
+
+// Origins: a fact once of each, and a contradiction of both.
+fn origins() {
     ask(
         b"APART-3-4-of-both-origins",
-        &[2u8, 0, 3, 0, 4, 0, 2, 1, 3, 0, 4, 0],
+        b"\x02\x00\x03\x00\x04\x00\x02\x01\x03\x00\x04\x00",
         b"",
     );
     ask(
         b"PART-1-0-of-both-origins",
-        &[1u8, 1, 1, 0, 0, 0, 1, 0, 1, 0, 0, 0],
+        b"\x01\x01\x01\x00\x00\x00\x01\x00\x01\x00\x00\x00",
         b"",
     );
     ask(
         b"repeat-of-origin-1",
-        &[2u8, 1, 3, 0, 4, 0, 2, 1, 3, 0, 4, 0],
+        b"\x02\x01\x03\x00\x04\x00\x02\x01\x03\x00\x04\x00",
         b"",
     );
     ask(
         b"contradiction-of-both-origins",
-        &[1u8, 0, 2, 0, 1, 0, 2, 1, 2, 0, 1, 0],
+        b"\x01\x00\x02\x00\x01\x00\x02\x01\x02\x00\x01\x00",
         b"",
     );
-    ask(b"APART-2-2", &[2u8, 0, 2, 0, 2, 0], b"");
-    ask(b"NOTPART-1-0", &[4u8, 0, 1, 0, 0, 0], b"");
-    ask(b"APART-1-0", &[2u8, 0, 1, 0, 0, 0], b"");
-    ask(b"NOTPART-0-1", &[4u8, 0, 0, 0, 1, 0], b"");
-    contradicted();
-    ask(b"claim-ragged", &[5u8, 0, 0, 0, 0, 0], b"\x01");
-    ask(b"claim-kind", &[5u8, 0, 0, 0, 0, 0], &[5u8, 0, 0, 0, 0, 0]);
+}
+
+// Row 14.
+fn contradictions() {
+    ask(b"APART-2-2", b"\x02\x00\x02\x00\x02\x00", b"");
+    ask(b"NOTPART-1-0", b"\x04\x00\x01\x00\x00\x00", b"");
+    ask(b"APART-1-0", b"\x02\x00\x01\x00\x00\x00", b"");
+    ask(b"NOTPART-0-1", b"\x04\x00\x00\x00\x01\x00", b"");
+    // the session's book with MEETS 5 3 added
+    ask(
+        b"session-and-MEETS-5-3",
+        b"\x01\x00\x01\x00\x00\x00\x01\x00\x02\x00\x00\x00\x01\x00\x03\x00\x01\x00\x01\x00\x04\x00\x01\x00\x01\x00\x04\x00\x02\x00\x01\x00\x05\x00\x04\x00\x02\x00\x03\x00\x04\x00\x03\x00\x03\x00\x02\x00\x04\x00\x02\x00\x01\x00\x03\x00\x05\x00\x03\x00",
+        b"",
+    );
+}
+
+// Rows 10 to 13.
+fn claim_rows() {
+    ask(b"claim-ragged", b"\x03\x00\x00\x00\x00\x00", b"\x01");
+    ask(
+        b"claim-kind",
+        b"\x03\x00\x00\x00\x00\x00",
+        b"\x05\x00\x00\x00\x00\x00",
+    );
     ask(
         b"claim-origin-1",
-        &[5u8, 0, 0, 0, 0, 0],
-        &[1u8, 1, 0, 0, 0, 0],
+        b"\x03\x00\x00\x00\x00\x00",
+        b"\x01\x01\x00\x00\x00\x00",
     );
     ask(
         b"claim-origin-2",
-        &[5u8, 0, 0, 0, 0, 0],
-        &[1u8, 2, 0, 0, 0, 0],
+        b"\x03\x00\x00\x00\x00\x00",
+        b"\x01\x02\x00\x00\x00\x00",
     );
-    ask(b"claim-piece", &[5u8, 0, 0, 0, 0, 0], &[1u8, 0, 1, 0, 0, 0]);
+    ask(
+        b"claim-piece",
+        b"\x03\x00\x00\x00\x00\x00",
+        b"\x01\x00\x01\x00\x00\x00",
+    );
+}
+
+fn main() {
+    rows();
+    origins();
+    contradictions();
+    claim_rows();
     restricted();
-    ask_short(b"places-2047", &[5u8, 0, 0, 0, 0, 0]);
+    ask_short(b"places-2047", b"\x03\x00\x00\x00\x00\x00");
 }

@@ -6,6 +6,7 @@ pub mod Ranks
 pub mod Founds
 pub mod Selects
 pub mod Excesses
+pub mod Lanes
 pub mod Margins
 pub mod Closes
 pub mod Encloses

@@ -7,4 +7,5 @@ pub mod Subtree
 pub mod Enclose
 pub mod Found
 pub mod Tables
+pub mod Words
 pub mod Forest

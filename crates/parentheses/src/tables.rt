@@ -1,4 +1,4 @@
-// Two constant tables with an entry for each byte: how many of its bits are 1, and its lowest running excess.
+// What a byte adds to a count and to a depth: how many of its bits are 1, by their sum, and its lowest running excess, by a constant table.
 ghost use mathlib.Core.Path.{_≡_};
 ghost use Prim.Native.Nat.{_+_, _-_, _*_, _^_, _<_, _≤_};
 ghost use lib.IntN.{pos, _+ℤ_};
@@ -6,27 +6,60 @@ ghost use lib.ListN.{length};
 ghost use Rattle.lists.specs.Tab.{tab};
 ghost use Rattle.parentheses.specs.Bits.{bits};
 ghost use Rattle.parentheses.specs.Rank.{rank};
-ghost use Rattle.parentheses.specs.Tables.{onesOf, lowestOf};
+ghost use Rattle.parentheses.specs.Tables.{lowestOf};
+ghost use Rattle.parentheses.specs.Words.{wordAt, folded, onesIn};
 
-// How many bits of b are 1, by the table.
-fn ones_of(table: &[u8; 256], b: u8) -> usize
-    requires { ⌜ now table ≡ tab onesOf 0 256 ⌝ }
-    ensures { λ r. ⌜ (r ≡ onesOf b) × (r ≤ 8) ⌝ }
+fn wide(x: u8) -> u64
+    ensures { λ r. ⌜ (r ≡ x) × (r < 256) ⌝ }
 {
-    table[b as usize] as usize
+    x as u64
 }
 
-// How many bits of the bytes from one up to before another are 1: the one count that reads the table of ones, fetched once for the run.
+// Eight bytes as one word, low byte first.
+fn word_at(bytes: &[u8], i: usize) -> u64
+    requires { ⌜ (i + 8 ≤ length (now bytes)) × (i + 8 < 2 ^ 64) ⌝ }
+    ensures { λ r. ⌜ r ≡ wordAt (now (bytes .entry)) i ⌝ }
+{
+    let high = ((wide(bytes[i + 7]) * 256 + wide(bytes[i + 6])) * 256 + wide(bytes[i + 5])) * 256
+        + wide(bytes[i + 4]);
+    (((high * 256 + wide(bytes[i + 3])) * 256 + wide(bytes[i + 2])) * 256 + wide(bytes[i + 1]))
+        * 256
+        + wide(bytes[i])
+}
+
+// The fields of w under a mask, each with the one s bits higher added to it.
+fn fold(w: u64, s: u32, mask: u64) -> u64
+    requires { ⌜ (s < 64) × (mask < 2 ^ 63) ⌝ }
+    ensures { λ r. ⌜ r ≡ folded (2 ^ s) mask w ⌝ }
+{
+    (w & mask) + ((w >> s) & mask)
+}
+
+// How many bits of the eight bytes of w are 1: the sum of its bits, in pairs, in fours, in each byte, and then of the bytes.
+fn ones_of(w: u64) -> usize
+    ensures { λ r. ⌜ (r ≡ onesIn 8 w) × (r ≤ 64) ⌝ }
+{
+    let pairs = fold(w, 1, 0x5555555555555555);
+    let fours = fold(pairs, 2, 0x3333333333333333);
+    let bytes = fold(fours, 4, 0x0f0f0f0f0f0f0f0f);
+    (bytes % 255) as usize
+}
+
+// How many bits of the bytes from one up to before another are 1: the one count of ones, eight bytes at a time while there are eight.
 pub fn ones_in(bytes: &[u8], from: usize, to: usize) -> usize
     requires { ⌜ (from ≤ to) × (to ≤ length (now bytes)) × (8 * to < 2 ^ 64) ⌝ }
     ensures { λ r. ⌜ (rank (bits (now (bytes .entry))) (8 * from) + r ≡ rank (bits (now (bytes .entry))) (8 * to)) × (r ≤ 8 * (to - from)) ⌝ }
 {
-    let table = ONES;
     let mut n: usize = 0;
     let mut i = from;
     while i < to {
-        n += ones_of(&table, bytes[i]);
-        i += 1;
+        if to - i < 8 {
+            n += ones_of(wide(bytes[i]));
+            i += 1;
+            continue;
+        }
+        n += ones_of(word_at(bytes, i));
+        i += 8;
     }
     n
 }
@@ -46,265 +79,6 @@ pub fn margin_of(table: &[i8; 256], b: u8) -> usize
 {
     (lowest_of(table, b) + 8) as usize
 }
-
-const ONES: [u8; 256] = [
-    0,
-    1,
-    1,
-    2,
-    1,
-    2,
-    2,
-    3,
-    1,
-    2,
-    2,
-    3,
-    2,
-    3,
-    3,
-    4,
-    1,
-    2,
-    2,
-    3,
-    2,
-    3,
-    3,
-    4,
-    2,
-    3,
-    3,
-    4,
-    3,
-    4,
-    4,
-    5,
-    1,
-    2,
-    2,
-    3,
-    2,
-    3,
-    3,
-    4,
-    2,
-    3,
-    3,
-    4,
-    3,
-    4,
-    4,
-    5,
-    2,
-    3,
-    3,
-    4,
-    3,
-    4,
-    4,
-    5,
-    3,
-    4,
-    4,
-    5,
-    4,
-    5,
-    5,
-    6,
-    1,
-    2,
-    2,
-    3,
-    2,
-    3,
-    3,
-    4,
-    2,
-    3,
-    3,
-    4,
-    3,
-    4,
-    4,
-    5,
-    2,
-    3,
-    3,
-    4,
-    3,
-    4,
-    4,
-    5,
-    3,
-    4,
-    4,
-    5,
-    4,
-    5,
-    5,
-    6,
-    2,
-    3,
-    3,
-    4,
-    3,
-    4,
-    4,
-    5,
-    3,
-    4,
-    4,
-    5,
-    4,
-    5,
-    5,
-    6,
-    3,
-    4,
-    4,
-    5,
-    4,
-    5,
-    5,
-    6,
-    4,
-    5,
-    5,
-    6,
-    5,
-    6,
-    6,
-    7,
-    1,
-    2,
-    2,
-    3,
-    2,
-    3,
-    3,
-    4,
-    2,
-    3,
-    3,
-    4,
-    3,
-    4,
-    4,
-    5,
-    2,
-    3,
-    3,
-    4,
-    3,
-    4,
-    4,
-    5,
-    3,
-    4,
-    4,
-    5,
-    4,
-    5,
-    5,
-    6,
-    2,
-    3,
-    3,
-    4,
-    3,
-    4,
-    4,
-    5,
-    3,
-    4,
-    4,
-    5,
-    4,
-    5,
-    5,
-    6,
-    3,
-    4,
-    4,
-    5,
-    4,
-    5,
-    5,
-    6,
-    4,
-    5,
-    5,
-    6,
-    5,
-    6,
-    6,
-    7,
-    2,
-    3,
-    3,
-    4,
-    3,
-    4,
-    4,
-    5,
-    3,
-    4,
-    4,
-    5,
-    4,
-    5,
-    5,
-    6,
-    3,
-    4,
-    4,
-    5,
-    4,
-    5,
-    5,
-    6,
-    4,
-    5,
-    5,
-    6,
-    5,
-    6,
-    6,
-    7,
-    3,
-    4,
-    4,
-    5,
-    4,
-    5,
-    5,
-    6,
-    4,
-    5,
-    5,
-    6,
-    5,
-    6,
-    6,
-    7,
-    4,
-    5,
-    5,
-    6,
-    5,
-    6,
-    6,
-    7,
-    5,
-    6,
-    6,
-    7,
-    6,
-    7,
-    7,
-    8,
-];
 
 pub const LOWEST: [i8; 256] = [
     -8,

@@ -2,6 +2,7 @@
 use Prim.Native.Nat.{ℕ}
 use mathlib.Core.Path.{_≡_, refl, ap, subst, _∙_}
 use mathlib.Core.List.{List}
+use lib.ListN as on
 use Rattle.records.specs.Refusal.{refusalNumber}
 use Rattle.records.specs.declared.Refusal.{Refusal}
 use Rattle.answers.specs.Lent.{Lent}
@@ -11,6 +12,14 @@ use Rattle.answers.specs.Fitting.{Fitting}
 use Rattle.answers.proofs.Calls.{Promised}
 use Rattle.answers.specs.declared.Outcome.{Outcome}
 use Rattle.answers.specs.declared.Outcome.the-variants.{Refused}
+use Rattle.convert.specs.Conversion as of
+use Rattle.convert.specs.Converted.{converted}
+use Rattle.convert.specs.Same.{InForce, SameAnswers}
+use Rattle.convert.specs.declared.Conversion.{Conversion}
+use Rattle.convert.specs.declared.Conversion.the-variants as to
+use Rattle.convert.proofs.Writes as convert
+use Rattle.piecebook.specs.Converts.{Told, Converts}
+use Rattle.piecebook.specs.declared.PiecebookConverted.{PiecebookConverted}
 use Rattle.piecebook.specs.Exported.{Reported, Exported}
 use Rattle.piecebook.specs.declared.PiecebookResult.{PiecebookResult}
 
@@ -31,3 +40,15 @@ handed s cs l o l′ r (D, (a, (b, (c, f)))) R =
       record { reported = subst (λ (x : Outcome). Reported x r) (D .0) R; left-is = D .1 ∙ ap (left s cs l) (D .0) },
       (rw n a, (rw n b, (rw (n, p) c, rw (n, k) f))),
     )
+
+-- the same of a conversion
+pub told-refused : (c : Conversion) (x : Refusal) (i n : ℕ) → c ≡ to.Refused x i → n ≡ refusalNumber x → Told c (record { number = n; place = i; length = 0 })
+told-refused c x i n e f = rw e (record { number-is = f; place-is = refl; length-is = refl })
+
+abbrev Passed : List ℕ → List ℕ → PiecebookConverted → List ℕ → Type 0
+Passed s out r out′ = Converts s out r out′ × ((r .number ≡ 0 → InForce s (converted s)) × (r .number ≡ 0 → SameAnswers s (converted s)))
+
+pub passed : (s out : List ℕ) (c : Conversion) (out′ : List ℕ) (r : PiecebookConverted) → convert.Promised s out c out′ → Told c r → Passed s out r out′
+passed s out c out′ r (D, (a, b)) T =
+    let n = T .number-is in
+    (record { told = subst (λ (x : Conversion). Told x r) (D .0) T; left-is = D .1 ∙ ap (of.left s out) (D .0) }, (rw n a, rw n b))

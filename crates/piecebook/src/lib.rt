@@ -1,11 +1,18 @@
-// The calls of include/piecebook.h: the two calls of `answers`, with document 01's numbers for an outcome.
+// The calls of include/piecebook.h: those of `answers`, `working` and `convert`, with document 01's numbers for an outcome.
 ghost use mathlib.Core.Path.{_≡_};
 ghost use mathlib.Core.List.{[]};
 ghost use Rattle.answers.specs.Lent.{lent};
 ghost use Rattle.answers.specs.Demands.{Demand2, Demand3, Contradicted};
 ghost use Rattle.answers.specs.Fitting.{Fitting};
 ghost use Rattle.piecebook.specs.Exported.{Reported, Exported};
+ghost use Rattle.piecebook.specs.OpenBook.{Started, Added, Withdrawn, Answered, Replied, stateOf};
+ghost use Rattle.convert.specs.Converted.{converted};
+ghost use Rattle.convert.specs.Same.{InForce, SameAnswers};
+ghost use Rattle.piecebook.specs.Converts.{Told, Converts};
 use answers::Outcome;
+use convert::Conversion;
+use working::Settled;
+use working::Working;
 
 // The outcome as include/piecebook.h has it.
 #[repr(C)]
@@ -80,4 +87,179 @@ pub extern "C" fn piecebook_index(
 {
     let outcome = answers::write_index(book, parens, marks, shadows, places);
     result_of(outcome)
+}
+
+// The counts of a working book, which the caller keeps beside its record area.
+#[repr(C)]
+pub struct PiecebookWorking {
+    pub records: usize,
+    pub pieces: usize,
+}
+
+// What a call on a working book comes to; the answer is 0 but for an answered claim.
+#[repr(C)]
+pub struct PiecebookWorkingResult {
+    pub number: usize,
+    pub place: usize,
+    pub answer: usize,
+}
+
+// The counts after a call, and its result.
+#[repr(C)]
+pub struct PiecebookWorked {
+    pub working: PiecebookWorking,
+    pub result: PiecebookWorkingResult,
+}
+
+fn told(outcome: Outcome, answer: usize) -> PiecebookWorkingResult
+    ensures { λ r. ⌜ Replied outcome answer r ⌝ }
+{
+    match outcome {
+        Outcome::Accepted(_, _, _) => PiecebookWorkingResult {
+            number: 0,
+            place: 0,
+            answer,
+        },
+        Outcome::Refused(refusal, place) => PiecebookWorkingResult {
+            number: wide(records::refusal_number(refusal)),
+            place,
+            answer,
+        },
+    }
+}
+
+fn state_of(working: PiecebookWorking) -> Working
+    ensures { λ r. ⌜ r ≡ stateOf working ⌝ }
+{
+    Working {
+        records: working.records,
+        pieces: working.pieces,
+    }
+}
+
+fn worked(settled: Settled) -> PiecebookWorked
+    ensures { λ r. ⌜ (stateOf (r .working) ≡ settled .working) × Replied (settled .outcome) 0 (r .result) ⌝ }
+{
+    let state = settled.working;
+    let outcome = settled.outcome;
+    PiecebookWorked {
+        working: PiecebookWorking {
+            records: state.records,
+            pieces: state.pieces,
+        },
+        result: told(outcome, 0),
+    }
+}
+
+// By value: an addition, a withdrawal and a claim.
+pub fn add_to(was: PiecebookWorking, area: &mut [u8], addition: &[u8]) -> PiecebookWorked
+    ensures { λ r. ⌜ Added was (now (area .entry)) (now (addition .entry)) (r .result) (r .working) (now (area .exit)) ⌝ }
+{
+    let settled = working::add_to(state_of(was), area, addition);
+    worked(settled)
+}
+
+pub fn withdraw_from(was: PiecebookWorking, area: &mut [u8], number: usize) -> PiecebookWorked
+    ensures { λ r. ⌜ Withdrawn was (now (area .entry)) number (r .result) (r .working) (now (area .exit)) ⌝ }
+{
+    let settled = working::withdraw_from(state_of(was), area, number);
+    worked(settled)
+}
+
+pub fn ask_of(was: PiecebookWorking, area: &[u8], claim: &[u8]) -> PiecebookWorkingResult
+    ensures { λ r. ⌜ Answered was (now (area .entry)) (now (claim .entry)) r ⌝ }
+{
+    let asked = working::ask_of(state_of(was), area, claim);
+    let outcome = asked.outcome;
+    told(outcome, wide(asked.answer))
+}
+
+// The counts are lent as two numbers, which is how C lays them out. A refused start leaves them.
+#[no_mangle]
+pub extern "C" fn piecebook_start(state: &mut [usize; 2], area: &mut [u8]) -> PiecebookWorkingResult
+    ensures { λ r. ⌜ Started (now (state .entry)) (now (area .entry)) r (now (state .exit)) (now (area .exit)) ⌝ }
+{
+    let settled = working::start(area);
+    let begun = settled.working;
+    let outcome = settled.outcome;
+    match outcome {
+        Outcome::Refused(refusal, place) => told(Outcome::Refused(refusal, place), 0),
+        Outcome::Accepted(pieces, nodes, shadows) => {
+            *state = [begun.records, begun.pieces];
+            told(Outcome::Accepted(pieces, nodes, shadows), 0)
+        }
+    }
+}
+
+#[no_mangle]
+pub extern "C" fn piecebook_add(
+    state: &mut PiecebookWorking,
+    area: &mut [u8],
+    addition: &[u8],
+) -> PiecebookWorkingResult
+    ensures { λ r. ⌜ Added (now (state .entry)) (now (area .entry)) (now (addition .entry)) r (now (state .exit)) (now (area .exit)) ⌝ }
+{
+    let done = add_to(*state, area, addition);
+    *state = done.working;
+    done.result
+}
+
+#[no_mangle]
+pub extern "C" fn piecebook_withdraw(
+    state: &mut PiecebookWorking,
+    area: &mut [u8],
+    number: usize,
+) -> PiecebookWorkingResult
+    ensures { λ r. ⌜ Withdrawn (now (state .entry)) (now (area .entry)) number r (now (state .exit)) (now (area .exit)) ⌝ }
+{
+    let done = withdraw_from(*state, area, number);
+    *state = done.working;
+    done.result
+}
+
+// A claim changes nothing.
+#[no_mangle]
+pub extern "C" fn piecebook_ask(
+    state: &mut PiecebookWorking,
+    area: &[u8],
+    claim: &[u8],
+) -> PiecebookWorkingResult
+    ensures { λ r. ⌜ Answered (now (state .entry)) (now (area .entry)) (now (claim .entry)) r × (now (state .exit) ≡ now (state .entry)) ⌝ }
+{
+    ask_of(*state, area, claim)
+}
+
+// A conversion as include/piecebook.h has it.
+#[repr(C)]
+pub struct PiecebookConverted {
+    pub number: usize,
+    pub place: usize,
+    pub length: usize,
+}
+
+fn converted_of(conversion: Conversion) -> PiecebookConverted
+    ensures { λ r. ⌜ Told conversion r ⌝ }
+{
+    match conversion {
+        Conversion::Written(length) => PiecebookConverted {
+            number: 0,
+            place: 0,
+            length,
+        },
+        Conversion::Refused(refusal, place) => PiecebookConverted {
+            number: wide(records::refusal_number(refusal)),
+            place,
+            length: 0,
+        },
+    }
+}
+
+#[no_mangle]
+pub extern "C" fn piecebook_convert(book: &[u8], out: &mut [u8]) -> PiecebookConverted
+    ensures converts { λ r. ⌜ Converts (now (book .entry)) (now (out .entry)) r (now (out .exit)) ⌝ }
+    ensures accepted { λ r. ⌜ (r .number ≡ 0 → InForce (now (book .entry)) (converted (now (book .entry)))) ⌝ }
+    ensures same { λ r. ⌜ (r .number ≡ 0 → SameAnswers (now (book .entry)) (converted (now (book .entry)))) ⌝ }
+{
+    let conversion = convert::convert(book, out);
+    converted_of(conversion)
 }

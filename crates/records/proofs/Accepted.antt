@@ -8,10 +8,12 @@ use lib.ListN.{length, getD}
 use lib.Dec.{eqb, ltb, leb}
 use borrow.Author.Tests.{eqb-true, eqb-false, ltb-true, ltb-false, leb-false, leb-true, not-false}
 use Rattle.lists.proofs.Bools.{and-both, Known, is-true, is-false, known, not-true}
-use Rattle.lists.proofs.Anys.{below-hit}
+use Rattle.lists.proofs.Anys.{below-hit, below-find}
 use Rattle.rules.specs.Fact.{Fact, PART, APART, MEETS, NOTPART, kind, left, right, factOf, Within, AllWithin}
 use Rattle.records.specs.declared.Record.{Record}
 use Rattle.records.specs.declared.Refusal.{Refusal}
+use Rattle.records.specs.declared.Edition.{Edition}
+use Rattle.records.specs.declared.Edition.the-variants.{Current}
 use Rattle.records.specs.declared.Finding.{Finding}
 use Rattle.records.specs.declared.Finding.the-variants.{Fit, Unfit}
 use Rattle.records.specs.declared.Claim.the-variants.{Sound}
@@ -21,10 +23,11 @@ use Rattle.records.specs.Record.{recordAt, records}
 use Rattle.records.specs.Refusal.{row, scan}
 use Rattle.records.specs.Pieces.{stated, largest, pieceCount}
 use Rattle.records.specs.Rows.{ragged, moreThan, sameBytes, repeatRow, claimRow, beyondRow}
-use Rattle.records.specs.Check.{bookLength, formFinding, recordFinding, recordsCheck, bookCheck, read, claimAt, claimFinding, claimsLength, claimsCheck}
+use Rattle.records.specs.Check.{bookLength, formFinding, recordFinding, recordsCheck, checkBy, bookCheck, read, claimAt, claimFinding, claimsLength, claimsCheck}
 use Rattle.records.specs.Facts.{saying, facts}
-use Rattle.records.proofs.Rows.{Formed, formed, row-fit, both-largest}
-use Rattle.records.proofs.Scans.{judged, all-fit}
+use Rattle.records.proofs.Rows.{Formed, formed, fits, row-fit, both-largest}
+use Rattle.records.proofs.Scans.{judged, all-fit, all-pass}
+use Rattle.records.proofs.Books.{form-new, measured}
 use Rattle.records.proofs.Keys.{equal-bytes}
 use Rattle.records.proofs.Runs.{fact-from, pieces-positive, pieces-cover, pieces-least}
 
@@ -73,41 +76,52 @@ facts-within s f m =
     let o = fact-from s f m in
     subst (Within (pieceCount s)) (o .3) (says-within (recordAt s (o .0)) (pieceCount s) (o .2) (pieces-cover s (records s) (o .0) (o .1)))
 
--- An accepted book of p pieces.
-pub record AcceptedBook (s : List ℕ) (p : ℕ) : Type 0 where
+-- A book of p pieces that an edition accepts.
+pub record AcceptedBook (e : Edition) (s : List ℕ) (p : ℕ) : Type 0 where
   pub few : records s ≤ 8192
   pub whole : length s ≡ 6 * records s
   pub count : p ≡ pieceCount s
-  pub each : (i : ℕ) → i < records s → Formed (recordAt s i)
+  pub each : (i : ℕ) → i < records s → Formed e (recordAt s i)
   pub new : (i j : ℕ) → i < records s → j < i → sameBytes s (6 * i) (6 * j) 6 ≡ false
 
-record-fit : (s : List ℕ) (i : ℕ) → recordFinding s i ≡ Fit → (formFinding (recordAt s i) ≡ Fit) × (repeatRow s i ≡ false)
+record-fit : (e : Edition) (s : List ℕ) (i : ℕ) → recordFinding e s i ≡ Fit → (formFinding e (recordAt s i) ≡ Fit) × (repeatRow s i ≡ false)
 unfolding recordFinding
-record-fit s i e =
-    let j = judged Unfit (row (repeatRow s i) _ Fit) (formFinding (recordAt s i)) (λ r q. let z : _≡_ {A = ℕ} 0 1 = cc in omega arith) e in
+record-fit e s i q =
+    let j = judged Unfit (row (repeatRow s i) _ Fit) (formFinding e (recordAt s i)) (λ r q. let z : _≡_ {A = ℕ} 0 1 = cc in omega arith) q in
     (j .0, row-fit (repeatRow s i) _ _ (j .1) .0)
 
 no-acceptance : (p : ℕ) (r : Refusal) (i : ℕ) → book.Refused r i ≡ book.Accepted p → ⊥
 no-acceptance p r i q = let z : _≡_ {A = ℕ} 0 1 = cc in omega arith
 
-pub accepted : (s : List ℕ) (p : ℕ) → bookCheck s ≡ book.Accepted p → AcceptedBook s p
-unfolding bookCheck
-accepted s p e =
-    let j = judged (λ r. book.Refused r 0) (recordsCheck s (records s)) (bookLength s) (λ r. no-acceptance p r 0) e in
+pub accepted-by : (e : Edition) (s : List ℕ) (p : ℕ) → checkBy e s ≡ book.Accepted p → AcceptedBook e s p
+unfolding checkBy
+accepted-by e s p q =
+    let j = judged (λ r. book.Refused r 0) (recordsCheck e s (records s)) (bookLength s) (λ r. no-acceptance p r 0) q in
     let m = row-fit (ragged s) _ _ (j .0) in
     let n = ltb-false 8192 (records s) (row-fit (moreThan 8192 s) _ _ (m .1) .0) in
     let w = eqb-true (length s % 6) 0 (not-false (eqb (length s % 6) 0) (m .0)) in
-    let a = all-fit book.Refused (book.Accepted (pieceCount s)) (recordFinding s) (no-acceptance p) (records s) (j .1) in
+    let a = all-fit book.Refused (book.Accepted (pieceCount s)) (recordFinding e s) (no-acceptance p) (records s) (j .1) in
     let q = a .0 in
     record {
       few = n;
       whole = omega arith;
       count = cc;
-      each = λ i h. formed (recordAt s i) (record-fit s i (a .1 i h) .0);
-      new = λ i j h l. not-true _ (λ t. false≢true (sym (record-fit s i (a .1 i h) .1) ∙ below-hit (λ j. sameBytes s (6 * i) (6 * j) 6) i j l t));
+      each = λ i h. formed e (recordAt s i) (record-fit e s i (a .1 i h) .0);
+      new = λ i j h l. not-true _ (λ t. false≢true (sym (record-fit e s i (a .1 i h) .1) ∙ below-hit (λ j. sameBytes s (6 * i) (6 * j) 6) i j l t));
     }
 
-module _ {s : List ℕ} {p : ℕ} (b : AcceptedBook s p) where
+pub accepted : (s : List ℕ) (p : ℕ) → bookCheck s ≡ book.Accepted p → AcceptedBook Current s p
+accepted s p = accepted-by Current s p
+
+-- and the edition accepts such a book
+pub acceptable : (e : Edition) (s : List ℕ) (p : ℕ) → AcceptedBook e s p → checkBy e s ≡ book.Accepted p
+acceptable e s p b =
+    sym (measured e s (omega (arith, b .whole)) (b .few))
+    ∙ all-pass book.Refused (book.Accepted (pieceCount s)) (recordFinding e s) 0 (records s)
+    (λ i h. form-new e s i (fits e (recordAt s i) (b .each i (omega arith))) (not-true _ (λ t. let f = below-find (λ j. sameBytes s (6 * i) (6 * j) 6) i t in false≢true (sym (b .new i (f .0) (omega arith) (f .1)) ∙ f .2))))
+    ∙ ap book.Accepted (sym (b .count))
+
+module _ {e : Edition} {s : List ℕ} {p : ℕ} (b : AcceptedBook e s p) where
   pub accepted-within : AllWithin p (facts s)
   accepted-within = rw (b .count) (facts-within s)
 

@@ -14,8 +14,8 @@ use Rattle.records.specs.declared.ClaimsCheck.the-variants as claims
 use Rattle.records.specs.Record.{recordAt}
 use Rattle.records.specs.Refusal.{scan}
 use Rattle.records.specs.Pieces.{stated, largest, piecesUpTo}
-use Rattle.records.specs.Rows.{sameBytes}
-use Rattle.records.specs.Check.{formFinding, recordFinding, bookCheck, claimAt, claimsCheck}
+use Rattle.records.specs.Rows.{admitted, sameBytes}
+use Rattle.records.specs.Check.{formFinding, recordFinding, checkBy, bookCheck, formerCheck, claimAt, claimsCheck}
 use Rattle.records.specs.Facts.{entryOf, entries}
 
 abbrev pub bytes : ℕ → ℕ → ℕ → ℕ → List ℕ
@@ -33,16 +33,23 @@ session-entries = refl
 abbrev outcomes : List BookCheck
 outcomes =
     map bookCheck
-    (book ∷ [] ∷ (0 ∷ []) ∷ bytes 1 0 2047 0 ∷ bytes 1 0 2048 0 ∷ bytes 2 0 0 2048 ∷ bytes 5 0 3 65535 ∷ bytes 1 0 3 3 ∷ bytes 1 0 0 0 ∷ (bytes 2 0 3 4 ++ bytes 2 0 4 3)
+    (book ∷ [] ∷ (0 ∷ []) ∷ bytes 1 0 2047 0 ∷ bytes 1 0 2048 0 ∷ bytes 2 0 0 2048 ∷ bytes 5 0 3 4 ∷ bytes 1 0 3 3 ∷ bytes 1 0 0 0 ∷ (bytes 2 0 3 4 ++ bytes 2 0 4 3)
     ∷ (bytes 2 0 3 4 ++ bytes 3 0 3 4 ++ bytes 2 0 3 4) ∷ (bytes 2 0 1 1 ++ bytes 0 1 2048 2048) ∷ (bytes 2 0 1 1 ++ bytes 6 0 0 0) ∷ bytes 1 2 2048 2048
     ∷ bytes 1 1 2048 2048 ∷ (bytes 2 0 3 4 ++ bytes 2 1 3 4) ∷ [])
 
 outcomes-are :
     outcomes
-    ≡ Accepted 6 ∷ Accepted 1 ∷ Refused BookLength 0 ∷ Accepted 2048 ∷ Refused PieceNumber 0 ∷ Refused PieceNumber 0 ∷ Accepted 4 ∷ Refused Order 0 ∷ Refused Order 0
+    ≡ Accepted 6 ∷ Accepted 1 ∷ Refused BookLength 0 ∷ Accepted 2048 ∷ Refused PieceNumber 0 ∷ Refused PieceNumber 0 ∷ Refused Kind 0 ∷ Refused Order 0 ∷ Refused Order 0
     ∷ Accepted 5 ∷ Refused Repeat 2 ∷ Refused Kind 1 ∷ Refused Kind 1 ∷ Refused Origin 0 ∷ Refused PieceNumber 0 ∷ Accepted 5 ∷ []
-unfolding bookCheck scan recordFinding formFinding recordAt stated largest piecesUpTo sameBytes anyBelow
+unfolding checkBy scan recordFinding formFinding admitted recordAt stated largest piecesUpTo sameBytes anyBelow
 outcomes-are = refl
+
+-- by the former edition
+former-outcomes-are :
+    map formerCheck (book ∷ bytes 5 0 3 65535 ∷ bytes 5 0 2048 0 ∷ bytes 6 0 0 0 ∷ (bytes 5 1 7 7 ++ bytes 5 2 0 0) ∷ (bytes 5 0 3 1 ++ bytes 5 0 3 1) ∷ [])
+    ≡ Accepted 6 ∷ Accepted 4 ∷ Refused PieceNumber 0 ∷ Refused Kind 0 ∷ Refused Origin 1 ∷ Refused Repeat 1 ∷ []
+unfolding checkBy scan recordFinding formFinding admitted recordAt stated largest piecesUpTo sameBytes anyBelow
+former-outcomes-are = refl
 
 abbrev claimOutcomes : List ClaimsCheck
 claimOutcomes =

@@ -1,27 +1,30 @@
 -- The run of the records that pass a test: where its records and its facts come from. Assumes nothing.
 use Prim.Native.Nat.{ℕ, zero, suc, _+_, _*_, _≤_, _<_}
 use mathlib.Core.Path.{_≡_, refl, sym, ap, ap₂, _∙_}
-use mathlib.Core.Bool.{Bool, true, false, false≢true}
+use mathlib.Core.Bool.{Bool, true, false, false≢true, _||_}
 use mathlib.Core.List.{List, [], _∷_, _++_, append-nil, List·Memᴰ, Memᴰ·cast}
 use native.Mathlib.Nat.{add-zero}
 use native.Mathlib.Numerals.{add-one}
 use native.Mathlib.Omega.{arith}
 use native.Mathlib.Decide.{ℕ-discrete}
-use borrow.Author.Tests.{eq-eqb, ne-eqb}
+use borrow.Author.Tests.{eq-eqb, ne-eqb, ltb-true, ltb-false}
+use lib.Dec.{ltb, eqb}
 use lib.ListN.{length, getD, take, drop, set, length-append, length-take, length-drop, List·getD-append}
 use lib.Seq.{getD-append-add, getD-take, getD-drop, take-all, take-at, drop-cons}
 use Rattle.lists.specs.Front.{front, placed}
-use Rattle.lists.proofs.Bools.{Known, is-true, is-false, known}
+use Rattle.lists.proofs.Bools.{Known, is-true, is-false, known, right-or}
 use Rattle.lists.proofs.Fronts.{placed-none, placed-sets, placed-front}
 use Rattle.rules.specs.Fact.{Fact}
 use Rattle.rules.specs.Entries.{factsOf}
 use Rattle.rules.proofs.More.{Among}
 use Rattle.records.specs.declared.Record.{Record}
 use Rattle.records.specs.Record.{recordAt, records}
-use Rattle.records.specs.Pieces.{stated}
+use Rattle.records.specs.Pieces.{stated, largest, pieceCount}
 use Rattle.records.specs.Facts.{saying, entryOf, facts}
 use Rattle.records.specs.Kept.{bytesAt, bytesWhere, keptUpTo, kept, onSheet, sheets, picked}
-use Rattle.records.proofs.Runs.{facts-more, entry-none, fact-here, fact-from}
+use Rattle.records.specs.Rows.{sameBytes}
+use Rattle.records.proofs.Keys.{same-all}
+use Rattle.records.proofs.Runs.{facts-more, entry-none, fact-here, fact-from, pieces-positive, pieces-cover, pieces-least}
 
 -- ---- the six bytes of a record
 
@@ -71,12 +74,15 @@ record-same s t i j h =
     let z : getD s (6 * i) 0 ≡ getD t (6 * j) 0 = ap (λ (k : ℕ). getD s k 0) (sym (add-zero (6 * i))) ∙ h 0 (omega arith) ∙ ap (λ (k : ℕ). getD t k 0) (add-zero (6 * j)) in
     rw (z, h 1 (omega arith), h 2 (omega arith), h 3 (omega arith), h 4 (omega arith), h 5 (omega arith))
 
+pub same-record : (s : List ℕ) (i j : ℕ) → sameBytes s (6 * i) (6 * j) 6 ≡ true → recordAt s i ≡ recordAt s j
+same-record s i j e = record-same s s i j (same-all s (6 * i) (6 * j) 6 e)
+
 -- A run of k records with the bytes of record i of s behind it.
 module _ (a s : List ℕ) (k i : ℕ) (e : length a ≡ 6 * k) (h : 6 * i + 6 ≤ length s) where
-  record-before : (j : ℕ) → j < k → recordAt (a ++ bytesAt s i) j ≡ recordAt a j
+  pub record-before : (j : ℕ) → j < k → recordAt (a ++ bytesAt s i) j ≡ recordAt a j
   record-before j l = record-same (a ++ bytesAt s i) a j j (λ d b. List·getD-append a (bytesAt s i) 0 (6 * j + d) (omega arith))
 
-  record-behind : recordAt (a ++ bytesAt s i) k ≡ recordAt s i
+  pub record-behind : recordAt (a ++ bytesAt s i) k ≡ recordAt s i
   unfolding bytesAt
   record-behind =
       record-same (a ++ bytesAt s i) s k i
@@ -108,6 +114,17 @@ module _ (p : Record → Bool) (s : List ℕ) where
       pick : (b : Bool) → passed n ≤ n → passed n + one b ≤ suc n
       pick true h = omega arith
       pick false h = omega arith
+
+  -- where one fails, fewer pass
+  pub passed-less : (n i : ℕ) → i < n → p (recordAt s i) ≡ false → passed n < n
+  unfolding passed one
+  passed-less zero i l e = absurd (omega arith)
+  passed-less (suc n) i l e = pick (ℕ-discrete i n) (p (recordAt s n)) refl (λ k. passed-less n i k e)
+    where
+      pick : Dec (i ≡ n) → (b : Bool) → p (recordAt s n) ≡ b → (i < n → passed n < n) → passed n + one b < suc n
+      pick (yes q) true f rest = absurd (false≢true (sym e ∙ ap (λ (k : ℕ). p (recordAt s k)) q ∙ f))
+      pick (no q) true f rest = omega (arith, rest (omega arith))
+      pick d false f rest = omega (arith, passed-few n)
 
   -- one record more: it passes, or not
   data Next (n : ℕ) : Type 0 where
@@ -204,6 +221,25 @@ module _ (p : Record → Bool) (s : List ℕ) where
   pub kept-from : (j : ℕ) → j < records (kept p s) → From (records s) j
   kept-from j l = record-from (records s) (omega arith) j (omega (arith, kept-records))
 
+  -- where a piece number is lost, so is a record
+  pub kept-shorter : pieceCount (kept p s) < pieceCount s → records (kept p s) < records s
+  kept-shorter h = pick (known (ltb (records (kept p s)) (records s)))
+    where
+      passes-all : ltb (records (kept p s)) (records s) ≡ false → (i : ℕ) → i < records s → Known (p (recordAt s i)) → p (recordAt s i) ≡ true
+      passes-all e i l (is-true t) = t
+      passes-all e i l (is-false t) = absurd (omega (arith, passed-less (records s) i l t, ltb-false (records (kept p s)) (records s) e, kept-records))
+
+      pick : Known (ltb (records (kept p s)) (records s)) → records (kept p s) < records s
+      pick (is-true e) = ltb-true _ _ e
+      pick (is-false e) =
+          let all : (i : ℕ) → i < records s → p (recordAt s i) ≡ true = λ i l. passes-all e i l (known (p (recordAt s i))) in
+          let least : pieceCount s ≤ pieceCount (kept p s) =
+          pieces-least s (records s) (pieceCount (kept p s)) (pieces-positive (kept p s) (records (kept p s)))
+          (λ i l.
+          let b = record-there (records s) (omega arith) i l (all i l) in
+          omega (arith, ap largest (b .2), pieces-cover (kept p s) (records (kept p s)) (b .0) (omega (arith, kept-records)))) in
+          absurd (omega arith)
+
   pub kept-fact-from : (f : Fact) → List·Memᴰ f (facts (kept p s)) → (i : ℕ) × (i < records s) × (p (recordAt s i) ≡ true) × (stated (recordAt s i) ≡ true) × (saying (recordAt s i) ≡ f)
   kept-fact-from f m =
       let a = fact-from (kept p s) f m in
@@ -255,14 +291,17 @@ module _ (p : Record → Bool) (s : List ℕ) where
   pub written-few : (l out : List ℕ) (n at : ℕ) → Written l n out at → 6 * n ≤ length s → at ≤ 6 * n
   written-few l out n at w h = omega (arith, w .1, kept-length n h, passed-few n)
 
+  pub written-all : (l out : List ℕ) (i at : ℕ) → i ≤ records s → records s ≤ i → Written l i out at → (at ≡ length (kept p s)) × (out ≡ front (kept p s) l)
+  written-all l out i at h k w =
+      let e : i ≡ records s = omega arith in
+      (w .1 ∙ ap (λ (n : ℕ). length (keptUpTo p s n)) e, w .0 ∙ ap (λ (n : ℕ). front (keptUpTo p s n) l) e)
+
 -- ---- the run of the cutting sheets, and the run that a claim picks
 
 pub written-sheets :
     (s l out : List ℕ) (i at : ℕ) → i ≤ records s → records s ≤ i → Written onSheet s l i out at → (at ≡ length (sheets s)) × (out ≡ front (sheets s) l)
 unfolding sheets
-written-sheets s l out i at h k w =
-    let e : i ≡ records s = omega arith in
-    (w .1 ∙ ap (λ (n : ℕ). length (keptUpTo onSheet s n)) e, w .0 ∙ ap (λ (n : ℕ). front (keptUpTo onSheet s n) l) e)
+written-sheets s l out i at h k w = written-all onSheet s l out i at h k w
 
 pub sheets-among : (s : List ℕ) → Among (facts (sheets s)) (facts s)
 unfolding sheets
@@ -290,3 +329,27 @@ picked-among s r = pick (ℕ-discrete (r .origin) 0)
     pick : Dec (r .origin ≡ 0) → Among (facts (picked s r)) (facts s)
     pick (yes e) = rw (picked-all s r e) (λ f m. m)
     pick (no e) = rw (picked-sheets s r e) (sheets-among s)
+
+-- the facts of that run come from the records that the claim lets pass
+abbrev pub letsPass : Record → Record → Bool
+letsPass claim r = eqb (claim .origin) 0 || onSheet r
+
+abbrev pub PickedFrom : List ℕ → Record → Fact → Type 0
+PickedFrom s claim f = (i : ℕ) × (i < records s) × (letsPass claim (recordAt s i) ≡ true) × (stated (recordAt s i) ≡ true) × (saying (recordAt s i) ≡ f)
+
+module _ (s : List ℕ) (claim : Record) where
+  pub picked-from : (f : Fact) → List·Memᴰ f (facts (picked s claim)) → PickedFrom s claim f
+  unfolding sheets
+  picked-from f m = pick (ℕ-discrete (claim .origin) 0)
+    where
+      pick : Dec (claim .origin ≡ 0) → PickedFrom s claim f
+      pick (yes e) = let a = fact-from s f (rw (picked-all s claim e) at m) in (a .0, a .1, rw (eq-eqb (claim .origin) 0 e), a .2, a .3)
+      pick (no e) = let a = kept-fact-from onSheet s f (rw (picked-sheets s claim e) at m) in (a .0, a .1, right-or (eqb (claim .origin) 0) (a .2), a .3, a .4)
+
+  pub picked-here : (i : ℕ) → i < records s → letsPass claim (recordAt s i) ≡ true → stated (recordAt s i) ≡ true → List·Memᴰ (saying (recordAt s i)) (facts (picked s claim))
+  unfolding sheets
+  picked-here i l t d = pick (ℕ-discrete (claim .origin) 0)
+    where
+      pick : Dec (claim .origin ≡ 0) → List·Memᴰ (saying (recordAt s i)) (facts (picked s claim))
+      pick (yes e) = rw (picked-all s claim e) (fact-here s i l d)
+      pick (no e) = rw (picked-sheets s claim e) (kept-fact-here onSheet s i l (rw (ne-eqb (claim .origin) 0 e) at t) d)

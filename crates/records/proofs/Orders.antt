@@ -1,7 +1,7 @@
 -- Runs whose records stand in another run too: their facts are among its facts. The same records in another order pass the same rows.
 -- Assumes nothing.
-use Prim.Native.Nat.{ℕ, zero, suc, _+_, _*_, _≤_, _<_}
-use mathlib.Core.Path.{_≡_, refl, sym, ap, _∙_}
+use Prim.Native.Nat.{ℕ, _+_, _*_, _≤_, _<_}
+use mathlib.Core.Path.{_≡_, sym, ap, subst, _∙_}
 use mathlib.Core.Bool.{Bool, true, false, false≢true}
 use mathlib.Core.List.{List, _++_, Memᴰ·cast}
 use native.Mathlib.Omega.{arith}
@@ -9,27 +9,22 @@ use native.Mathlib.Decide.{ℕ-discrete, decLt}
 use lib.ListN.{length, getD, length-append, List·getD-append}
 use lib.Seq.{getD-take, getD-drop}
 use Rattle.lists.proofs.Bools.{not-true}
-use Rattle.lists.proofs.Anys.{below-find}
 use Rattle.rules.proofs.More.{Among}
 use Rattle.records.specs.declared.Record.{Record}
-use Rattle.records.specs.declared.Refusal.{Refusal}
-use Rattle.records.specs.declared.Finding.{Finding}
-use Rattle.records.specs.declared.Finding.the-variants.{Fit, Unfit}
+use Rattle.records.specs.declared.Edition.the-variants.{Current}
 use Rattle.records.specs.declared.BookCheck.the-variants as book
 use Rattle.records.specs.Record.{recordAt, records}
-use Rattle.records.specs.Refusal.{scan}
 use Rattle.records.specs.Pieces.{stated, largest, pieceCount}
-use Rattle.records.specs.Rows.{sameBytes, repeatRow}
-use Rattle.records.specs.Check.{bookLength, formFinding, recordFinding, recordsCheck, bookCheck}
+use Rattle.records.specs.Rows.{sameBytes}
+use Rattle.records.specs.Check.{bookCheck}
 use Rattle.records.specs.Facts.{saying, facts}
 use Rattle.records.specs.Kept.{bytesAt, kept, onSheet, sheets, picked}
 use Rattle.records.specs.Reordered.{Reordered}
-use Rattle.records.proofs.Scans.{judged, all-fit}
+use Rattle.records.proofs.Rows.{Formed}
 use Rattle.records.proofs.Keys.{same-all, all-same}
 use Rattle.records.proofs.Runs.{fact-here, fact-from, pieces-positive, pieces-cover, pieces-least}
 use Rattle.records.proofs.Keeps.{record-same, kept-fact-from, kept-fact-here, picked-all, picked-sheets}
-use Rattle.records.proofs.Books.{form-new, measured}
-use Rattle.records.proofs.Accepted.{accepted}
+use Rattle.records.proofs.Accepted.{accepted, acceptable}
 
 -- ---- each record of s is one of t
 
@@ -80,24 +75,6 @@ byte-of : (s : List ℕ) (i d : ℕ) → d < 6 → getD (bytesAt s i) d 0 ≡ ge
 unfolding bytesAt
 byte-of s i d h = rw (getD-take, getD-drop)
 
--- all fit: accepted
-scan-fit :
-    {A : Type 0} (refused : Refusal → ℕ → A) (a : A) (find : ℕ → Finding) (i n : ℕ) → ((k : ℕ) → i ≤ k → k < i + n → find k ≡ Fit) → scan refused a find i n ≡ a
-unfolding scan
-scan-fit refused a find i zero h = refl
-scan-fit refused a find i (suc n) h = rw (h i (omega arith) (omega arith)) (scan-fit refused a find (suc i) n (λ k l m. h k (omega arith) (omega arith)))
-
-form-fit : (s : List ℕ) (i : ℕ) → recordFinding s i ≡ Fit → formFinding (recordAt s i) ≡ Fit
-unfolding recordFinding
-form-fit s i e = judged Unfit _ (formFinding (recordAt s i)) (λ r q. let z : _≡_ {A = ℕ} 0 1 = cc in omega arith) e .0
-
-each-fit : (s : List ℕ) (p : ℕ) → bookCheck s ≡ book.Accepted p → (i : ℕ) → i < records s → formFinding (recordAt s i) ≡ Fit
-unfolding bookCheck
-each-fit s p e i l =
-    let never : (r : Refusal) (i : ℕ) → book.Refused r i ≡ book.Accepted p → ⊥ = λ r i q. let z : _≡_ {A = ℕ} 0 1 = cc in omega arith in
-    let j = judged (λ r. book.Refused r 0) (recordsCheck s (records s)) (bookLength s) (λ r. never r 0) e in
-    form-fit s i (all-fit book.Refused (book.Accepted (pieceCount s)) (recordFinding s) never (records s) (j .1) .1 i l)
-
 module _ (s t : List ℕ) (R : Reordered s t) where
   same-records : records t ≡ records s
   same-records = omega (arith, R .long)
@@ -140,12 +117,6 @@ module _ (s t : List ℕ) (R : Reordered s t) where
             let g : i ≡ j = sym (R .to-from i l) ∙ ap (R .to) f ∙ R .to-from j (omega arith) in
             omega arith
 
-    new : (i : ℕ) → i < records s → repeatRow t i ≡ false
-    new i l = not-true _ (λ q. let f = below-find (λ j. sameBytes t (6 * i) (6 * j) 6) i q in distinct i (f .0) l (f .1) (f .2))
-
-    fit : (i : ℕ) → i < records s → recordFinding t i ≡ Fit
-    fit i l = form-new t i (ap formFinding (sym (record-back i l)) ∙ each-fit s n e (R .from i) (R .from-in i l)) (new i l)
-
     same-count : pieceCount t ≡ n
     same-count = omega (arith, accepted s n e .count, count-found s t found-moved, count-found t s found-back)
 
@@ -153,7 +124,11 @@ module _ (s t : List ℕ) (R : Reordered s t) where
     pub reordered-accepted : bookCheck t ≡ book.Accepted n
     reordered-accepted =
         let A = accepted s n e in
-        let w : length s ≡ 6 * records s = A .whole in
-        sym (measured t (omega (arith, R .long)) (omega (arith, A .few, same-records)))
-        ∙ scan-fit book.Refused (book.Accepted (pieceCount t)) (recordFinding t) 0 (records t) (λ k l m. fit k (omega (arith, same-records)))
-        ∙ ap book.Accepted same-count
+        acceptable Current t n
+        (record {
+          few = omega (arith, A .few, same-records);
+          whole = omega (arith, R .long, A .whole);
+          count = sym same-count;
+          each = λ i h. let l : i < records s = omega (arith, same-records) in subst (Formed Current) (record-back i l) (A .each (R .from i) (R .from-in i l));
+          new = λ i j h k. not-true _ (distinct i j (omega (arith, same-records)) k);
+        })

@@ -1,19 +1,21 @@
 -- When each row refuses and when it lets a record pass, and what a record that passes rows 5 to 8 is like. Assumes nothing.
 use Prim.Native.Nat.{ℕ, max, _≤_, _<_}
 use mathlib.Core.Path.{_≡_, refl}
-use mathlib.Core.Bool.{Bool, true, false, _&&_}
+use mathlib.Core.Bool.{Bool, true, false}
 use native.Mathlib.Omega.{arith}
-use lib.Dec.{leb, eqb}
-use borrow.Author.Tests.{le-leb, lt-leb, lt-ltb, le-ltb, eq-eqb, ne-eqb, leb-true, leb-false, ltb-false, eqb-true, not-false}
-use Rattle.lists.proofs.Bools.{and-both}
+use native.Mathlib.Decide.{ℕ-discrete}
+use lib.Dec.{eqb}
+use borrow.Author.Tests.{le-leb, lt-leb, lt-ltb, le-ltb, eq-eqb, ne-eqb, leb-false, ltb-false, not-false}
 use Rattle.records.specs.declared.Record.{Record}
+use Rattle.records.specs.declared.Edition.{Edition}
+use Rattle.records.specs.declared.Edition.the-variants.{Former, Current}
 use Rattle.records.specs.declared.Refusal.{Refusal}
 use Rattle.records.specs.declared.Finding.{Finding}
-use Rattle.records.specs.Refusal.{row}
-use Rattle.records.specs.declared.Refusal.the-variants.{Kind, Origin, PieceNumber, Order}
+use Rattle.records.specs.Refusal.{refusalNumber, row}
+use Rattle.records.specs.declared.Refusal.the-variants.{ShortBuffer, BookLength, TooManyRecords, Kind, Origin, PieceNumber, Order, Repeat, ClaimsLength, TooManyClaims, ClaimFormat, ClaimPiece, Contradiction, NotStanding}
 use Rattle.records.specs.declared.Finding.the-variants.{Fit, Unfit}
 use Rattle.records.specs.Pieces.{stated, larger, largest}
-use Rattle.records.specs.Rows.{kindRow, originRow, pieceRow, orderRow}
+use Rattle.records.specs.Rows.{admitted, kindRow, originRow, pieceRow, orderRow}
 use Rattle.records.specs.Check.{formFinding}
 
 module _ (r : Record) where
@@ -25,42 +27,51 @@ module _ (r : Record) where
   unfolding largest
   both-largest e = rw (e, larger)
 
-  pub kind-low : r .kind < 1 → formFinding r ≡ Unfit Kind
-  unfolding formFinding
-  kind-low h = simp (lt-leb 1 (r .kind) h)
+  pub admits-former : {e : Edition} → e ≡ Former → stated r ≡ false → eqb (r .kind) 5 ≡ admitted e r
+  unfolding admitted
+  admits-former q h = rw (q, h)
 
-  pub kind-high : 1 ≤ r .kind → 5 < r .kind → formFinding r ≡ Unfit Kind
-  unfolding formFinding
-  kind-high h k = simp (le-leb 1 (r .kind) h, lt-leb (r .kind) 5 k)
+  pub admits-current : {e : Edition} → e ≡ Current → stated r ≡ false → false ≡ admitted e r
+  unfolding admitted
+  admits-current q h = rw (q, h)
 
-  module _ (h : 1 ≤ r .kind) (k : r .kind ≤ 5) where
-    pub unknown : 1 < r .origin → formFinding r ≡ Unfit Origin
+pub admits-stated : (e : Edition) (r : Record) → stated r ≡ true → admitted e r ≡ true
+unfolding admitted
+admits-stated Former r h = rw h
+admits-stated Current r h = h
+
+module _ (e : Edition) (r : Record) where
+  pub no-kind : admitted e r ≡ false → formFinding e r ≡ Unfit Kind
+  unfolding formFinding
+  no-kind h = simp h
+
+  module _ (h : admitted e r ≡ true) where
+    pub unknown : 1 < r .origin → formFinding e r ≡ Unfit Origin
     unfolding formFinding
-    unknown t = simp (le-leb 1 (r .kind) h, le-leb (r .kind) 5 k, lt-ltb 1 (r .origin) t)
+    unknown t = simp (h, lt-ltb 1 (r .origin) t)
 
     module _ (t : r .origin ≤ 1) where
-      pub too-large : 2047 < largest r → formFinding r ≡ Unfit PieceNumber
+      pub too-large : 2047 < largest r → formFinding e r ≡ Unfit PieceNumber
       unfolding formFinding
-      too-large p = simp (le-leb 1 (r .kind) h, le-leb (r .kind) 5 k, le-ltb 1 (r .origin) t, lt-ltb 2047 (largest r) p)
+      too-large p = simp (h, le-ltb 1 (r .origin) t, lt-ltb 2047 (largest r) p)
 
       module _ (p : largest r ≤ 2047) where
-        pub not-part : (r .kind ≡ 1 → ⊥) → formFinding r ≡ Fit
+        pub not-part : (r .kind ≡ 1 → ⊥) → formFinding e r ≡ Fit
         unfolding formFinding
-        not-part n = simp (le-leb 1 (r .kind) h, le-leb (r .kind) 5 k, le-ltb 1 (r .origin) t, le-ltb 2047 (largest r) p, ne-eqb (r .kind) 1 n)
+        not-part n = simp (h, le-ltb 1 (r .origin) t, le-ltb 2047 (largest r) p, ne-eqb (r .kind) 1 n)
 
-        pub ordered : r .kind ≡ 1 → r .b < r .a → formFinding r ≡ Fit
+        pub ordered : r .kind ≡ 1 → r .b < r .a → formFinding e r ≡ Fit
         unfolding formFinding
-        ordered n o = simp (le-leb 1 (r .kind) h, le-leb (r .kind) 5 k, le-ltb 1 (r .origin) t, le-ltb 2047 (largest r) p, eq-eqb (r .kind) 1 n, lt-leb (r .a) (r .b) o)
+        ordered n o = simp (h, le-ltb 1 (r .origin) t, le-ltb 2047 (largest r) p, eq-eqb (r .kind) 1 n, lt-leb (r .a) (r .b) o)
 
-        pub disordered : r .kind ≡ 1 → r .a ≤ r .b → formFinding r ≡ Unfit Order
+        pub disordered : r .kind ≡ 1 → r .a ≤ r .b → formFinding e r ≡ Unfit Order
         unfolding formFinding
         disordered n o =
-            simp (le-leb 1 (r .kind) h, le-leb (r .kind) 5 k, le-ltb 1 (r .origin) t, le-ltb 2047 (largest r) p, eq-eqb (r .kind) 1 n, le-leb (r .a) (r .b) o)
+            simp (h, le-ltb 1 (r .origin) t, le-ltb 2047 (largest r) p, eq-eqb (r .kind) 1 n, le-leb (r .a) (r .b) o)
 
 -- What a record is that passes rows 5 to 8.
-pub record Formed (r : Record) : Type 0 where
-  pub low : 1 ≤ r .kind
-  pub high : r .kind ≤ 5
+pub record Formed (e : Edition) (r : Record) : Type 0 where
+  pub kind : admitted e r ≡ true
   pub known : r .origin ≤ 1
   pub named : largest r ≤ 2047
   pub order : r .kind ≡ 1 → r .b < r .a
@@ -72,18 +83,41 @@ row-fit false x f e = (refl, e)
 in-order : (r : Record) → orderRow r ≡ false → r .kind ≡ 1 → r .b < r .a
 in-order r e k = leb-false (r .a) (r .b) (rw (eq-eqb (r .kind) 1 k) at e)
 
-pub formed : (r : Record) → formFinding r ≡ Fit → Formed r
+pub formed : (e : Edition) (r : Record) → formFinding e r ≡ Fit → Formed e r
 unfolding formFinding
-formed r e =
-    let k = row-fit (kindRow r) _ _ e in
+formed e r q =
+    let k = row-fit (kindRow e r) _ _ q in
     let t = row-fit (originRow r) _ _ (k .1) in
     let p = row-fit (pieceRow r) _ _ (t .1) in
     let o = row-fit (orderRow r) _ _ (p .1) in
-    let b = and-both _ _ (not-false (leb 1 (r .kind) && leb (r .kind) 5) (k .0)) in
     record {
-      low = leb-true _ _ (b .0);
-      high = leb-true _ _ (b .1);
+      kind = not-false (admitted e r) (k .0);
       known = ltb-false _ _ (t .0);
       named = ltb-false _ _ (p .0);
       order = in-order r (o .0);
     }
+
+-- and such a record passes them
+pub fits : (e : Edition) (r : Record) → Formed e r → formFinding e r ≡ Fit
+fits e r F = pick (ℕ-discrete (r .kind) 1)
+  where
+    pick : Dec (r .kind ≡ 1) → formFinding e r ≡ Fit
+    pick (yes k) = ordered e r (F .kind) (F .known) (F .named) k (F .order k)
+    pick (no k) = not-part e r (F .kind) (F .known) (F .named) k
+
+-- no refusal has the number 0
+pub refused-positive : (r : Refusal) → refusalNumber r ≡ 0 → ⊥
+refused-positive ShortBuffer e = omega arith
+refused-positive BookLength e = omega arith
+refused-positive TooManyRecords e = omega arith
+refused-positive Kind e = omega arith
+refused-positive Origin e = omega arith
+refused-positive PieceNumber e = omega arith
+refused-positive Order e = omega arith
+refused-positive Repeat e = omega arith
+refused-positive ClaimsLength e = omega arith
+refused-positive TooManyClaims e = omega arith
+refused-positive ClaimFormat e = omega arith
+refused-positive ClaimPiece e = omega arith
+refused-positive Contradiction e = omega arith
+refused-positive NotStanding e = omega arith

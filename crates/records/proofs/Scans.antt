@@ -28,6 +28,11 @@ module _ {A : Type 0} (refused : Refusal → ℕ → A) (accepted : A) (find : �
   pub scan-stop : (i e : ℕ) (r : Refusal) → i < e → find i ≡ Unfit r → scan refused accepted find i (e - i) ≡ refused r i
   scan-stop i e r h f = step i e h ∙ rw f
 
+  pub all-pass : (i n : ℕ) → ((k : ℕ) → k < i + n → find k ≡ Fit) → scan refused accepted find i n ≡ accepted
+  unfolding scan
+  all-pass i zero h = refl
+  all-pass i (suc n) h = rw (h i (omega arith)) (all-pass (suc i) n (λ k l. h k (omega arith)))
+
   -- an outcome that is no refusal is the acceptance, and all is fit
   module _ {a : A} (never : (r : Refusal) (i : ℕ) → refused r i ≡ a → ⊥) where
     fits : (i n : ℕ) → scan refused accepted find i n ≡ a → (k : ℕ) → i ≤ k → k < i + n → find k ≡ Fit

@@ -4,6 +4,8 @@ use Prim.Native.Nat.{ℕ}
 use mathlib.Core.Bool.{Bool, true, false}
 use mathlib.Core.List.{List}
 use Rattle.records.specs.declared.Record.{Record}
+use Rattle.records.specs.declared.Edition.{Edition}
+use Rattle.records.specs.declared.Edition.the-variants.{Former, Current}
 use Rattle.records.specs.declared.Refusal.the-variants.{BookLength, TooManyRecords, Kind, Origin, PieceNumber, Order, Repeat, ClaimsLength, TooManyClaims, ClaimFormat, ClaimPiece}
 use Rattle.records.specs.declared.Finding.{Finding}
 use Rattle.records.specs.declared.Finding.the-variants.{Fit, Unfit}
@@ -23,20 +25,26 @@ abbrev pub bookLength : List ℕ → Finding
 bookLength s = row (ragged s) BookLength (row (moreThan 8192 s) TooManyRecords Fit)
 
 -- rows 5 to 8, which look at one record alone
-unfoldable pub formFinding : Record → Finding
-formFinding r = row (kindRow r) Kind (row (originRow r) Origin (row (pieceRow r) PieceNumber (row (orderRow r) Order Fit)))
+unfoldable pub formFinding : Edition → Record → Finding
+formFinding e r = row (kindRow e r) Kind (row (originRow r) Origin (row (pieceRow r) PieceNumber (row (orderRow r) Order Fit)))
 
 -- rows 5 to 9 of record i
-unfoldable pub recordFinding : List ℕ → ℕ → Finding
-recordFinding s i = judge Unfit (row (repeatRow s i) Repeat Fit) (formFinding (recordAt s i))
+unfoldable pub recordFinding : Edition → List ℕ → ℕ → Finding
+recordFinding e s i = judge Unfit (row (repeatRow s i) Repeat Fit) (formFinding e (recordAt s i))
 
 -- rows 5 to 9 of the first n records: the first refusal and its place, or the piece count
-abbrev pub recordsCheck : List ℕ → ℕ → BookCheck
-recordsCheck s n = scan book.Refused (book.Accepted (piecesUpTo s n)) (recordFinding s) 0 n
+abbrev pub recordsCheck : Edition → List ℕ → ℕ → BookCheck
+recordsCheck e s n = scan book.Refused (book.Accepted (piecesUpTo s n)) (recordFinding e s) 0 n
 
--- rows 3 to 9 of a book
-unfoldable pub bookCheck : List ℕ → BookCheck
-bookCheck s = judge (λ r. book.Refused r 0) (recordsCheck s (records s)) (bookLength s)
+-- rows 3 to 9 of a book, by an edition: that in force, or the one that the converter takes
+unfoldable pub checkBy : Edition → List ℕ → BookCheck
+checkBy e s = judge (λ r. book.Refused r 0) (recordsCheck e s (records s)) (bookLength s)
+
+abbrev pub bookCheck : List ℕ → BookCheck
+bookCheck s = checkBy Current s
+
+abbrev pub formerCheck : List ℕ → BookCheck
+formerCheck s = checkBy Former s
 
 -- claim i as it is read: by row 12
 abbrev pub read : Bool → Record → Claim

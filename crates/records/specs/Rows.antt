@@ -6,6 +6,8 @@ use lib.ListN.{length, getD}
 use lib.Dec.{leb, ltb, eqb}
 use Rattle.lists.specs.Any.{anyBelow}
 use Rattle.records.specs.declared.Record.{Record}
+use Rattle.records.specs.declared.Edition.{Edition}
+use Rattle.records.specs.declared.Edition.the-variants.{Former, Current}
 use Rattle.records.specs.Record.{records}
 use Rattle.records.specs.Pieces.{stated, largest}
 
@@ -17,9 +19,13 @@ ragged s = not (eqb (length s % 6) 0)
 abbrev pub moreThan : ℕ → List ℕ → Bool
 moreThan most s = ltb most (records s)
 
--- 5: kind not 1 to 5
-abbrev pub kindRow : Record → Bool
-kindRow r = not (leb 1 (r .kind) && leb (r .kind) 5)
+-- 5: a kind that the edition does not have. Both have 1 to 4, the former one TRAY too
+unfoldable pub admitted : Edition → Record → Bool
+admitted Former r = stated r || eqb (r .kind) 5
+admitted Current r = stated r
+
+abbrev pub kindRow : Edition → Record → Bool
+kindRow e r = not (admitted e r)
 
 -- 6: an origin above 1
 abbrev pub originRow : Record → Bool

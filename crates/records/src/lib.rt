@@ -7,10 +7,11 @@ ghost use Rattle.lists.specs.Front.{front, placed};
 ghost use Rattle.records.specs.Record.{recordAt};
 ghost use Rattle.records.specs.Kept.{bytesAt, bytesWhere, sheets};
 ghost use Rattle.records.specs.Refusal.{refusalNumber};
-ghost use Rattle.records.specs.Pieces.{stated, largest};
+ghost use Rattle.records.specs.Pieces.{stated, largest, pieceCount};
+ghost use Rattle.records.specs.Rows.{admitted};
 ghost use Rattle.records.specs.Key.{keyAt, slotOf};
 ghost use Rattle.records.specs.Met.{met, Marked, start};
-ghost use Rattle.records.specs.Check.{formFinding, recordsCheck, bookCheck, claimAt, claimsCheck};
+ghost use Rattle.records.specs.Check.{formFinding, recordsCheck, checkBy, bookCheck, formerCheck, claimAt, claimsCheck};
 
 // A record, or a claim: its kind, its origin, and two 16-bit numbers. The origin is 0 for a cutting sheet and 1 for the scanner; that of a claim
 // picks the facts, 0 for all and 1 for those of cutting sheets.
@@ -36,6 +37,13 @@ pub enum Refusal {
     ClaimFormat,
     ClaimPiece,
     Contradiction,
+    NotStanding,
+}
+
+// An edition of the format. The former one is what the converter takes: it has TRAY records, and later changes leave it alone.
+pub enum Edition {
+    Former,
+    Current,
 }
 
 // What some rows say of one thing.
@@ -78,6 +86,7 @@ pub fn refusal_number(r: Refusal) -> u8
         Refusal::ClaimFormat => 12,
         Refusal::ClaimPiece => 13,
         Refusal::Contradiction => 14,
+        Refusal::NotStanding => 18,
     }
 }
 
@@ -127,14 +136,24 @@ pub fn largest_named(r: Record) -> usize
     r.a
 }
 
-// Rows 5 to 8, which look at one record alone.
-fn check_form(r: Record) -> Finding
-    ensures { λ f. ⌜ f ≡ formFinding r ⌝ }
+// Whether an edition has the kind of a record.
+fn admits(edition: Edition, r: Record) -> bool
+    ensures { λ t. ⌜ t ≡ admitted edition r ⌝ }
 {
-    if r.kind < 1 {
-        return Finding::Unfit(Refusal::Kind);
+    if states_fact(r) {
+        return true;
     }
-    if 5 < r.kind {
+    match edition {
+        Edition::Former => r.kind == 5,
+        Edition::Current => false,
+    }
+}
+
+// Rows 5 to 8, which look at one record alone.
+fn check_form(edition: Edition, r: Record) -> Finding
+    ensures { λ f. ⌜ f ≡ formFinding edition r ⌝ }
+{
+    if !admits(edition, r) {
         return Finding::Unfit(Refusal::Kind);
     }
     if 1 < r.origin {
@@ -201,9 +220,9 @@ fn first_suspect(marked: bool, i: usize) -> usize
 
 // Rows 5 to 9: the first refusal, record by record, or the piece count. A record is compared with the earlier ones only
 // where the bit of its key was set before.
-fn check_records(book: &[u8], n: usize) -> BookCheck
+fn check_records(edition: Edition, book: &[u8], n: usize) -> BookCheck
     requires { ⌜ (n ≤ 8192) × (6 * n ≤ length (now book)) ⌝ }
-    ensures { λ r. ⌜ r ≡ recordsCheck (now (book .entry)) n ⌝ }
+    ensures { λ r. ⌜ r ≡ recordsCheck edition (now (book .entry)) n ⌝ }
 {
     let mut keys = [0u64; 8192];
     let mut seen = [0u64; 4096];
@@ -214,7 +233,7 @@ fn check_records(book: &[u8], n: usize) -> BookCheck
             break 'records BookCheck::Accepted(pieces);
         }
         let record = record_at(book, i);
-        let form = check_form(record);
+        let form = check_form(edition, record);
         if let Finding::Unfit(refusal) = form {
             break 'records BookCheck::Refused(refusal, i);
         }
@@ -232,9 +251,9 @@ fn check_records(book: &[u8], n: usize) -> BookCheck
     }
 }
 
-// Rows 3 to 9 of a book.
-pub fn check_book(book: &[u8]) -> BookCheck
-    ensures { λ r. ⌜ r ≡ bookCheck (now (book .entry)) ⌝ }
+// Rows 3 to 9 of a book, by an edition.
+fn check_by(edition: Edition, book: &[u8]) -> BookCheck
+    ensures { λ r. ⌜ r ≡ checkBy edition (now (book .entry)) ⌝ }
 {
     if book.len() % 6 != 0 {
         return BookCheck::Refused(Refusal::BookLength, 0);
@@ -243,7 +262,21 @@ pub fn check_book(book: &[u8]) -> BookCheck
     if 8192 < n {
         return BookCheck::Refused(Refusal::TooManyRecords, 0);
     }
-    check_records(book, n)
+    check_records(edition, book, n)
+}
+
+// By the edition in force.
+pub fn check_book(book: &[u8]) -> BookCheck
+    ensures { λ r. ⌜ r ≡ bookCheck (now (book .entry)) ⌝ }
+{
+    check_by(Edition::Current, book)
+}
+
+// By the edition that the converter takes.
+pub fn check_former(book: &[u8]) -> BookCheck
+    ensures { λ r. ⌜ r ≡ formerCheck (now (book .entry)) ⌝ }
+{
+    check_by(Edition::Former, book)
 }
 
 // Claim i, by row 12.
@@ -283,6 +316,20 @@ pub fn check_claims(claims: &[u8], pieces: usize) -> ClaimsCheck
         i += 1;
     }
     ClaimsCheck::Accepted
+}
+
+// One more than the largest number that the records of a run name.
+pub fn piece_count(run: &[u8]) -> usize
+    ensures { λ r. ⌜ r ≡ pieceCount (now (run .entry)) ⌝ }
+{
+    let n = run.len() / 6;
+    let mut pieces: usize = 1;
+    let mut i: usize = 0;
+    while i < n {
+        pieces = larger_of(pieces, largest_named(record_at(run, i)) + 1);
+        i += 1;
+    }
+    pieces
 }
 
 // Copies the six bytes of record i to place `at`.

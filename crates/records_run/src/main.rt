@@ -1,5 +1,5 @@
-// The edges of the six-byte format, printed: for each book its refusal's number and place, or 0 and the piece count;
-// for each list of claims its refusal's number and place, or 0 and 0.
+// The edges of the six-byte format, printed: for each book its refusal's number and place, or 0 and the piece count, by the edition in force and
+// by the former one; for each list of claims its refusal's number and place, or 0 and 0.
 ghost use Prim.Native.Nat.{_+_, _*_, _≤_, _<_};
 ghost use mathlib.Core.Path.{_≡_};
 ghost use lib.ListN.{length};
@@ -83,21 +83,32 @@ const SAMPLES: [u8; 72] = [
     0,
 ];
 
-fn line(number: u8, rest: usize) {
+fn numbers(number: u8, rest: usize) {
     io::print_decimal(STDOUT_FILENO, number as u64);
     io::write_all(STDOUT_FILENO, b" ");
     io::print_decimal(STDOUT_FILENO, rest as u64);
+}
+
+fn line(number: u8, rest: usize) {
+    numbers(number, rest);
     io::write_all(STDOUT_FILENO, b"\n");
 }
 
-// The first so many bytes as a book.
+fn finding(checked: BookCheck) {
+    match checked {
+        BookCheck::Accepted(pieces) => numbers(0, pieces),
+        BookCheck::Refused(refusal, place) => numbers(records::refusal_number(refusal), place),
+    }
+}
+
+// The first so many bytes as a book, by either edition.
 fn book(s: &[u8], size: usize)
     requires { ⌜ size ≤ length (now s) ⌝ }
 {
-    match records::check_book(&s[..size]) {
-        BookCheck::Accepted(pieces) => line(0, pieces),
-        BookCheck::Refused(refusal, place) => line(records::refusal_number(refusal), place),
-    }
+    finding(records::check_book(&s[..size]));
+    io::write_all(STDOUT_FILENO, b" ");
+    finding(records::check_former(&s[..size]));
+    io::write_all(STDOUT_FILENO, b"\n");
 }
 
 // The first so many bytes as claims.
@@ -207,13 +218,13 @@ fn lengths(s: &mut [u8])
     }
 }
 
-// TRAY records that differ in their tray.
-fn put_trays(s: &mut [u8])
+// Records that all differ.
+fn put_many(s: &mut [u8])
     requires { ⌜ length (now s) ≡ 49158 ⌝ }
 {
     let mut i: usize = 0;
     while i < 8193 {
-        put(s, i, 5, i % 2048, i);
+        put(s, i, 2, i % 2048, i / 2048);
         i += 1;
     }
 }
@@ -222,7 +233,7 @@ fn put_trays(s: &mut [u8])
 fn long_books(s: &mut [u8])
     requires { ⌜ length (now s) ≡ 49158 ⌝ }
 {
-    put_trays(s);
+    put_many(s);
     book(s, 49152);
     book(s, 49158);
     book(s, 49151);
@@ -233,10 +244,10 @@ fn long_books(s: &mut [u8])
 fn long_repeats(s: &mut [u8])
     requires { ⌜ length (now s) ≡ 49158 ⌝ }
 {
-    put(s, 8191, 5, 0, 0);
+    put(s, 8191, 2, 0, 0);
     book(s, 49152);
     book(s, 49158);
-    put(s, 8191, 5, 2046, 8190);
+    put(s, 8191, 2, 2046, 3);
     book(s, 49152);
     put(s, 8191, 5, 2047, 65535);
     book(s, 49152);

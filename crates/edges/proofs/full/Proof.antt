@@ -9,11 +9,11 @@ use lib.Seq.{length-take-le}
 use Rattle.edges.proofs.full.Statement.{statement}
 use Rattle.edges.proofs.full.Tie as tie
 
-slice-aggregate-trays : tie.Need-slice-aggregate-trays
-slice-aggregate-trays c = search needs
+slice-aggregate-many : tie.Need-slice-aggregate-many
+slice-aggregate-many c = search needs
 
-trays-requires : tie.Need-trays-requires
-trays-requires c κs = search needs
+many-requires : tie.Need-many-requires
+many-requires c κs = search needs
 
 slice-aggregate-ask : tie.Need-slice-aggregate-ask
 slice-aggregate-ask c = search needs
@@ -22,7 +22,7 @@ array-share-prefix-book : tie.Need-array-share-prefix-book
 array-share-prefix-book c = search needs
 
 slice-aggregate-ask-2 : tie.Need-slice-aggregate-ask-2
-slice-aggregate-ask-2 c = sym (length-take-le 49152 (c .before .before .before .trays .last .0) (omega (arith, c .before .before .before .trays .ensures)))
+slice-aggregate-ask-2 c = sym (length-take-le 49152 (c .before .before .before .many .last .0) (omega (arith, c .before .before .before .many .ensures)))
 
 slice-aggregate-ask-3 : tie.Need-slice-aggregate-ask-3
 slice-aggregate-ask-3 c = search needs
@@ -49,8 +49,8 @@ pub full-spec : {M : Type 1} → statement M
 full-spec =
     tie.close
     (tie.spec
-    slice-aggregate-trays
-    trays-requires
+    slice-aggregate-many
+    many-requires
     slice-aggregate-ask
     array-share-prefix-book
     slice-aggregate-ask-2

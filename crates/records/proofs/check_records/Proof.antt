@@ -19,18 +19,18 @@ use Rattle.records.proofs.check_records.Statement.{statement}
 use Rattle.records.proofs.check_records.Tie as tie
 
 abbrev Inv-loop : tie.InvT-loop
-Inv-loop book n keys seen pieces i «record» key j₀ j = (j ≤ i) × ((q : ℕ) → q < j → getD keys q 0 ≡ key → ⊥)
+Inv-loop edition book n keys seen pieces i «record» key j₀ j = (j ≤ i) × ((q : ℕ) → q < j → getD keys q 0 ≡ key → ⊥)
 
 abbrev μ-loop : tie.MeasureT-loop
-μ-loop book n keys seen pieces i «record» key j₀ j = i - j
+μ-loop edition book n keys seen pieces i «record» key j₀ j = i - j
 
 abbrev Inv-records : tie.InvT-records
-Inv-records book n keys₀ seen₀ pieces₀ i₀ keys seen pieces i =
+Inv-records edition book n keys₀ seen₀ pieces₀ i₀ keys seen pieces i =
     (i ≤ n) × (length keys ≡ 8192) × (length seen ≡ 4096) × (pieces ≡ piecesUpTo book i) × ((p : ℕ) → p < i → getD keys p 0 ≡ keyAt book (6 * p))
-    × AllMet book seen i × Left book n i
+    × AllMet book seen i × Left edition book n i
 
 abbrev μ-records : tie.MeasureT-records
-μ-records book n keys₀ seen₀ pieces₀ i₀ keys seen pieces i = n - i
+μ-records edition book n keys₀ seen₀ pieces₀ i₀ keys seen pieces i = n - i
 
 -- the place where the key of the record at hand is known
 abbrev keyed-at : tie.At-loop Inv-loop μ-loop Inv-records μ-records → tie.After-key-at Inv-loop μ-loop Inv-records μ-records
@@ -39,10 +39,10 @@ keyed-at l = l .before .before .before .before .before .before
 -- the record at hand passes rows 5 to 8
 fit :
     (c : tie.After-key-at Inv-loop μ-loop Inv-records μ-records)
-    → formFinding (recordAt (c .before .before .before .before .before .before .before .before .args .book .now) (c .before .before .before .before .before .before .records .i)) ≡ Fit
+    → formFinding (c .before .before .before .before .before .before .before .before .args .edition) (recordAt (c .before .before .before .before .before .before .before .before .args .book .now) (c .before .before .before .before .before .before .records .i)) ≡ Fit
 fit c =
     let f = c .before .before .before in
-    sym (ap formFinding (f .before .record-at .ensures)) ∙ sym (f .check-form .ensures) ∙ c .before .enum-told .given .1
+    sym (ap (formFinding _) (f .before .record-at .ensures)) ∙ sym (f .check-form .ensures) ∙ c .before .enum-told .given .1
 
 -- its key stands with those of the earlier ones
 keyed :
@@ -62,7 +62,7 @@ named :
 named c = c .largest-named .ensures ∙ ap largest (keyed-at (c .before .before) .before .before .before .before .record-at .ensures)
 
 records-holds : tie.Need-records-holds Inv-loop μ-loop Inv-records μ-records
-records-holds c = (search needs, search needs, search needs, pieces-none _, below-none _, below-none _, at-first _ _)
+records-holds c = (search needs, search needs, search needs, pieces-none _, below-none _, below-none _, at-first _ _ _)
 
 record-at-requires : tie.Need-record-at-requires Inv-loop μ-loop Inv-records μ-records
 record-at-requires c κs = search needs
@@ -123,7 +123,7 @@ largest-named-requires : tie.Need-largest-named-requires Inv-loop μ-loop Inv-re
 largest-named-requires c κs = search needs
 
 add-larger-of : tie.Need-add-larger-of Inv-loop μ-loop Inv-records μ-records
-add-larger-of c = omega (arith, named c, formed _ (fit (keyed-at (c .before .before))))
+add-larger-of c = omega (arith, named c, formed _ _ (fit (keyed-at (c .before .before))))
 
 larger-of-requires : tie.Need-larger-of-requires Inv-loop μ-loop Inv-records μ-records
 larger-of-requires c κs = search needs
@@ -145,26 +145,26 @@ records-again c =
       c .larger-of .ensures ∙ ap₂ (λ (x y : ℕ). max x (y + 1)) (o .records .inv .3) (named (c .before)) ∙ sym (pieces-more _ _),
       keyed k,
       met-more (o .before .before .args .book .now) _ _ _ _ _ (k .key-at .ensures) (l .before .before .before .before .slot-of .ensures) (l .before .before .before .mark .ensures .1) (o .records .inv .5),
-      goes-on _ _ _ (o .records .inv .6) (omega arith)
-          (form-new _ _ (fit k) (new _ _ (λ j h e. l .loop .inv .1 j (omega arith) (keyed k j (omega arith) ∙ e ∙ sym (k .key-at .ensures))))),
+      goes-on _ _ _ _ (o .records .inv .6) (omega arith)
+          (form-new _ _ _ (fit k) (new _ _ (λ j h e. l .loop .inv .1 j (omega arith) (keyed k j (omega arith) ∙ e ∙ sym (k .key-at .ensures))))),
     )
 
 returns : tie.Need-returns Inv-loop μ-loop Inv-records μ-records
-returns c = accepts _ _ _ (c .before .records .inv .6) (omega arith) (omega arith) (c .before .records .inv .3)
+returns c = accepts _ _ _ _ (c .before .records .inv .6) (omega arith) (omega arith) (c .before .records .inv .3)
 
 returns-2 : tie.Need-returns-2 Inv-loop μ-loop Inv-records μ-records
 returns-2 c =
     let l = c .before .before .before .before .before .before in
-    refuses _ _ (l .records .i) (l .records .inv .6) (omega arith)
-    (form-unfit _ _ _ (sym (ap formFinding (c .before .before .before .before .record-at .ensures)) ∙ sym (c .before .before .before .check-form .ensures) ∙ c .before .form .given .1))
+    refuses _ _ _ (l .records .i) (l .records .inv .6) (omega arith)
+    (form-unfit _ _ _ _ (sym (ap (formFinding _) (c .before .before .before .before .record-at .ensures)) ∙ sym (c .before .before .before .check-form .ensures) ∙ c .before .form .given .1))
 
 returns-3 : tie.Need-returns-3 Inv-loop μ-loop Inv-records μ-records
 returns-3 c =
     let l = c .before .before in
     let k = keyed-at l in
     let o = k .before .before .before .before .before .before in
-    refuses _ _ (o .records .i) (o .records .inv .6) (omega arith)
-    (form-repeats _ _ (fit k)
+    refuses _ _ _ (o .records .i) (o .records .inv .6) (omega arith)
+    (form-repeats _ _ _ (fit k)
     (repeated _ _ (λ p. o .before .shared-slice-known .given p .fits) (l .loop .j) (omega arith)
     (sym (k .key-at .ensures) ∙ sym (c .if2 .taken) ∙ keyed k (l .loop .j) (omega arith))))
 

@@ -1,8 +1,8 @@
--- `records_run::book` meets its contract: each store and each part lent is within the slice. Assumes nothing.
-use borrow.Author.Needs.{needs}
+-- `records_run::book` meets its contract: each part lent is within the slice. Assumes nothing.
 use native.Mathlib.Omega.{arith}
 use mathlib.Core.Path.{sym}
 use lib.Seq.{length-take-le}
+use borrow.Author.Needs.{needs}
 use Rattle.records_run.proofs.book.Statement.{statement}
 use Rattle.records_run.proofs.book.Tie as tie
 
@@ -12,26 +12,32 @@ slice-aggregate-check-book c = sym (length-take-le _ _ (omega arith))
 check-book-requires : tie.Need-check-book-requires
 check-book-requires c κs = search needs
 
-enum-known-pieces : tie.Need-enum-known-pieces
-enum-known-pieces c = search needs
+finding-requires : tie.Need-finding-requires
+finding-requires c κs = search needs
 
-line-requires : tie.Need-line-requires
-line-requires c κs = search needs
+slice-aggregate-write-all : tie.Need-slice-aggregate-write-all
+slice-aggregate-write-all c = search needs
 
-enum-known-refusal : tie.Need-enum-known-refusal
-enum-known-refusal c = search needs
+write-all-requires : tie.Need-write-all-requires
+write-all-requires c κs = search needs
 
-refusal-number-requires : tie.Need-refusal-number-requires
-refusal-number-requires c κs = search needs
+slice-aggregate-check-former : tie.Need-slice-aggregate-check-former
+slice-aggregate-check-former c = sym (length-take-le _ _ (omega arith))
 
-line-requires-2 : tie.Need-line-requires-2
-line-requires-2 c κs = search needs
+check-former-requires : tie.Need-check-former-requires
+check-former-requires c κs = search needs
+
+finding-requires-2 : tie.Need-finding-requires-2
+finding-requires-2 c κs = search needs
+
+slice-aggregate-write-all-2 : tie.Need-slice-aggregate-write-all-2
+slice-aggregate-write-all-2 c = search needs
+
+write-all-requires-2 : tie.Need-write-all-requires-2
+write-all-requires-2 c κs = search needs
 
 returns : tie.Need-returns
 returns c = search needs
-
-returns-2 : tie.Need-returns-2
-returns-2 c = search needs
 
 pub book-spec : {M : Type 1} → statement M
 book-spec =
@@ -39,10 +45,12 @@ book-spec =
     (tie.spec
     slice-aggregate-check-book
     check-book-requires
-    enum-known-pieces
-    line-requires
-    enum-known-refusal
-    refusal-number-requires
-    line-requires-2
-    returns
-    returns-2)
+    finding-requires
+    slice-aggregate-write-all
+    write-all-requires
+    slice-aggregate-check-former
+    check-former-requires
+    finding-requires-2
+    slice-aggregate-write-all-2
+    write-all-requires-2
+    returns)

@@ -1,0 +1,57 @@
+-- A converted book in the calls in force: accepted with any claims and buffers that fit, and the answers are those of the former book. Assumes nothing.
+use Prim.Native.Nat.{ℕ, _<_}
+use mathlib.Core.Path.{_≡_, sym, ap, _∙_}
+use mathlib.Core.Bool.{false}
+use mathlib.Core.List.{List}
+use native.Mathlib.Omega.{arith}
+use borrow.Author.Tests.{lt-leb}
+use lib.ListN.{getD}
+use lib.Seq.{ext-getD}
+use Rattle.lists.specs.Tab.{tab}
+use Rattle.lists.proofs.Bools.{not-true}
+use Rattle.lists.proofs.Tabs.{tab-at, tab-length}
+use Rattle.rules.specs.Follows.{clash}
+use Rattle.rules.specs.Entries.{shortestClash}
+use Rattle.rules.specs.Verdict.{verdict}
+use Rattle.rules.proofs.Models.{clash-iff}
+use Rattle.records.specs.Record.{recordAt, records}
+use Rattle.records.specs.Pieces.{pieceCount}
+use Rattle.records.specs.Facts.{entries, facts}
+use Rattle.records.specs.Check.{claimsCheck}
+use Rattle.records.specs.declared.ClaimsCheck.the-variants as claims
+use Rattle.records.proofs.Accepted.{accepted-claims}
+use Rattle.closure.proofs.Settling.{settleable, free-beyond}
+use Rattle.answers.specs.Lent.{Lent, shortLent}
+use Rattle.answers.specs.Call.{pickedFacts, claimed, answersTo, byRuns, outcome, Passed}
+use Rattle.answers.specs.Outcome.{number}
+use Rattle.answers.proofs.Outcomes.{passed-outcome}
+use Rattle.convert.specs.Same.{InForce, SameAnswers}
+
+module _ (s t cs : List ℕ) (l : Lent) (F : InForce s t) (lent : shortLent cs l ≡ false) (fit : claimsCheck (pieceCount s) cs ≡ claims.Accepted) where
+  free : false ≡ clash (pieceCount s) (facts t)
+  free =
+      let S = settleable t (pieceCount s) (F .sound) in
+      sym (not-true _ (λ e. F .consistent (rw (F .counted) (clash-iff (pieceCount s) (facts t) (S .bounded .within) (S .bounded .some) .0 e))))
+
+  pub converted-accepted : number (outcome t cs l) ≡ 0
+  unfolding byRuns
+  converted-accepted =
+      ap number (passed-outcome t cs l (pieceCount s) (record { lent = lent; sound = F .sound; fit = fit }))
+      ∙ rw (lt-leb (shortestClash (pieceCount s) (entries t)) (records t) (free-beyond (settleable t (pieceCount s) (F .sound)) free), byRuns)
+
+  module _ (same : SameAnswers s t) where
+    at : ℕ → List ℕ → ℕ
+    at i u = verdict (pieceCount s) (pickedFacts u cs i) (claimed cs i)
+
+    at-same : (i : ℕ) → i < records cs → at i t ≡ at i s
+    unfolding at claimed
+    at-same i h = rw (F .counted) at (same (recordAt cs i) (accepted-claims (pieceCount s) cs fit .within i h))
+
+    pub converted-answers : answersTo t (pieceCount s) cs ≡ answersTo s (pieceCount s) cs
+    unfolding answersTo at
+    converted-answers =
+        let long : (u : List ℕ) → _ = λ u. tab-length (λ i. at i u) 0 (records cs) in
+        ext-getD 0 _ _ (long t ∙ sym (long s))
+        (λ i h.
+        let k : i < records cs = omega (arith, long t) in
+        tab-at (λ i. at i t) (records cs) i 0 k ∙ at-same i k ∙ sym (tab-at (λ i. at i s) (records cs) i 0 k))

@@ -1,0 +1,6 @@
+mod Answers
+pub mod Made
+pub mod Theorems
+pub mod Writes
+mod Examples
+pub mod Calls

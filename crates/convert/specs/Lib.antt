@@ -1,0 +1,4 @@
+pub mod Converted
+pub mod Conversion
+pub mod Same
+pub mod Writing

@@ -1,0 +1,94 @@
+// The converter: a book of the former edition written without its TRAY records.
+ghost use mathlib.Core.Path.{_≡_};
+ghost use Prim.Native.Nat.{ℕ, _<_, _≤_};
+ghost use lib.ListN.{length};
+ghost use Rattle.lists.specs.Front.{front};
+ghost use Rattle.convert.specs.Converted.{noTrays, converted};
+ghost use Rattle.convert.specs.Conversion.{number, Determined};
+ghost use Rattle.convert.specs.Same.{InForce, SameAnswers};
+ghost use Rattle.convert.specs.Writing.{FormerBook, Judged, Room};
+use closure::Settled;
+use records::BookCheck;
+use records::Refusal;
+
+// What a conversion comes to: how many bytes were written, or the refusal and its place.
+pub enum Conversion {
+    Written(usize),
+    Refused(Refusal, usize),
+}
+
+// Writes the records that are no TRAY records to the front of `out`, and says how many bytes they have.
+fn drop_trays(book: &[u8], out: &mut [u8]) -> usize
+    requires { ⌜ length (now book) ≤ length (now out) ⌝ }
+    ensures { λ r. ⌜ (r ≡ length (noTrays (now (book .entry)))) × (now (out .exit) ≡ front (noTrays (now (book .entry))) (now (out .entry))) ⌝ }
+{
+    let n = book.len() / 6;
+    let mut at: usize = 0;
+    let mut i: usize = 0;
+    while i < n {
+        let r = records::record_at(book, i);
+        at = records::copy_where(r.kind != 5, book, i, out, at);
+        i += 1;
+    }
+    at
+}
+
+// Writes the new book of a book of n pieces. Where the records that stay do not name the last piece, one record more does: PART of it in piece 0.
+fn write_book(book: &[u8], n: usize, out: &mut [u8]) -> usize
+    requires { ⌜ Room (now book) n (length (now out)) ⌝ }
+    ensures { λ r. ⌜ (r ≡ length (converted (now (book .entry)))) × (now (out .exit) ≡ front (converted (now (book .entry))) (now (out .entry))) ⌝ }
+{
+    let at = drop_trays(book, out);
+    if n <= records::piece_count(&out[..at]) {
+        return at;
+    }
+    let last = [1u8, 0, ((n - 1) % 256) as u8, ((n - 1) / 256) as u8, 0, 0];
+    records::copy_where(true, &last, 0, out, at)
+}
+
+// Row 14 of a book of the former edition.
+fn settle(book: &[u8], n: usize) -> Settled
+    requires { ⌜ FormerBook (now book) n ⌝ }
+    ensures { λ r. ⌜ Judged (now (book .entry)) n r ⌝ }
+{
+    let mut e = [0u64; 65536];
+    let mut d = [0u64; 65536];
+    let mut t = [0u64; 65536];
+    let mut parens = [0u8; 2560];
+    let mut marks = [0u8; 1280];
+    let mut shadows = [0u16; 8192];
+    let mut places = [0u16; 2048];
+    closure::settle(
+        book,
+        n,
+        &mut e,
+        &mut d,
+        &mut t,
+        &mut parens,
+        &mut marks,
+        &mut shadows,
+        &mut places,
+    )
+}
+
+// Converts a book of the former edition to the one in force.
+pub fn convert(book: &[u8], out: &mut [u8]) -> Conversion
+    ensures determined { λ r. ⌜ Determined (now (book .entry)) (now (out .entry)) r (now (out .exit)) ⌝ }
+    ensures accepted { λ r. ⌜ (number r ≡ 0 → InForce (now (book .entry)) (converted (now (book .entry)))) ⌝ }
+    ensures same { λ r. ⌜ (number r ≡ 0 → SameAnswers (now (book .entry)) (converted (now (book .entry)))) ⌝ }
+{
+    if out.len() < book.len() {
+        return Conversion::Refused(Refusal::ShortBuffer, 0);
+    }
+    let checked = records::check_former(book);
+    match checked {
+        BookCheck::Refused(refusal, place) => Conversion::Refused(refusal, place),
+        BookCheck::Accepted(n) => {
+            let settled = settle(book, n);
+            match settled {
+                Settled::Clash(place) => Conversion::Refused(Refusal::Contradiction, place),
+                Settled::Free(_, _) => Conversion::Written(write_book(book, n, out)),
+            }
+        }
+    }
+}

@@ -1,0 +1,20 @@
+use Rattle.piecebook.proofs.Results.{passed}
+use borrow.Author.Needs.{needs}
+use Rattle.piecebook.proofs.piecebook_convert.Statement.{statement}
+use Rattle.piecebook.proofs.piecebook_convert.Tie as tie
+
+convert-requires : tie.Need-convert-requires
+convert-requires c κs = search needs
+
+converted-of-requires : tie.Need-converted-of-requires
+converted-of-requires c κs = search needs
+
+same-length : tie.Need-same-length
+same-length c = search needs
+
+returns : tie.Need-returns
+returns c = passed _ _ _ _ _ (c .before .before .before .convert .ensures) (c .converted-of .ensures)
+
+pub piecebook-convert-spec : {M : Type 1} → statement M
+piecebook-convert-spec =
+    tie.close (tie.spec convert-requires converted-of-requires same-length returns)

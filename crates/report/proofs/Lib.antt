@@ -1,0 +1,10 @@
+pub mod Puts
+pub mod Decimals
+pub mod Names
+pub mod Lengths
+pub mod Claims
+pub mod Rooms
+pub mod Sessions
+pub mod Examples
+pub mod Pages
+pub mod SessionPage

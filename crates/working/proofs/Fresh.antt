@@ -1,0 +1,64 @@
+-- The call with buffers that are long enough is the fresh call. Assumes nothing.
+use mathlib.Core.Path.{_≡_, refl, sym, ap, subst, _∙_}
+use mathlib.Core.Bool.{Bool, true, false, _||_}
+use mathlib.Core.List.{List, [], _∷_, _++_}
+use Prim.Native.Nat.{ℕ, _+_, _*_, _-_, _/_, _≤_, _<_}
+use native.Mathlib.Omega.{arith}
+use borrow.Author.Tests.{le-ltb}
+use lib.Dec.{ltb, eqb}
+use lib.ListN.{length, getD, take, drop, replicate, length-append, length-drop, List·getD-append}
+use lib.Seq.{length-take-le}
+use Rattle.lists.proofs.Tabs.{tab-length}
+use Rattle.records.specs.Record.{records}
+use Rattle.records.specs.Refusal.{refusalNumber}
+use Rattle.records.specs.Check.{checkBy, bookCheck}
+use Rattle.records.specs.declared.Refusal.the-variants.{TooManyRecords}
+use Rattle.records.specs.declared.BookCheck.the-variants as book
+use Rattle.answers.specs.Lent.{Lent, lent, shortLent}
+use Rattle.lists.specs.Front.{front}
+use Rattle.answers.specs.Call.{outcome, byBook, answersTo, indexed, cleared, left, Determined}
+use Rattle.answers.specs.declared.Outcome.{Outcome}
+use Rattle.answers.specs.declared.Outcome.the-variants.{Accepted, Refused}
+use Rattle.working.specs.Fresh.{freshCall}
+use Rattle.working.specs.Standing.{standing, extended, without}
+use Rattle.working.specs.Rows.{answerOf}
+
+pub long-lent : (cs a b c d e : List ℕ) → length a ≡ 2560 → length b ≡ 1280 → length c ≡ 8192 → length d ≡ 2048 → records cs ≤ length e → shortLent cs (lent a b c d e) ≡ false
+unfolding shortLent
+long-lent cs a b c d e p q r t u =
+    rw (le-ltb (length a) 2560 (omega arith), le-ltb (length b) 1280 (omega arith), le-ltb (length c) 8192 (omega arith), le-ltb (length d) 2048 (omega arith), le-ltb (length e) (records cs) u) refl
+
+pub fresh-is : (s cs : List ℕ) (l : Lent) → shortLent cs l ≡ false → outcome s cs l ≡ freshCall s cs
+unfolding outcome freshCall
+fresh-is s cs l e = rw (e, outcome) refl
+
+-- the answer byte that the call leaves
+module _ (s c : List ℕ) (l : Lent) (six : length c ≡ 6) (clear : l .answers ≡ 0 ∷ []) where
+  refused-answer : (b : Bool) → getD ((elim b as (λ _. Lent) [ true ↦ cleared l | false ↦ l ]) .answers) 0 0 ≡ 0
+  unfolding cleared
+  refused-answer true = rw clear refl
+  refused-answer false = rw clear refl
+
+  one-answer : (n : ℕ) → length (answersTo s n c) ≡ 1
+  unfolding answersTo
+  one-answer n = tab-length _ 0 (records c) ∙ ap (λ (m : ℕ). m / 6) six
+
+  pub answer-left : (r : Outcome) → getD (left s c l r .answers) 0 0 ≡ answerOf s c r
+  unfolding left indexed answerOf front
+  answer-left (Accepted n nodes shadows) = List·getD-append (answersTo s n c) _ 0 0 (omega (arith, one-answer n))
+  answer-left (Refused x i) = refused-answer (eqb (refusalNumber x) 14)
+
+-- 8,193 records are too many
+pub over-full : (s : List ℕ) → length s ≡ 49158 → freshCall s [] ≡ Refused TooManyRecords 0
+unfolding freshCall byBook checkBy
+over-full s e = rw e refl
+
+pub extended-length : (area a : List ℕ) (k : ℕ) → 6 * k ≤ length area → length a ≡ 6 → length (extended area k a) ≡ 6 * k + 6
+unfolding extended standing
+extended-length area a k l e = omega (arith, length-append (take (6 * k) area) a, length-take-le (6 * k) area l)
+
+pub without-length : (area : List ℕ) (k i : ℕ) → 6 * k ≤ length area → i < k → length (without area k i) ≡ 6 * k - 6
+unfolding without standing
+without-length area k i l m =
+    let e : length (take (6 * k) area) ≡ 6 * k = length-take-le (6 * k) area l in
+    omega (arith, e, length-append (take (6 * i) (take (6 * k) area)) (drop (6 * i + 6) (take (6 * k) area)), length-take-le (6 * i) (take (6 * k) area) (omega arith), length-drop (6 * i + 6) (take (6 * k) area))

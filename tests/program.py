@@ -1,0 +1,183 @@
+#!/usr/bin/env python3
+"""Runs the question program as a user does, in a directory of its own each time, and compares every byte that it writes with document 01's words.
+
+    program.py [BINARY]     target/bin/query where none is given; the last line is 'N passed, M failed'
+
+Small books are judged here by the rules one after another; large ones are made so that their answers are known beforehand.
+"""
+import pathlib
+import subprocess
+import sys
+import tempfile
+import time
+
+ROOT = pathlib.Path(__file__).resolve().parent.parent
+sys.dont_write_bytecode = True
+sys.path.insert(0, str(ROOT / "tests"))
+from rules import APART, CLAIMS, MEETS, NAMES, NOTPART, PART, SESSION, answer, contradictory, saturate  # noqa: E402
+
+WORDS = {1: "FOLLOWS", 2: "DENIED", 3: "OPEN"}
+TRAY = 5
+DIRECTORY = "a directory"
+
+
+def six(kind, a, b, second=0):
+    return bytes([kind, second, a % 256, a // 256, b % 256, b // 256])
+
+
+def run_of(records):
+    return b"".join(six(*record) for record in records)
+
+
+def named(record):
+    kind, a, b = record
+    return max(a, b) if kind in NAMES else a
+
+
+def counts(pairs, pieces):
+    """Nodes and shadows: one node for piece 0 and one for each pair, joins included; the first pair of each part is its node."""
+    held = {part for part, _ in pairs}
+    nodes = 1 + len(pairs) + sum(1 for piece in range(1, pieces) if piece not in held)
+    return f"PIECES {pieces} NODES {nodes} SHADOWS {nodes - pieces}\n"
+
+
+def page(records, claims):
+    """What the program prints for a sound book of few pieces."""
+    pieces = 1 + max([named(record) for record in records], default=0)
+    known = saturate(records, range(pieces))
+    if contradictory(known):
+        place = next(k for k in range(len(records)) if contradictory(saturate(records[: k + 1], range(pieces))))
+        return f"REFUSED 14 {place}\n"
+    lines = [f"{i} {NAMES[kind]} {a} {b} {WORDS[answer(known, (kind, a, b))]}\n" for i, (kind, a, b) in enumerate(claims)]
+    return counts({(a, b) for kind, a, b in records if kind == PART}, pieces) + "".join(lines)
+
+
+# ---- a book in which every two of 128 pieces meet
+
+ALL_MEET = [(MEETS, a, b) for a in range(128) for b in range(a)] + [(MEETS, b, a) for a in range(12) for b in range(a)]
+FULL = ALL_MEET[:8192]
+
+
+def meeting_page(claims):
+    def word(kind, a, b):
+        if kind in (MEETS, APART):
+            return "FOLLOWS" if kind == MEETS else "DENIED"
+        if a == b or b == 0:
+            return "FOLLOWS" if kind == PART else "DENIED"
+        return "OPEN"
+
+    return counts(set(), 128) + "".join(f"{i} {NAMES[kind]} {a} {b} {word(kind, a, b)}\n" for i, (kind, a, b) in enumerate(claims))
+
+
+def many_claims(count):
+    return [(1 + i % 4, i * 7 % 128, i * 13 // 5 % 128) for i in range(count)]
+
+
+def cases():
+    session, asked = run_of(SESSION), run_of(CLAIMS)
+    empty = page([], [(PART, 0, 0), (MEETS, 0, 0), (NOTPART, 0, 0), (APART, 0, 0)])
+    about_nothing = run_of([(PART, 0, 0), (MEETS, 0, 0), (NOTPART, 0, 0), (APART, 0, 0)])
+    yield "the session", session, asked, page(SESSION, CLAIMS)
+    yield "no file", None, about_nothing, empty
+    yield "no file, no claims", None, b"", page([], [])
+    yield "no file, a claim about piece 1", None, about_nothing + six(PART, 1, 0), "REFUSED 13 4\n"
+    yield "an empty file", b"", about_nothing, empty
+    yield "a file that is a directory", DIRECTORY, about_nothing, empty
+    yield "no claims", session, b"", page(SESSION, [])
+    full = run_of(FULL)
+    yield "8,192 records", full, run_of(many_claims(100)), meeting_page(many_claims(100))
+    yield "8,193 records", full + six(MEETS, 126, 127), asked, "REFUSED 4 0\n"
+    yield "9,000 records", run_of(FULL + [(APART, a, 0) for a in range(1000, 1808)]), asked, "REFUSED 4 0\n"
+    yield "4,096 claims", full, run_of(many_claims(4096)), meeting_page(many_claims(4096))
+    yield "4,097 claims", full, run_of(many_claims(4097)), "REFUSED 11 0\n"
+    yield "5,000 claims", full, run_of(many_claims(5000)), "REFUSED 11 0\n"
+    yield "a book that ends in a record", session[:-1], asked, "REFUSED 3 0\n"
+    yield "claims that end in a claim", session, asked[:-2], "REFUSED 10 0\n"
+    yield "49,158 bytes, the last one beyond them", full + b"\1\0\1\0\0\0\1", asked, "REFUSED 4 0\n"
+    # R-5: PART 2 1 is the scanner's, PART 3 2 stands on a sheet; a restricted claim's line is like any other
+    scanned = six(PART, 2, 1, 1) + six(PART, 3, 2)
+    claims = b"".join(six(*claim) for claim in [(PART, 3, 1), (PART, 3, 1, 1), (NOTPART, 2, 1), (NOTPART, 2, 1, 1), (MEETS, 3, 2, 1)])
+    words = ["0 PART 3 1 FOLLOWS", "1 PART 3 1 OPEN", "2 NOTPART 2 1 DENIED", "3 NOTPART 2 1 OPEN", "4 MEETS 3 2 FOLLOWS"]
+    yield "claims on all facts and on the sheets", scanned, claims, counts({(2, 1), (3, 2)}, 4) + "".join(word + "\n" for word in words)
+    yield "a TRAY record", six(PART, 1, 0) + six(TRAY, 1, 7), asked, "REFUSED 5 1\n"
+    for number, record in [
+        (5, six(7, 1, 0)),
+        (6, six(APART, 1, 2, 9)),
+        (7, six(MEETS, 2048, 1)),
+        (8, six(PART, 2, 3)),
+        (9, six(*SESSION[4])),
+    ]:
+        yield f"number {number} in record 9", session + record, asked, f"REFUSED {number} 9\n"
+        yield f"number {number} in record 4,000", run_of(FULL[:4000]) + (six(*FULL[17]) if number == 9 else record), b"", f"REFUSED {number} 4000\n"
+    yield "number 12 in claim 10", session, asked + six(TRAY, 1, 0), "REFUSED 12 10\n"
+    yield "number 12 in claim 3,000", full, run_of(many_claims(3000)) + six(PART, 1, 0, 7), "REFUSED 12 3000\n"
+    yield "number 13 in claim 10", session, asked + six(PART, 6, 0), "REFUSED 13 10\n"
+    yield "number 13 in claim 4,095", full, run_of(many_claims(4095)) + six(PART, 5, 128), "REFUSED 13 4095\n"
+    yield "number 14", session + six(MEETS, 5, 3), asked, page(SESSION + [(MEETS, 5, 3)], [])
+    yield "number 14 in record 8,191", run_of(FULL[:8191]) + six(APART, 3, 4), asked, "REFUSED 14 8191\n"
+
+
+def slow(writer, data):
+    """Writes in pieces of 1 to 7 bytes."""
+    at, size = 0, 1
+    while at < len(data):
+        writer.write(data[at : at + size])
+        writer.flush()
+        at, size = at + size, size % 7 + 1
+        time.sleep(0.001)
+    writer.close()
+
+
+def start(binary, room, book, stdin, stdout):
+    if book == DIRECTORY:
+        (room / "book.rec").mkdir()
+    elif book is not None:
+        (room / "book.rec").write_bytes(book)
+    return subprocess.Popen([binary], cwd=room, stdin=stdin, stdout=stdout, stderr=subprocess.DEVNULL)
+
+
+def printed(binary, book, claims, write=lambda writer, data: (writer.write(data), writer.close())):
+    with tempfile.TemporaryDirectory() as name:
+        room = pathlib.Path(name)
+        with start(binary, room, book, subprocess.PIPE, subprocess.PIPE) as program:
+            try:
+                write(program.stdin, claims)
+            except BrokenPipeError:
+                pass  # it reads no more than it needs
+            text = program.stdout.read()
+            program.wait(60)
+            return text
+
+
+def ends_without_output(binary, book, claims):
+    """With standard output closed the program comes to its end."""
+    with tempfile.TemporaryDirectory() as name:
+        room = pathlib.Path(name)
+        (room / "claims").write_bytes(claims)
+        (room / "book.rec").write_bytes(book)
+        command = '"$0" < claims >&-'
+        return subprocess.run(["sh", "-c", command, binary], cwd=room, timeout=60, check=False).returncode >= 0
+
+
+def main():
+    binary = str(pathlib.Path(sys.argv[1] if len(sys.argv) > 1 else ROOT / "target" / "bin" / "query").resolve())
+    passed = failed = 0
+
+    def count(name, good, text=""):
+        nonlocal passed, failed
+        passed, failed = passed + good, failed + (not good)
+        print(f"{'ok  ' if good else 'FAIL'} {name}" + ("" if good else f": {text[:200]!r}"))
+
+    for name, book, claims, expected in cases():
+        text = printed(binary, book, claims)
+        count(name, text == expected.encode(), text)
+    session, asked = run_of(SESSION), run_of(CLAIMS)
+    text = printed(binary, session, asked, slow)
+    count("claims from a slow pipe", text == page(SESSION, CLAIMS).encode(), text)
+    count("a closed standard output", ends_without_output(binary, session, asked))
+    print(f"{passed} passed, {failed} failed")
+    return 0 if failed == 0 else 1
+
+
+if __name__ == "__main__":
+    sys.exit(main())
