@@ -129,6 +129,24 @@ fn compare_to(expected: Expected, random: &mut Random, book: &[u8], claims: Opti
     (expected, wrong)
 }
 
+/// Calls the library on a book and on the same records in another order, from equal buffers. Where no row but 14 refuses the book, all but the place
+/// of 14 is the same.
+fn reorder(random: &mut Random, case: &Case, claims: Option<&[u8]>) -> (usize, Option<String>) {
+    let mut records: Vec<&[u8]> = case.book.chunks(6).collect();
+    random.shuffle(&mut records);
+    let mut lent = Lent::new(random, case.lengths);
+    let mut shuffled = lent.clone();
+    let one = lent.call(&case.book, claims);
+    let other = shuffled.call(&records.concat(), claims);
+    let place = if one.number == 14 { other.place } else { one.place };
+    let wrong = if (Outcome { place, ..one }) == other {
+        lent.difference(&shuffled)
+    } else {
+        Some(format!("{one:?} becomes {other:?}"))
+    };
+    (usize::from(one.place != other.place), wrong)
+}
+
 /// Converts the book into so much room, and says what is wrong. The new book must come to what the former one came to: index, counts and answers.
 fn compare_conversion(random: &mut Random, book: &[u8], room: usize) -> (Converted, Option<String>) {
     let (expected, bytes, doubt) = convert(book, room);
@@ -340,6 +358,26 @@ impl Tally {
             start.elapsed().as_secs_f64()
         );
     }
+}
+
+/// Books in two orders, on both calls.
+fn reordered(tally: &mut Tally, count: usize) {
+    let failed = tally.failed;
+    let mut random = Random(8);
+    let mut moved = 0;
+    for number in 0..count {
+        let case = match number % 50 {
+            0 => middle(&mut random, SHAPES[number / 50 % SHAPES.len()], number / 50),
+            n if n % 3 == 1 => small_contradictory(&mut random),
+            _ => small_sound(&mut random),
+        };
+        let (place, wrong) = reorder(&mut random, &case, Some(&case.claims));
+        let (_, wrong_index) = reorder(&mut random, &case, None);
+        moved += place;
+        tally.count(wrong.or(wrong_index).map(|wrong| format!("reordered, book {number}: {wrong}; book {:?}", case.book)));
+    }
+    tally.count((moved == 0).then(|| "the place of 14 never moved".into()));
+    println!("reordered: {count} books, the place of 14 moved in {moved}; {} failed", tally.failed - failed);
 }
 
 // Document 01's own examples, its numbers written out.
@@ -682,6 +720,7 @@ fn run(times: usize) -> bool {
             largest_contradictory(random, shape, [8191, 4000, 100][number % 3])
         });
     }
+    reordered(&mut tally, 1500 * times);
     conversion_examples(&mut tally);
     tally.converted("converted, small", 3000 * times, small_former);
     tally.converted("converted, damaged", 3000 * times, damaged_former);

@@ -6,3 +6,5 @@ pub mod Judges
 pub mod Answering
 pub mod Calls
 pub mod Empty
+pub mod Orders
+pub mod Steadies

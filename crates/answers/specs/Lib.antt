@@ -5,3 +5,4 @@ pub mod Demands
 pub mod Agree
 pub mod Fitting
 pub mod Judging
+pub mod Order

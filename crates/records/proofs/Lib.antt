@@ -9,3 +9,4 @@ mod Filters
 mod Books
 mod Claims
 pub mod Keeps
+pub mod Orders

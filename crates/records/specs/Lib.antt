@@ -7,3 +7,4 @@ pub mod Facts
 pub mod Key
 pub mod Met
 pub mod Kept
+pub mod Reordered

@@ -1,0 +1,103 @@
+-- Records that are added alter no FOLLOWS and no DENIED; and an order that moves the place of 14. Assumes nothing.
+use Prim.Native.Nat.{ℕ, zero, suc, _-_, _*_, _<_}
+use mathlib.Core.Path.{_≡_, refl, _∙_}
+use mathlib.Core.List.{List, [], _++_}
+use native.Mathlib.Omega.{arith}
+use lib.ListN.{length}
+use Rattle.lists.specs.Tab.{tab}
+use Rattle.lists.specs.Any.{any, anyBelow}
+use Rattle.lists.specs.First.{first}
+use Rattle.rules.specs.Fact.{factOf}
+use Rattle.rules.specs.Follows.{storing, turned, table, entry, step, rounds, containment, meets, clash}
+use Rattle.rules.specs.Entries.{factsOf, shortestClash}
+use Rattle.rules.proofs.More.{weaken}
+use Rattle.records.specs.Record.{recordAt, records}
+use Rattle.records.specs.Reordered.{Reordered}
+use Rattle.records.specs.Refusal.{scan}
+use Rattle.records.specs.Pieces.{piecesUpTo, stated, largest}
+use Rattle.records.specs.Rows.{admitted, sameBytes}
+use Rattle.records.specs.Check.{formFinding, recordFinding, checkBy, bookCheck, claimsCheck}
+use Rattle.records.specs.Facts.{entryOf, entries}
+use Rattle.records.specs.Kept.{bytesAt}
+use Rattle.records.specs.declared.Refusal.the-variants.{Contradiction}
+use Rattle.records.specs.declared.BookCheck.the-variants as book
+use Rattle.records.specs.declared.ClaimsCheck.the-variants as claims
+use Rattle.records.proofs.Rows.{refused-positive}
+use Rattle.records.proofs.Accepted.{accepted}
+use Rattle.records.proofs.Examples.{bytes}
+use Rattle.records.proofs.Orders.{Found, picked-found, count-found, found-before, found-through, found-moved}
+use Rattle.answers.specs.Lent.{Lent}
+use Rattle.answers.specs.Outcome.{number}
+use Rattle.answers.specs.Call.{byRuns, outcome}
+use Rattle.answers.specs.Order.{PlaceDiffers, Steady}
+use Rattle.answers.specs.declared.Outcome.{Outcome}
+use Rattle.answers.specs.declared.Outcome.the-variants.{Accepted, Refused}
+use Rattle.answers.proofs.Outcomes.{Told, told, passed-outcome}
+use Rattle.answers.proofs.Kept.{kept2}
+
+-- an accepted book ends with a whole record
+whole : (s cs : List ℕ) (l : Lent) → number (outcome s cs l) ≡ 0 → length s ≡ 6 * records s
+whole s cs l = pick (outcome s cs l) (told s cs l)
+  where
+    pick : (r : Outcome) → Told s cs l r → number r ≡ 0 → length s ≡ 6 * records s
+    pick (Accepted n nodes shadows) t q = accepted s n (t .0 .sound) .whole
+    pick (Refused r i) t q = absurd (refused-positive r q)
+
+-- what has a derivation has one from more facts, of more pieces
+pub steady : Steady
+steady s r t cs l R a b i h =
+    let there : Found s t = found-through s (s ++ r) t (found-before s r (whole s cs l a)) (found-moved (s ++ r) t R) in
+    let x = kept2 s cs l (refl, refl) a i h in
+    let y = kept2 t cs l (refl, refl) b i h in (
+      λ q. y .follows .1 (weaken (count-found s t there) (picked-found s t there (recordAt cs i)) (x .follows .0 q)),
+      λ q. y .denied .1 (weaken (count-found s t there) (picked-found s t there (recordAt cs i)) (x .denied .0 q)),
+    )
+
+-- ---- APART 1 1 before PART 2 0, and behind it
+
+abbrev early : List ℕ
+early = bytes 2 0 1 1 ++ bytes 1 0 2 0
+
+abbrev late : List ℕ
+late = bytes 1 0 2 0 ++ bytes 2 0 1 1
+
+swapped : (i : ℕ) → i < 2 → bytesAt late (1 - i) ≡ bytesAt early i
+unfolding bytesAt
+swapped zero h = refl
+swapped (suc zero) h = refl
+swapped (suc (suc i)) h = absurd (omega arith)
+
+two-orders : Reordered early late
+two-orders = record {
+  long = refl;
+  to = λ i. 1 - i;
+  from = λ i. 1 - i;
+  to-in = λ i h. omega arith;
+  from-in = λ i h. omega arith;
+  from-to = λ i h. omega arith;
+  to-from = λ i h. omega arith;
+  same = swapped;
+}
+
+checks : (bookCheck early ≡ book.Accepted 3) × (bookCheck late ≡ book.Accepted 3)
+unfolding checkBy scan recordFinding formFinding admitted recordAt stated largest piecesUpTo sameBytes anyBelow
+checks = (refl, refl)
+
+no-claims : claimsCheck 3 [] ≡ claims.Accepted
+unfolding claimsCheck scan
+no-claims = refl
+
+places : (byRuns early 3 ≡ Refused Contradiction 0) × (byRuns late 3 ≡ Refused Contradiction 1)
+unfolding byRuns entries entryOf stated recordAt factOf factsOf shortestClash first clash any anyBelow tab table entry storing turned step rounds containment meets
+places = (refl, refl)
+
+pub place-differs : PlaceDiffers
+place-differs = (
+  early,
+  late,
+  two-orders,
+  λ l long. (
+    passed-outcome early [] l 3 (record { lent = long; sound = checks .0; fit = no-claims }) ∙ places .0,
+    passed-outcome late [] l 3 (record { lent = long; sound = checks .1; fit = no-claims }) ∙ places .1,
+  ),
+)
