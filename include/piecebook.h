@@ -20,10 +20,13 @@ extern "C" {
 enum { PIECEBOOK_CUTTING_SHEET = 0, PIECEBOOK_SCANNER = 1 };
 enum { PIECEBOOK_ALL_FACTS = 0, PIECEBOOK_SHEETS_ONLY = 1 };
 
+/* Byte 0 of a record: a fact of a and b, or with the last kind that piece a is void, which has b zero and a not zero. A claim has one of the first four. */
+enum { PIECEBOOK_PART = 1, PIECEBOOK_APART = 2, PIECEBOOK_MEETS = 3, PIECEBOOK_NOTPART = 4, PIECEBOOK_VOID = 6 };
+
 /* The answer bytes. */
 enum { PIECEBOOK_FOLLOWS = 1, PIECEBOOK_DENIED = 2, PIECEBOOK_OPEN = 3 };
 
-/* number is 0 for an accepted book, or the number of the refusal, 1 or 3 to 14, whose record or claim is place; the counts are 0 for a refusal.
+/* number is 0 for an accepted book, or the number of the refusal, 1, 3 to 14 or 19, whose record or claim is place; the counts are 0 for a refusal.
    A book of no bytes is piece 0 alone: accepted, with counts 1, 1 and 0. */
 typedef struct {
     size_t number;

@@ -17,7 +17,7 @@ sys.path.insert(0, str(ROOT / "tests"))
 from rules import APART, CLAIMS, MEETS, NAMES, NOTPART, PART, SESSION, answer, contradictory, saturate  # noqa: E402
 
 WORDS = {1: "FOLLOWS", 2: "DENIED", 3: "OPEN"}
-TRAY = 5
+TRAY, VOID = 5, 6
 DIRECTORY = "a directory"
 
 
@@ -42,11 +42,16 @@ def counts(pairs, pieces):
 
 
 def page(records, claims):
-    """What the program prints for a sound book of few pieces."""
+    """What the program prints for a sound book of few pieces. Its marks count in every run of its records."""
     pieces = 1 + max([named(record) for record in records], default=0)
-    known = saturate(records, range(pieces))
+    void = {a for kind, a, _ in records if kind == VOID}
+
+    def derived(run):
+        return saturate([record for record in run if record[0] != VOID], range(pieces), void)
+
+    known = derived(records)
     if contradictory(known):
-        place = next(k for k in range(len(records)) if contradictory(saturate(records[: k + 1], range(pieces))))
+        place = next(k for k in range(len(records)) if contradictory(derived(records[: k + 1])))
         return f"REFUSED 14 {place}\n"
     lines = [f"{i} {NAMES[kind]} {a} {b} {WORDS[answer(known, (kind, a, b))]}\n" for i, (kind, a, b) in enumerate(claims)]
     return counts({(a, b) for kind, a, b in records if kind == PART}, pieces) + "".join(lines)
@@ -99,11 +104,31 @@ def cases():
     claims = b"".join(six(*claim) for claim in [(PART, 3, 1), (PART, 3, 1, 1), (NOTPART, 2, 1), (NOTPART, 2, 1, 1), (MEETS, 3, 2, 1)])
     words = ["0 PART 3 1 FOLLOWS", "1 PART 3 1 OPEN", "2 NOTPART 2 1 DENIED", "3 NOTPART 2 1 OPEN", "4 MEETS 3 2 FOLLOWS"]
     yield "claims on all facts and on the sheets", scanned, claims, counts({(2, 1), (3, 2)}, 4) + "".join(word + "\n" for word in words)
+    # R-10: each kind of claim about a void piece, and what no void piece can be
+    void = [(VOID, 1, 0), (PART, 2, 0), (VOID, 3, 0), (PART, 3, 2)]
+    about = [(kind, a, b) for a, b in [(1, 2), (2, 1), (1, 1), (1, 3), (3, 2), (2, 3), (0, 1), (2, 2), (1, 0)] for kind in NAMES]
+    words = ["0 PART 1 2 FOLLOWS", "1 APART 1 2 FOLLOWS", "2 MEETS 1 2 DENIED", "3 NOTPART 1 2 DENIED", "4 PART 2 1 DENIED"]
+    yield "claims about void pieces", run_of(void), run_of(about), page(void, about)
+    yield "five of them by hand", run_of(void), run_of(about[:5]), counts({(2, 0), (3, 2)}, 4) + "".join(word + "\n" for word in words)
+    yield "a scanner's mark and restricted claims", six(VOID, 1, 0, 1) + run_of(void[1:]), b"".join(six(*c, 1) for c in about), page(void, about)
+    for name, records, line in [
+        ("a void piece that MEETS another", [(VOID, 1, 0), (MEETS, 2, 1)], "REFUSED 14 1\n"),
+        ("a mark counts from the first record on", [(MEETS, 2, 1), (PART, 3, 0), (VOID, 1, 0)], "REFUSED 14 0\n"),
+        ("an unmarked part of a void piece", [(PART, 2, 1), (VOID, 1, 0)], "REFUSED 14 0\n"),
+        ("a void part of a void piece", [(PART, 2, 1), (VOID, 1, 0), (VOID, 2, 0)], counts({(2, 1)}, 3)),
+        ("a void piece NOTPART of another", [(VOID, 1, 0), (NOTPART, 1, 2)], "REFUSED 14 1\n"),
+        ("a void piece APART from all the ice", [(APART, 1, 0), (APART, 1, 1), (VOID, 1, 0)], counts(set(), 2)),
+    ]:
+        assert line == page(records, [])
+        yield name, run_of(records), b"", line
+    yield "a mark of piece 0", session + six(VOID, 0, 0), asked, "REFUSED 19 9\n"
+    yield "a claim of kind 6", session, asked + six(VOID, 1, 0), "REFUSED 12 10\n"
     yield "a TRAY record", six(PART, 1, 0) + six(TRAY, 1, 7), asked, "REFUSED 5 1\n"
     for number, record in [
         (5, six(7, 1, 0)),
         (6, six(APART, 1, 2, 9)),
         (7, six(MEETS, 2048, 1)),
+        (19, six(VOID, 1, 3)),
         (8, six(PART, 2, 3)),
         (9, six(*SESSION[4])),
     ]:

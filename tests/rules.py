@@ -1,6 +1,6 @@
-"""The rules of document 01 applied one by one, until nothing new is found, and its session.
+"""The rules of document 01, with the marks of document 02's R-10, applied one by one, until nothing new is found, and the session.
 
-A fact is (kind, a, b). Nothing is shared between rules, and no rule is skipped because another would do.
+A fact is (kind, a, b); `void` has the marked pieces. Nothing is shared between rules, and no rule is skipped because another would do.
 """
 import itertools
 
@@ -9,12 +9,16 @@ NAMES = {PART: "PART", APART: "APART", MEETS: "MEETS", NOTPART: "NOTPART"}
 OPPOSITE = {PART: NOTPART, NOTPART: PART, APART: MEETS, MEETS: APART}
 
 
-def new_facts(known, pieces):
+def new_facts(known, pieces, void):
     """All that one rule gives from what is known."""
     for g in pieces:
         yield PART, g, g  # (c)
         yield PART, g, 0  # (f)
-        yield MEETS, g, g  # (e')
+        if g not in void:
+            yield MEETS, g, g  # (e')
+    for g, k in itertools.product(void, pieces):
+        yield APART, g, k  # (d)
+        yield PART, g, k  # (e)
     for kind, g, h in list(known):
         if kind in (APART, MEETS):  # unordered
             yield kind, h, g
@@ -33,10 +37,10 @@ def new_facts(known, pieces):
             yield NOTPART, g, x
 
 
-def saturate(records, pieces):
-    known = set(records)
+def saturate(facts, pieces, void=frozenset()):
+    known = set(facts)
     while True:
-        found = set(new_facts(known, pieces)) - known
+        found = set(new_facts(known, pieces, void)) - known
         if not found:
             return known
         known |= found

@@ -47,6 +47,7 @@ pub const APART: u8 = 2;
 pub const MEETS: u8 = 3;
 pub const NOTPART: u8 = 4;
 pub const TRAY: u8 = 5;
+pub const VOID: u8 = 6;
 
 pub const SHEET: u8 = 0;
 pub const SCANNER: u8 = 1;
@@ -137,10 +138,35 @@ fn pairs(random: &mut Random, shape: Shape, pieces: usize, dense: usize) -> Vec<
     list
 }
 
-/// A set of grains for each piece, a part's within its containers'.
-fn lay(random: &mut Random, pieces: usize, pairs: &[(usize, usize)]) -> Vec<[u64; 8]> {
+/// Some pieces that can be void together: never 0, and with a piece all its parts; at most so many.
+fn some_void(random: &mut Random, pieces: usize, pairs: &[(usize, usize)], tries: usize, most: usize) -> Vec<bool> {
+    let mut parts = vec![vec![]; pieces];
+    for &(part, container) in pairs {
+        parts[container].push(part);
+    }
+    let mut void = vec![false; pieces];
+    for _ in 0..if pieces > 1 { tries } else { 0 } {
+        let mut more = void.clone();
+        // mostly a late one, whose parts are few
+        let low = random.range(1, pieces);
+        let mut waiting = vec![random.range(low, pieces)];
+        while let Some(piece) = waiting.pop() {
+            if !more[piece] {
+                more[piece] = true;
+                waiting.extend(&parts[piece]);
+            }
+        }
+        if more.iter().filter(|&&marked| marked).count() <= most {
+            void = more;
+        }
+    }
+    void
+}
+
+/// A set of grains for each piece, a part's within its containers'; none for a void one.
+fn lay(random: &mut Random, pieces: usize, pairs: &[(usize, usize)], void: &[bool]) -> Vec<[u64; 8]> {
     let mut sets = vec![[0u64; 8]; pieces];
-    for set in sets.iter_mut() {
+    for (_, set) in sets.iter_mut().enumerate().filter(|(piece, _)| !void[*piece]) {
         for _ in 0..1 + random.below(2) {
             let grain = random.below(512);
             set[grain / 64] |= 1 << (grain % 64);
@@ -185,6 +211,8 @@ pub struct Plan {
     pub records: usize,
     /// facts besides PART, as far as there is room
     pub facts: usize,
+    /// how often to mark a piece and its parts as void, as far as there is room
+    pub voids: usize,
     /// fill up with facts that say nothing new to just so many records
     pub fill: bool,
 }
@@ -194,11 +222,14 @@ pub fn sound(random: &mut Random, plan: Plan) -> Vec<Bytes> {
     let mut pairs = pairs(random, plan.shape, plan.pieces, (plan.records - plan.facts.min(plan.records)) / plan.pieces);
     random.shuffle(&mut pairs);
     pairs.truncate(plan.records - plan.facts.min(plan.records / 2));
-    let sets = lay(random, plan.pieces, &pairs);
-    let mut book: Vec<Bytes> = pairs.iter().map(|&(part, container)| record(PART, part, container)).collect();
+    let void = some_void(random, plan.pieces, &pairs, plan.voids, (plan.records - pairs.len()) / 2);
+    let sets = lay(random, plan.pieces, &pairs, &void);
+    let marks = (0..plan.pieces).filter(|&piece| void[piece]).map(|piece| record(VOID, piece, 0));
+    let mut book: Vec<Bytes> = pairs.iter().map(|&(part, container)| record(PART, part, container)).chain(marks).collect();
+    let start = book.len();
     let mut seen: HashSet<Bytes> = book.iter().copied().collect();
     for _ in 0..8 * plan.facts {
-        if book.len() >= plan.records || book.len() >= pairs.len() + plan.facts {
+        if book.len() >= plan.records || book.len() >= start + plan.facts {
             break;
         }
         let (kind, a, b) = (random.pick(&[APART, APART, APART, MEETS, NOTPART]), random.below(plan.pieces), random.below(plan.pieces));
@@ -211,7 +242,8 @@ pub fn sound(random: &mut Random, plan: Plan) -> Vec<Bytes> {
     let mut a = plan.pieces - 1;
     while plan.fill && book.len() < plan.records || book.len() < plan.records && random.one_in(3) {
         let next = random.pick(&[record(MEETS, a, a), record(MEETS, a, 0), record(MEETS, 0, a), record(NOTPART, 0, a)]);
-        if (next[0] == MEETS || keeps(&sets, NOTPART, 0, a)) && seen.insert(next) {
+        let kept = if next[0] == MEETS { keeps(&sets, MEETS, a, a) } else { keeps(&sets, NOTPART, 0, a) };
+        if kept && seen.insert(next) {
             book.push(next);
         }
         a = random.below(plan.pieces);
@@ -230,6 +262,16 @@ pub fn sound(random: &mut Random, plan: Plan) -> Vec<Bytes> {
     }
     random.shuffle(&mut book);
     book
+}
+
+/// Marks pieces as void at any place, whatever the facts say.
+pub fn throw_marks(random: &mut Random, book: &mut Vec<Bytes>, pieces: usize, marks: usize) {
+    for _ in 0..marks {
+        let next = of(random.pick(&[SHEET, SCANNER]), record(VOID, random.range(1, pieces.max(2)), 0));
+        if !book.contains(&next) {
+            book.insert(random.below(book.len() + 1), next);
+        }
+    }
 }
 
 /// Adds facts of any kind at any place, whatever the others say.
@@ -297,7 +339,7 @@ fn damage_once(random: &mut Random, bytes: &mut Vec<u8>) {
     }
     let at = random.below(count) * 6;
     let wide = random.pick(&[0u16, 1, 255, 256, 2047, 2048, 2049, 4096, 65535]).to_le_bytes();
-    match random.below(10) {
+    match random.below(11) {
         0 => bytes[at] = random.pick(&[0, 1, 2, 3, 4, 5, 6, 7, 128, 255]),
         1 => bytes[at + 1] = random.pick(&[1, 2, 128, 255]),
         2 => bytes[at + 2..at + 4].copy_from_slice(&wide),
@@ -309,6 +351,7 @@ fn damage_once(random: &mut Random, bytes: &mut Vec<u8>) {
         }
         7 => bytes.truncate(at + random.below(6)),
         8 => bytes[at] = 1,
+        9 => bytes[at] = VOID,
         _ => {
             let i = random.below(bytes.len());
             bytes[i] = random.next() as u8;

@@ -97,8 +97,9 @@ fn alter(random: &mut Random, state: &mut Working, area: &mut [u8]) {
 pub fn play(random: &mut Random, numbers: &mut [usize]) -> Option<String> {
     let pieces = random.range(2, 9);
     let shape = random.pick(&SHAPES);
-    let mut records = sound(random, Plan { shape, pieces, records: 30, facts: 10, fill: false });
+    let mut records = sound(random, Plan { shape, pieces, records: 30, facts: 10, voids: 1, fill: false });
     contradict(random, &mut records, pieces, 6);
+    throw_marks(random, &mut records, pieces, 2);
     let claims = all_claims(pieces + 1);
     let behind = random.below(30);
     let mut area: Vec<u8> = (0..AREA + behind).map(|_| random.next() as u8).collect();

@@ -1,4 +1,4 @@
-//! Document 01 once more, from its words, with document 02's: which input is refused, what the index is, what each claim is answered. It knows nothing of the
+//! Document 01 once more, from its words, with document 02's: which input is refused, what the index is, what each claim is answered. It knows nothing of the
 //! library's ways.
 
 use crate::piecebook::{Converted, Outcome, DENIED, FOLLOWS, MARKS, OPEN, PARENTHESES, PLACES, SHADOWS};
@@ -68,10 +68,12 @@ fn fact(record: &Record) -> Option<Fact> {
 
 /// A book that passes rows 3 to 9.
 struct Book {
-    /// the fact of each record, none for a TRAY
+    /// the fact of each record, none for a TRAY or a mark
     facts: Vec<Option<Fact>>,
     /// the same with none for the scanner's records
     sheets: Vec<Option<Fact>>,
+    /// the pieces that some record marks, of either origin
+    void: Vec<bool>,
     pieces: usize,
 }
 
@@ -82,7 +84,7 @@ struct Claim {
     restricted: bool,
 }
 
-/// The former edition has TRAY records, kind 5, besides the kinds of the one in force.
+/// The former edition has TRAY records, kind 5, besides the facts; the one in force has marks, kind 6.
 #[derive(Clone, Copy, Debug, PartialEq)]
 pub enum Edition {
     Former,
@@ -98,15 +100,20 @@ fn read_book(book: &[u8], edition: Edition) -> Result<Book, Refusal> {
         _ => {}
     }
     let mut seen = HashSet::new();
-    let (mut facts, mut sheets) = (Vec::new(), Vec::new());
+    let (mut facts, mut sheets, mut marked) = (Vec::new(), Vec::new(), HashSet::new());
     let mut largest = 0;
     for (i, (record, bytes)) in records(book).zip(book.chunks(6)).enumerate() {
         let Record { kind, origin, a, b } = record;
-        let b_is_piece = kind != 5;
+        let b_is_piece = (1..=4).contains(&kind);
+        let other_kind = match edition {
+            Edition::Former => 5,
+            Edition::InForce => 6,
+        };
         let rows = [
-            (5, !(1..=4).contains(&kind) && (edition == Edition::InForce || kind != 5)),
+            (5, !(1..=4).contains(&kind) && kind != other_kind),
             (6, origin > 1),
             (7, a > 2047 || b_is_piece && b > 2047),
+            (19, kind == 6 && (b != 0 || a == 0)),
             (8, kind == 1 && b >= a),
             (9, !seen.insert(bytes)),
         ];
@@ -119,8 +126,13 @@ fn read_book(book: &[u8], edition: Edition) -> Result<Book, Refusal> {
         }
         facts.push(fact(&record));
         sheets.push(fact(&record).filter(|_| origin == 0));
+        if kind == 6 {
+            marked.insert(a);
+        }
     }
-    Ok(Book { facts, sheets, pieces: largest + 1 })
+    let pieces = largest + 1;
+    let void = (0..pieces).map(|piece| marked.contains(&piece)).collect();
+    Ok(Book { facts, sheets, void, pieces })
 }
 
 /// Rows 10 to 13.
@@ -234,15 +246,15 @@ fn cleared() -> Index {
 /// Books of at most this many pieces are worked out fact by fact, and by the faster ways as well; the results must agree.
 const SMALL: usize = 16;
 
-/// The last record of the shortest contradictory run from the start.
-fn contradiction(pieces: usize, facts: &[Option<Fact>], doubt: &mut Option<String>) -> Option<usize> {
+/// The last record of the shortest contradictory run from the start. The whole book's marks count in every run.
+fn contradiction(pieces: usize, facts: &[Option<Fact>], void: &[bool], doubt: &mut Option<String>) -> Option<usize> {
     let run = |length: usize| -> Vec<Fact> { facts[..length].iter().flatten().copied().collect() };
     // what a run derives, every longer run derives
     let (mut sound, mut bad) = (0, facts.len());
-    let by_laying = has_no_laying(pieces, &run(bad)).then(|| {
+    let by_laying = has_no_laying(pieces, &run(bad), void).then(|| {
         while bad - sound > 1 {
             let middle = (sound + bad) / 2;
-            if has_no_laying(pieces, &run(middle)) {
+            if has_no_laying(pieces, &run(middle), void) {
                 bad = middle;
             } else {
                 sound = middle;
@@ -251,13 +263,13 @@ fn contradiction(pieces: usize, facts: &[Option<Fact>], doubt: &mut Option<Strin
         bad - 1
     });
     if pieces <= SMALL {
-        let contradictory = |length: usize| Facts::derive(pieces, &run(length)).contradictory();
+        let contradictory = |length: usize| Facts::derive(pieces, &run(length), void).contradictory();
         let by_rules = if contradictory(facts.len()) { (0..facts.len()).find(|&last| contradictory(last + 1)) } else { None };
         if by_rules != by_laying {
             *doubt = Some(format!("contradiction at {by_rules:?} by the rules, at {by_laying:?} by layings"));
         }
     } else if let Some(last) = by_laying.filter(|_| pieces <= 320) {
-        let contradictory = |length: usize| Rows::derive(pieces, &run(length)).contradictory();
+        let contradictory = |length: usize| Rows::derive(pieces, &run(length), void).contradictory();
         if contradictory(last) || !contradictory(last + 1) {
             *doubt = Some(format!("contradiction at {last} by layings and not by the rules"));
         }
@@ -275,16 +287,16 @@ fn verdict(all: &dyn Derived, claim: Fact) -> u8 {
     }
 }
 
-/// The answers to claims from these facts alone.
-fn answers_from(pieces: usize, facts: &[Option<Fact>], claims: &[Fact], doubt: &mut Option<String>) -> Vec<u8> {
+/// The answers to claims from these facts and the marks alone.
+fn answers_from(pieces: usize, facts: &[Option<Fact>], void: &[bool], claims: &[Fact], doubt: &mut Option<String>) -> Vec<u8> {
     let stored: Vec<Fact> = facts.iter().flatten().copied().collect();
-    let rows = Rows::derive(pieces, &stored);
+    let rows = Rows::derive(pieces, &stored, void);
     if rows.contradictory() {
         *doubt = Some("contradictory by the rules and not by layings".into());
     }
     let answers: Vec<u8> = claims.iter().map(|&claim| verdict(&rows, claim)).collect();
     if pieces <= SMALL {
-        let single = Facts::derive(pieces, &stored);
+        let single = Facts::derive(pieces, &stored, void);
         if !claims.iter().map(|&claim| verdict(&single, claim)).eq(answers.iter().copied()) {
             *doubt = Some("the rules by rows and by single facts answer differently".into());
         }
@@ -295,11 +307,11 @@ fn answers_from(pieces: usize, facts: &[Option<Fact>], claims: &[Fact], doubt: &
 /// Each claim from the facts that it picks. What the sheets say for or against it, all facts say too.
 fn answer(book: &Book, claims: &[Claim], doubt: &mut Option<String>) -> Vec<u8> {
     let facts: Vec<Fact> = claims.iter().map(|claim| claim.fact).collect();
-    let all = answers_from(book.pieces, &book.facts, &facts, doubt);
+    let all = answers_from(book.pieces, &book.facts, &book.void, &facts, doubt);
     if !claims.iter().any(|claim| claim.restricted) {
         return all;
     }
-    let sheets = answers_from(book.pieces, &book.sheets, &facts, doubt);
+    let sheets = answers_from(book.pieces, &book.sheets, &book.void, &facts, doubt);
     if sheets.iter().zip(&all).any(|(sheet, whole)| *sheet != OPEN && sheet != whole) {
         *doubt = Some("the sheets decide a claim otherwise than all facts".into());
     }
@@ -318,7 +330,7 @@ fn judge_whole(book: &[u8], edition: Edition, claims: Option<&[u8]>, lengths: Le
     let book = read_book(book, edition)?;
     let pieces = book.pieces;
     let claims = claims.map(|claims| read_claims(claims, pieces)).transpose()?;
-    if let Some(last) = contradiction(pieces, &book.facts, doubt) {
+    if let Some(last) = contradiction(pieces, &book.facts, &book.void, doubt) {
         return Ok(refused((14, last as usize), Change::Index(cleared())));
     }
     let (index, nodes, shadows) = build(pieces, &book.facts);
@@ -353,8 +365,8 @@ fn convert_whole(book: &[u8], room: usize, doubt: &mut Option<String>) -> Result
     if room < book.len() {
         return Err((1, 0));
     }
-    let Book { facts, pieces, .. } = read_book(book, Edition::Former)?;
-    match contradiction(pieces, &facts, doubt) {
+    let Book { facts, void, pieces, .. } = read_book(book, Edition::Former)?;
+    match contradiction(pieces, &facts, &void, doubt) {
         Some(last) => Err((14, last)),
         None => Ok(without_trays(book)),
     }

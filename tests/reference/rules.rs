@@ -1,4 +1,4 @@
-//! Document 01's rules, three times over, none of them as the library works: rule by rule over single facts, rule by rule over whole rows (the
+//! Document 01's rules with document 02's R-10, three times over, none of them as the library works: rule by rule over single facts, rule by rule over whole rows (the
 //! same rules, fast enough for the largest books), and contradiction by way of a laying.
 
 #[derive(Clone, Copy, Debug, PartialEq, Eq)]
@@ -28,7 +28,7 @@ pub struct Fact {
     pub b: usize,
 }
 
-/// Everything that a list of facts derives.
+/// Everything that a list of facts derives, where some pieces are marked as void.
 pub trait Derived {
     fn has(&self, fact: Fact) -> bool;
 
@@ -40,13 +40,14 @@ pub trait Derived {
 
 pub struct Facts {
     pieces: usize,
+    void: Vec<bool>,
     known: [Vec<bool>; 4],
 }
 
 impl Facts {
-    pub fn derive(pieces: usize, stored: &[Fact]) -> Facts {
+    pub fn derive(pieces: usize, stored: &[Fact], void: &[bool]) -> Facts {
         let table = || vec![false; pieces * pieces];
-        let mut all = Facts { pieces, known: [table(), table(), table(), table()] };
+        let mut all = Facts { pieces, void: void.to_vec(), known: [table(), table(), table(), table()] };
         for &fact in stored {
             all.add(fact);
         }
@@ -77,8 +78,10 @@ impl Facts {
         for g in 0..n {
             new |= self.add(Fact { kind: Part, a: g, b: g }); // (c)
             new |= self.add(Fact { kind: Part, a: g, b: 0 }); // (f)
-            new |= self.add(Fact { kind: Meets, a: g, b: g }); // (e')
+            new |= !self.void[g] && self.add(Fact { kind: Meets, a: g, b: g }); // (e'), for pieces not marked
             for h in 0..n {
+                new |= self.void[g] && self.add(Fact { kind: Apart, a: g, b: h }); // (d), for marked pieces
+                new |= self.void[g] && self.add(Fact { kind: Part, a: g, b: h }); // (e), for marked pieces
                 for k in 0..n {
                     let rules = [
                         (self.knows(Part, g, h) && self.knows(Part, h, k), Fact { kind: Part, a: g, b: k }), // (a)
@@ -207,7 +210,7 @@ pub struct Rows {
 }
 
 impl Rows {
-    pub fn derive(pieces: usize, stored: &[Fact]) -> Rows {
+    pub fn derive(pieces: usize, stored: &[Fact], void: &[bool]) -> Rows {
         let table = Table::new(pieces);
         let mut all = Rows { part: table.clone(), apart: table.clone(), meets: table.clone(), notpart: table };
         for &Fact { kind, a, b } in stored {
@@ -221,7 +224,13 @@ impl Rows {
         for g in 0..pieces {
             all.part.set(g, g); // (c)
             all.part.set(g, 0); // (f)
-            all.meets.set(g, g); // (e')
+            if !void[g] {
+                all.meets.set(g, g); // (e'), for pieces not marked
+            }
+        }
+        for (g, k) in (0..pieces).filter(|&g| void[g]).flat_map(|g| (0..pieces).map(move |k| (g, k))) {
+            all.apart.set(g, k); // (d), for marked pieces
+            all.part.set(g, k); // (e), for marked pieces
         }
         all.apart.mirror();
         all.meets.mirror();
@@ -270,16 +279,16 @@ impl Derived for Rows {
 
 // Contradiction by way of a laying.
 
-/// Whether the facts have no laying. Tries the one that has least ice in common: a grain for each piece and one for each stored MEETS, each in
-/// its pieces and in whatever contains them. Every grain in it is forced, so where it breaks an APART or a NOTPART, every laying does.
-/// Containers have lower numbers here.
-pub fn has_no_laying(pieces: usize, stored: &[Fact]) -> bool {
+/// Whether the facts have no laying. Tries the one that has least ice in common: a grain for each piece that is not marked and one for each stored
+/// MEETS, each in its pieces and in whatever contains them. Every grain in it is forced, so where it breaks an APART or a NOTPART, or gives a marked
+/// piece a grain, every laying does. Containers have lower numbers here.
+pub fn has_no_laying(pieces: usize, stored: &[Fact], void: &[bool]) -> bool {
     let met: Vec<&Fact> = stored.iter().filter(|f| f.kind == Meets).collect();
     let grains = pieces + met.len();
     let words = grains.div_ceil(64);
     let mut sets = vec![vec![0u64; words]; pieces];
     let mut put = |piece: usize, grain: usize| sets[piece][grain / 64] |= 1 << (grain % 64);
-    for piece in 0..pieces {
+    for piece in (0..pieces).filter(|&piece| !void[piece]) {
         put(piece, piece);
     }
     for (i, fact) in met.iter().enumerate() {
@@ -300,7 +309,8 @@ pub fn has_no_laying(pieces: usize, stored: &[Fact]) -> bool {
             }
         }
     }
-    stored.iter().any(|fact| {
+    let filled_void = (0..pieces).any(|piece| void[piece] && sets[piece].iter().any(|&word| word != 0));
+    filled_void || stored.iter().any(|fact| {
         let mut pairs = sets[fact.a].iter().zip(&sets[fact.b]);
         match fact.kind {
             Apart => pairs.any(|(x, y)| x & y != 0),

@@ -1,5 +1,5 @@
 """Document 01's edges: what each book must come to, from that document's rows and its list of edges. A book of no bytes is piece 0 alone (R-1);
-byte 1 is the origin (R-5); kind 5 is no kind (R-7)."""
+byte 1 is the origin (R-5); kind 5 is no kind (R-7); kind 6 marks a piece as void (R-10)."""
 
 
 def refused(number, place=0):
@@ -30,6 +30,20 @@ def restricted():
         yield name, answers
 
 
+def void():
+    """R-10: piece 1 is void by the scanner's mark, PART 2 0 stands on a sheet; the answers are the same from all facts and from the sheets."""
+    book = accepted(3)
+    for asked in ("from-all-facts", "from-sheets"):
+        for name, answers in [
+            ("void-with-another", [FOLLOWS, FOLLOWS, DENIED, DENIED]),
+            ("another-with-void", [DENIED, FOLLOWS, DENIED, FOLLOWS]),
+            ("void-with-itself", [FOLLOWS, FOLLOWS, DENIED, DENIED]),
+            ("another-with-itself", [FOLLOWS, DENIED, FOLLOWS, DENIED]),
+        ]:
+            yield f"{name}-{asked}", book
+            yield f"{name}-{asked}", answers
+
+
 EDGES = [
     ("no-bytes", accepted(1)),
     ("no-bytes-claim-piece-0", accepted(1)),
@@ -37,7 +51,7 @@ EDGES = [
     ("ragged", refused(3)),
     ("8192-records", accepted(256)),
     ("8193-records", refused(4)),
-    ("kind-6", refused(5)),
+    ("kind-7", refused(5)),
     ("origin-1", accepted(1)),
     ("origin-2", refused(6)),
     ("piece-2047", accepted(2048)),
@@ -47,6 +61,15 @@ EDGES = [
     ("PART-0-0", refused(8)),
     ("APART-3-4-and-4-3", accepted(5)),
     ("repeat", refused(9, 1)),
+    ("mark", accepted(2)),
+    ("mark-of-origin-1", accepted(2048)),
+    ("mark-of-origin-2", refused(6)),
+    ("mark-of-2048", refused(7)),
+    ("mark-of-0", refused(19)),
+    ("mark-with-b", refused(19)),
+    ("marks-of-both-origins", accepted(2)),
+    ("repeated-mark", refused(9, 1)),
+    ("claim-of-kind-6", refused(12)),
     ("APART-3-4-of-both-origins", accepted(5)),
     ("PART-1-0-of-both-origins", accepted(2, 1)),
     ("repeat-of-origin-1", refused(9, 1)),
@@ -62,6 +85,15 @@ EDGES = [
     ("claim-origin-2", refused(12)),
     ("claim-piece", refused(13)),
     *restricted(),
+    ("void-MEETS", refused(14, 1)),
+    ("void-MEETS-marked-behind", refused(14, 0)),
+    ("void-MEETS-itself", refused(14, 1)),
+    ("unmarked-part-of-void", refused(14, 1)),
+    ("void-part-of-void", accepted(3)),
+    ("void-NOTPART", refused(14, 1)),
+    ("NOTPART-of-void", accepted(3)),
+    ("void-APART-from-itself-and-0", accepted(2)),
+    *void(),
     ("places-2047", refused(1)),
 ]
 

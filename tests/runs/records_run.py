@@ -1,12 +1,13 @@
-"""What records_run must print: document 01's rows 3 to 13 on books and claims that meet each of them, books by the edition in force and by the
+"""What records_run must print: document 01's rows 3 to 13 and document 02's row 19 on books and claims that meet each of them, books by the edition in force and by the
 former one, which has TRAY records.
 
-Every row is a condition on a whole record, taken from the table; a book's outcome is the least (place, row) that refuses.
+Every row is a condition on a whole record, taken from the table; a book's outcome is the first row that refuses its first refused record.
 """
 import itertools
 import struct
 
 FACTS = {1, 2, 3, 4}
+TRAY, MARK = 5, 6
 
 
 def pack(kind, a, b, origin=0):
@@ -21,13 +22,14 @@ def named(kind, a, b):
     return {a, b} if kind in FACTS else {a}
 
 
-def record_rows(record, seen, last):
-    """The numbers of all rows that refuse a record, given the records before it and the last kind."""
+def record_rows(record, seen, kinds):
+    """All rows that refuse a record, in the order in which they are looked at, given the records before it and the kinds there are."""
     kind, origin, a, b = struct.unpack("<BBHH", record)
     tests = {
-        5: not 1 <= kind <= last,
+        5: kind not in kinds,
         6: origin > 1,
         7: any(piece > 2047 for piece in named(kind, a, b)),
+        19: kind == 6 and (a == 0 or b != 0),
         8: kind == 1 and not b < a,
         9: record in seen,
     }
@@ -41,24 +43,21 @@ def claim_rows(claim, pieces):
 
 
 def book(data):
-    return f"{edition(data, 4)} {edition(data, 5)}"
+    return f"{edition(data, FACTS | {MARK})} {edition(data, FACTS | {TRAY})}"
 
 
-def edition(data, last):
+def edition(data, kinds):
     lengths = {3: len(data) % 6 != 0, 4: len(data) // 6 > 8192}
     for row in sorted(lengths):
         if lengths[row]:
             return f"{row} 0"
     seen, pieces = set(), set()
-    refusals = []
     for place, record in enumerate(split(data)):
-        refusals += [(place, row) for row in record_rows(record, seen, last)]
+        for row in record_rows(record, seen, kinds):
+            return f"{row} {place}"
         kind, _, a, b = struct.unpack("<BBHH", record)
         pieces |= named(kind, a, b)
         seen.add(record)
-    if refusals:
-        place, row = min(refusals)
-        return f"{row} {place}"
     return f"0 {max(pieces, default=0) + 1}"
 
 
@@ -87,6 +86,8 @@ SAMPLES = [
     pack(1, 2048, 2048, 2),
     pack(0, 2048, 2048, 2),
     pack(6, 1, 0),
+    pack(6, 0, 0, 1),
+    pack(6, 1, 1),
 ]
 
 
@@ -111,7 +112,7 @@ def lines():
         yield claims(three[:length], 6)
     for count in (1, 2, 3):
         yield from map(book, sampled(count))
-    for kind in (1, 5):
+    for kind in (1, 5, 6):
         yield from map(book, varied(pack(1, 5, 2), pack(kind, 300, 7)))
     for pieces in (1, 5, 2048):
         for run in sampled(2):
@@ -133,6 +134,10 @@ def lines():
     many[0] = pack(0, 0, 0)
     yield book(b"".join(many[:8192]))
     yield book(b"".join(many))
+    many[0] = pack(2, 0, 0)
+    for mark in (pack(6, 2047, 0), pack(6, 2047, 1)):
+        many[8191] = mark
+        yield book(b"".join(many[:8192]))
 
     asked = [pack(1, 0, 0)] * 4097
     for length in (24576, 24582, 24581):

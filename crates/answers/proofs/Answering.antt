@@ -1,7 +1,7 @@
 -- The answers, claim after claim. Assumes nothing.
 use Prim.Native.Nat.{ℕ, _+_, _≤_, _<_}
 use mathlib.Core.Path.{_≡_, refl, sym, ap, _∙_}
-use mathlib.Core.Bool.{true, false, false≢true}
+use mathlib.Core.Bool.{Bool, true, false, false≢true}
 use mathlib.Core.List.{List}
 use native.Mathlib.Omega.{arith}
 use native.Mathlib.Decide.{ℕ-discrete}
@@ -18,6 +18,7 @@ use Rattle.rules.specs.Verdict.{verdict}
 use Rattle.records.specs.Record.{recordAt, records}
 use Rattle.records.specs.Pieces.{stated}
 use Rattle.records.specs.Facts.{saying, facts}
+use Rattle.records.specs.Marked.{marked}
 use Rattle.records.specs.Check.{claimsCheck}
 use Rattle.records.specs.declared.Record.{Record}
 use Rattle.records.specs.declared.ClaimsCheck.the-variants as claims
@@ -46,31 +47,31 @@ asked cs n i f h =
     record { low = leb-true _ _ (k .0); high = leb-true _ _ (k .1); a = omega (arith, says-left (recordAt cs i)); b = omega (arith, says-right (recordAt cs i)) }
 
 -- the answers to the claims of one origin before claim i stand, and the others are as they were
-pub record Standing (origin : ℕ) (cs d u p t q before answers : List ℕ) (i : ℕ) : Type 0 where
+pub record Standing (void : ℕ → Bool) (origin : ℕ) (cs d u p t q before answers : List ℕ) (i : ℕ) : Type 0 where
   pub each :
-      (n : ℕ) (fs : List Fact) → Bounded n fs → Closed n fs d u p t q → claimsCheck n cs ≡ claims.Accepted
-      → (j : ℕ) → j < i → j < records cs → recordAt cs j .origin ≡ origin → getD answers j 0 ≡ verdict n fs (claimed cs j)
+      (n : ℕ) (fs : List Fact) → Bounded n fs → Closed void n fs d u p t q → claimsCheck n cs ≡ claims.Accepted
+      → (j : ℕ) → j < i → j < records cs → recordAt cs j .origin ≡ origin → getD answers j 0 ≡ verdict void n fs (claimed cs j)
   pub others : (j : ℕ) → (recordAt cs j .origin ≡ origin → ⊥) → getD answers j 0 ≡ getD before j 0
 
-module _ (origin : ℕ) (cs d u p t q before : List ℕ) where
-  pub standing-none : Standing origin cs d u p t q before before 0
+module _ (void : ℕ → Bool) (origin : ℕ) (cs d u p t q before : List ℕ) where
+  pub standing-none : Standing void origin cs d u p t q before before 0
   standing-none = record { each = λ n fs B C f j l h o. absurd (omega arith); others = λ j o. refl }
 
   -- a claim of the other origin
   pub standing-skip :
-      (answers : List ℕ) (i : ℕ) (r : Record) → r ≡ recordAt cs i → (r .origin ≡ origin → ⊥) → Standing origin cs d u p t q before answers i
-      → Standing origin cs d u p t q before answers (i + 1)
+      (answers : List ℕ) (i : ℕ) (r : Record) → r ≡ recordAt cs i → (r .origin ≡ origin → ⊥) → Standing void origin cs d u p t q before answers i
+      → Standing void origin cs d u p t q before answers (i + 1)
   standing-skip answers i r e o S = record { each = λ n fs B C f j k h a. pick n fs B C f j k h a (ℕ-discrete j i); others = S .others }
     where
       pick :
-          (n : ℕ) (fs : List Fact) → Bounded n fs → Closed n fs d u p t q → claimsCheck n cs ≡ claims.Accepted
-          → (j : ℕ) → j < i + 1 → j < records cs → recordAt cs j .origin ≡ origin → Dec (j ≡ i) → getD answers j 0 ≡ verdict n fs (claimed cs j)
+          (n : ℕ) (fs : List Fact) → Bounded n fs → Closed void n fs d u p t q → claimsCheck n cs ≡ claims.Accepted
+          → (j : ℕ) → j < i + 1 → j < records cs → recordAt cs j .origin ≡ origin → Dec (j ≡ i) → getD answers j 0 ≡ verdict void n fs (claimed cs j)
       pick n fs B C f j k h a (yes q) = absurd (o (ap (λ (x : Record). x .origin) e ∙ ap (λ (x : ℕ). recordAt cs x .origin) (sym q) ∙ a))
       pick n fs B C f j k h a (no q) = S .each n fs B C f j (omega arith) h a
 
   standing-more :
-      (answers : List ℕ) (i v : ℕ) → i < length answers → recordAt cs i .origin ≡ origin → Standing origin cs d u p t q before answers i
-      → Answered d u p t q (recordAt cs i .kind) (recordAt cs i .a) (recordAt cs i .b) v → Standing origin cs d u p t q before (set answers i v) (i + 1)
+      (answers : List ℕ) (i v : ℕ) → i < length answers → recordAt cs i .origin ≡ origin → Standing void origin cs d u p t q before answers i
+      → Answered void d u p t q (recordAt cs i .kind) (recordAt cs i .a) (recordAt cs i .b) v → Standing void origin cs d u p t q before (set answers i v) (i + 1)
   unfolding claimed
   standing-more answers i v l o S A =
       record {
@@ -79,8 +80,8 @@ module _ (origin : ℕ) (cs d u p t q before : List ℕ) where
       }
     where
       pick :
-          (n : ℕ) (fs : List Fact) → Bounded n fs → Closed n fs d u p t q → claimsCheck n cs ≡ claims.Accepted
-          → (j : ℕ) → j < i + 1 → j < records cs → recordAt cs j .origin ≡ origin → Dec (j ≡ i) → getD (set answers i v) j 0 ≡ verdict n fs (saying (recordAt cs j))
+          (n : ℕ) (fs : List Fact) → Bounded n fs → Closed void n fs d u p t q → claimsCheck n cs ≡ claims.Accepted
+          → (j : ℕ) → j < i + 1 → j < records cs → recordAt cs j .origin ≡ origin → Dec (j ≡ i) → getD (set answers i v) j 0 ≡ verdict void n fs (saying (recordAt cs j))
       pick n fs B C f j k h a (yes e) =
           let w = asked cs n i f (rw e at h) in
           rw e (getD-set-same answers i v 0 l ∙ A .is n fs B C (w .a) (w .b))
@@ -89,11 +90,11 @@ module _ (origin : ℕ) (cs d u p t q before : List ℕ) where
   -- the same, of the record that was read and the byte that was written
   pub standing-read :
       (answers : List ℕ) (i v w : ℕ) (r : Record) → r ≡ recordAt cs i → v ≡ w → i < length answers → r .origin ≡ origin
-      → Standing origin cs d u p t q before answers i → Answered d u p t q (r .kind) (r .a) (r .b) w
-      → Standing origin cs d u p t q before (set answers i v) (i + 1)
+      → Standing void origin cs d u p t q before answers i → Answered void d u p t q (r .kind) (r .a) (r .b) w
+      → Standing void origin cs d u p t q before (set answers i v) (i + 1)
   standing-read answers i v w r e f l o S A = rw f (standing-more answers i w l (rw e at o) S (rw e at A))
 
-  pub standing-all : (answers : List ℕ) (i : ℕ) → records cs ≤ i → Standing origin cs d u p t q before answers i → Answers origin cs d u p t q before answers
+  pub standing-all : (answers : List ℕ) (i : ℕ) → records cs ≤ i → Standing void origin cs d u p t q before answers i → Answers void origin cs d u p t q before answers
   standing-all answers i e S = record { are = λ n fs B C f. record { are = λ j h o. S .each n fs B C f j (omega arith) h o; others = S .others } }
 
 -- ---- the claims of both origins
@@ -131,34 +132,34 @@ none-restricted cs e i h = pick (known (ltb 0 (recordAt cs i .origin)))
 
 module _ (s : List ℕ) (n : ℕ) (cs : List ℕ) where
   each-answered :
-      (answers : List ℕ) → length answers ≡ records cs → ((j : ℕ) → j < records cs → getD answers j 0 ≡ verdict n (pickedFacts s cs j) (claimed cs j))
+      (answers : List ℕ) → length answers ≡ records cs → ((j : ℕ) → j < records cs → getD answers j 0 ≡ verdict (marked s) n (pickedFacts s cs j) (claimed cs j))
       → answers ≡ answersTo s n cs
   unfolding answersTo
   each-answered answers z h =
       ext-getD 0 answers (answersTo s n cs) (z ∙ sym (tab-length _ 0 (records cs)))
-      (λ j l. h j (omega arith) ∙ sym (tab-at (λ i. verdict n (pickedFacts s cs i) (claimed cs i)) (records cs) j 0 (omega arith)))
+      (λ j l. h j (omega arith) ∙ sym (tab-at (λ i. verdict (marked s) n (pickedFacts s cs i) (claimed cs i)) (records cs) j 0 (omega arith)))
 
-  from-all : (j : ℕ) → recordAt cs j .origin ≡ 0 → verdict n (facts s) (claimed cs j) ≡ verdict n (pickedFacts s cs j) (claimed cs j)
-  from-all j o = ap (λ (r : List ℕ). verdict n (facts r) (claimed cs j)) (sym (picked-all s (recordAt cs j) o))
+  from-all : (j : ℕ) → recordAt cs j .origin ≡ 0 → verdict (marked s) n (facts s) (claimed cs j) ≡ verdict (marked s) n (pickedFacts s cs j) (claimed cs j)
+  from-all j o = ap (λ (r : List ℕ). verdict (marked s) n (facts r) (claimed cs j)) (sym (picked-all s (recordAt cs j) o))
 
-  from-sheets : (j : ℕ) → (recordAt cs j .origin ≡ 0 → ⊥) → verdict n (facts (sheets s)) (claimed cs j) ≡ verdict n (pickedFacts s cs j) (claimed cs j)
-  from-sheets j o = ap (λ (r : List ℕ). verdict n (facts r) (claimed cs j)) (sym (picked-sheets s (recordAt cs j) o))
+  from-sheets : (j : ℕ) → (recordAt cs j .origin ≡ 0 → ⊥) → verdict (marked s) n (facts (sheets s)) (claimed cs j) ≡ verdict (marked s) n (pickedFacts s cs j) (claimed cs j)
+  from-sheets j o = ap (λ (r : List ℕ). verdict (marked s) n (facts r) (claimed cs j)) (sym (picked-sheets s (recordAt cs j) o))
 
   -- no claims, no answers
   pub answers-none : (answers : List ℕ) → records cs ≡ 0 → length answers ≡ records cs → answers ≡ answersTo s n cs
   answers-none answers e z = each-answered answers z (λ j h. absurd (omega arith))
 
   -- no claim is restricted
-  pub answers-all : (before answers : List ℕ) → restricted cs ≡ false → length answers ≡ records cs → AnsweredFrom 0 n (facts s) cs before answers → answers ≡ answersTo s n cs
+  pub answers-all : (before answers : List ℕ) → restricted cs ≡ false → length answers ≡ records cs → AnsweredFrom (marked s) 0 n (facts s) cs before answers → answers ≡ answersTo s n cs
   answers-all before answers e z A =
       each-answered answers z (λ j h. let o = none-restricted cs e j h in A .are j h o ∙ from-all j o)
 
   -- first the claims on all facts, then the restricted ones
   pub answers-both :
       (before between answers : List ℕ) → claimsCheck n cs ≡ claims.Accepted → length answers ≡ records cs
-      → AnsweredFrom 0 n (facts s) cs before between → AnsweredFrom 1 n (facts (sheets s)) cs between answers → answers ≡ answersTo s n cs
+      → AnsweredFrom (marked s) 0 n (facts s) cs before between → AnsweredFrom (marked s) 1 n (facts (sheets s)) cs between answers → answers ≡ answersTo s n cs
   answers-both before between answers f z A R = each-answered answers z (λ j h. pick j h (ℕ-discrete (recordAt cs j .origin) 0))
     where
-      pick : (j : ℕ) → j < records cs → Dec (recordAt cs j .origin ≡ 0) → getD answers j 0 ≡ verdict n (pickedFacts s cs j) (claimed cs j)
+      pick : (j : ℕ) → j < records cs → Dec (recordAt cs j .origin ≡ 0) → getD answers j 0 ≡ verdict (marked s) n (pickedFacts s cs j) (claimed cs j)
       pick j h (yes o) = R .others j (λ x. omega arith) ∙ A .are j h o ∙ from-all j o
       pick j h (no o) = R .are j h (omega (arith, accepted-claims n cs f .origins j h)) ∙ from-sheets j o

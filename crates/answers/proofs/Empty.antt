@@ -10,7 +10,7 @@ use Rattle.lists.specs.Tab.{tab}
 use Rattle.lists.specs.Any.{any, anyBelow}
 use Rattle.lists.specs.First.{first}
 use Rattle.rules.specs.Fact.{factOf}
-use Rattle.rules.specs.Follows.{storing, turned, table, entry, step, rounds, containment, apart, meets, notpart, derived, follows, clash}
+use Rattle.rules.specs.Follows.{storing, turned, parting, table, entry, step, rounds, containment, apart, meets, notpart, derived, follows, clash}
 use Rattle.rules.specs.Verdict.{judge, verdict}
 use Rattle.rules.specs.Entries.{factsOf, shortestClash}
 use Rattle.records.specs.Record.{recordAt}
@@ -19,8 +19,9 @@ use Rattle.records.specs.Pieces.{piecesUpTo, stated, largest}
 use Rattle.records.specs.Check.{checkBy, claimAt, claimsCheck}
 use Rattle.records.specs.Facts.{entryOf, entries}
 use Rattle.records.specs.Kept.{picked}
+use Rattle.records.specs.Marked.{marked}
 use Rattle.records.specs.declared.Refusal.{Refusal}
-use Rattle.records.specs.declared.Refusal.the-variants.{ShortBuffer, BookLength, TooManyRecords, Kind, Origin, PieceNumber, Order, Repeat, ClaimsLength, TooManyClaims, ClaimFormat, ClaimPiece, Contradiction, NotStanding}
+use Rattle.records.specs.declared.Refusal.the-variants.{ShortBuffer, BookLength, TooManyRecords, Kind, Origin, PieceNumber, Order, Repeat, ClaimsLength, TooManyClaims, ClaimFormat, ClaimPiece, Contradiction, NotStanding, VoidForm}
 use Rattle.records.specs.declared.ClaimsCheck.the-variants as claims
 use Rattle.records.proofs.Examples.{bytes}
 use Rattle.lists.specs.Numbers.{range, keep, find}
@@ -45,7 +46,7 @@ alone l answers =
     (front answers (l .answers))
 
 by-runs : byRuns [] 1 ≡ Accepted 1 1 0
-unfolding byRuns edges entries factsOf shortestClash first clash any anyBelow tab table entry storing turned step rounds containment meets joined partIn visitsOf whole under hang parts keep range parent order breadth find visits shadows
+unfolding byRuns edges entries factsOf shortestClash first clash any anyBelow tab table entry storing turned parting marked step rounds containment meets joined partIn visitsOf whole under hang parts keep range parent order breadth find visits shadows
 by-runs = refl
 
 module _ (cs : List ℕ) (l : Lent) (long : shortLent cs l ≡ false) (fit : claimsCheck 1 cs ≡ claims.Accepted) where
@@ -59,7 +60,7 @@ module _ (cs : List ℕ) (l : Lent) (long : shortLent cs l ≡ false) (fit : cla
 
 -- PART 0 0 and MEETS 0 0 follow, and their opposites are denied
 pub empty-answers : answersTo [] 1 (bytes 1 0 0 0 ++ bytes 2 0 0 0 ++ bytes 3 0 0 0 ++ bytes 4 0 0 0) ≡ 1 ∷ 2 ∷ 1 ∷ 2 ∷ []
-unfolding answersTo claimed picked recordAt factOf entries factsOf verdict judge follows any anyBelow tab table entry storing turned step rounds containment apart meets notpart derived
+unfolding answersTo claimed picked recordAt factOf entries factsOf verdict judge follows any anyBelow tab table entry storing turned parting marked step rounds containment apart meets notpart derived
 empty-answers = refl
 
 -- a claim about another piece
@@ -83,6 +84,7 @@ other ClaimFormat e = omega arith
 other ClaimPiece e = omega arith
 other Contradiction e = omega arith
 other NotStanding e = omega arith
+other VoidForm e = omega arith
 
 pub never-two : (o : Outcome) → number o ≡ 2 → ⊥
 never-two (Accepted pieces nodes shadows) e = omega arith

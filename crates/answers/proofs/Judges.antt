@@ -11,6 +11,7 @@ use Rattle.rules.specs.Follows.{clash}
 use Rattle.rules.specs.Entries.{shortestClash}
 use Rattle.records.specs.Record.{records}
 use Rattle.records.specs.Facts.{entries, facts}
+use Rattle.records.specs.Marked.{marked}
 use Rattle.records.specs.Check.{bookCheck}
 use Rattle.records.specs.declared.BookCheck.the-variants as book
 use Rattle.records.specs.declared.Refusal.the-variants.{Contradiction}
@@ -19,7 +20,7 @@ use Rattle.parentheses.specs.Padded.{padded}
 use Rattle.index.specs.Parts as on
 use Rattle.closure.specs.Opened.{Opened}
 use Rattle.closure.specs.Settled.{Settleable, Clashed}
-use Rattle.closure.proofs.Settling.{settleable, settleable-in, free-beyond, clashed-within}
+use Rattle.closure.proofs.Settling.{settleable, whole-unmarked, settleable-in, free-beyond, clashed-within}
 use Rattle.answers.specs.Lent.{Lent, lent}
 use Rattle.answers.specs.Call.{edges, byRuns, answersTo, indexed, cleared, left}
 use Rattle.answers.specs.Judging.{Cleared, Exact, Judged}
@@ -27,18 +28,18 @@ use Rattle.answers.specs.declared.Outcome.the-variants.{Accepted, Refuse
 use Rattle.answers.proofs.Buffers.{front-whole, packed-long, answers-long, same-lent}
 
 module _ (s : List ℕ) (n : ℕ) (sound : bookCheck s ≡ book.Accepted n) where
-  refuses : (place : ℕ) → Clashed n s place → Refused Contradiction place ≡ byRuns s n
+  refuses : (place : ℕ) → Clashed (marked s) n s place → Refused Contradiction place ≡ byRuns s n
   unfolding byRuns
   refuses place C =
       let q = C .last in
-      let k : place ≡ shortestClash n (entries s) - 1 = omega arith in
-      rw (le-leb (shortestClash n (entries s)) (records s) (clashed-within (settleable s n sound) C), byRuns) (ap (Refused Contradiction) k)
+      let k : place ≡ shortestClash (marked s) n (entries s) - 1 = omega arith in
+      rw (le-leb (shortestClash (marked s) n (entries s)) (records s) (clashed-within (settleable s n sound) (marked s) (whole-unmarked s n sound) C), byRuns) (ap (Refused Contradiction) k)
 
   accepts :
-      (nodes shadows : ℕ) → false ≡ clash n (facts s) → nodes ≡ length (visitsOf n (edges n s)) → shadows ≡ length (on.shadows (visitsOf n (edges n s)))
+      (nodes shadows : ℕ) → false ≡ clash (marked s) n (facts s) → nodes ≡ length (visitsOf n (edges n s)) → shadows ≡ length (on.shadows (visitsOf n (edges n s)))
       → Accepted n nodes shadows ≡ byRuns s n
   unfolding byRuns
-  accepts nodes shadows c e f = rw (lt-leb (shortestClash n (entries s)) (records s) (free-beyond (settleable s n sound) c), byRuns, e, f)
+  accepts nodes shadows c e f = rw (lt-leb (shortestClash (marked s) n (entries s)) (records s) (free-beyond (settleable s n sound) (marked s) (whole-unmarked s n sound) c), byRuns, e, f)
 
 pub cleared-at :
     {w x y z : ℕ} {a b c d : List ℕ} → w ≡ 2560 → x ≡ 1280 → y ≡ 8192 → z ≡ 2048 → Cleared w x y z a b c d → Cleared 2560 1280 8192 2048 a b c d
@@ -53,7 +54,7 @@ module _ (s : List ℕ) (n : ℕ) (cs : List ℕ) (l : Lent) (X : Exact s n cs l
   zeroed k x e = front-whole (replicate k 0) x (length-replicate {A = ℕ} k 0 ∙ sym e)
 
   pub judged-refused :
-      (place : ℕ) (parens marks shadows places : List ℕ) → Clashed n s place → Cleared 2560 1280 8192 2048 parens marks shadows places → Judged s n cs l (Refused Contradiction place) (lent parens marks shadows places (l .answers))
+      (place : ℕ) (parens marks shadows places : List ℕ) → Clashed (marked s) n s place → Cleared 2560 1280 8192 2048 parens marks shadows places → Judged s n cs l (Refused Contradiction place) (lent parens marks shadows places (l .answers))
   unfolding left cleared
   judged-refused place parens marks shadows places c z = record {
     outcome-is = refuses s n (X .sound) place c;
@@ -69,7 +70,7 @@ module _ (s : List ℕ) (n : ℕ) (cs : List ℕ) (l : Lent) (X : Exact s n cs l
   pub judged-accepted :
       (nodes shadowed : ℕ) (parens marks shadows places answers e d t : List ℕ)
       → length parens ≡ 2560 → length marks ≡ 1280 → length shadows ≡ 8192 → length places ≡ 2048
-      → Opened n (facts s) parens marks shadows places nodes shadowed e d t false → answers ≡ answersTo s n cs
+      → Opened (marked s) n (facts s) parens marks shadows places nodes shadowed e d t false → answers ≡ answersTo s n cs
       → Judged s n cs l (Accepted n nodes shadowed) (lent parens marks shadows places answers)
   unfolding left indexed edges
   judged-accepted nodes shadowed parens marks shadows places answers e d t lp lm ls la O a =

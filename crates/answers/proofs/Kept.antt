@@ -22,6 +22,7 @@ use Rattle.records.specs.Record.{recordAt, records}
 use Rattle.records.specs.Facts.{entries, facts}
 use Rattle.records.specs.Pieces.{pieceCount}
 use Rattle.records.specs.Kept.{sheets}
+use Rattle.records.specs.Marked.{marked}
 use Rattle.records.proofs.Rows.{refused-positive}
 use Rattle.records.proofs.Keeps.{sheets-among, picked-among}
 use Rattle.records.proofs.Accepted.{accepted, accepted-claims}
@@ -29,7 +30,7 @@ use Rattle.index.specs.Index.{visitsOf}
 use Rattle.index.specs.Parts as on
 use Rattle.closure.specs.Contradiction.{Contradiction}
 use Rattle.closure.specs.Settled.{Settleable, Clashed}
-use Rattle.closure.proofs.Settling.{settleable, settled-room, beyond-free, free-consistent, free-model, within-clashed, clashed-no-model, clashed-first}
+use Rattle.closure.proofs.Settling.{settleable, whole-unmarked, settled-room, beyond-free, free-consistent, free-model, within-clashed, clashed-no-model, clashed-first}
 use Rattle.answers.specs.Lent.{Lent}
 use Rattle.answers.specs.Outcome as of
 use Rattle.answers.specs.Call.{edges, byRuns, outcome, Passed, claimed, pickedFacts, answersTo, indexed, left, Determined}
@@ -46,6 +47,9 @@ module _ (s cs : List ℕ) (l : Lent) (n : ℕ) (p : Passed s cs l n) where
   settles : Settleable n s 2560 1280 8192 2048
   settles = settleable s n (p .sound)
 
+  unmarked : marked s 0 ≡ false
+  unmarked = whole-unmarked s n (p .sound)
+
   counted : n ≡ pieceCount s
   counted = accepted s n (p .sound) .count
 
@@ -54,61 +58,61 @@ module _ (s cs : List ℕ) (l : Lent) (n : ℕ) (p : Passed s cs l n) where
   claim-in i h = accepted-claims n cs (p .fit) .within i h
 
   -- row 14, by the shortest contradictory run
-  free : leb (shortestClash n (entries s)) (records s) ≡ false → false ≡ clash n (facts s)
-  free e = beyond-free settles (leb-false (shortestClash n (entries s)) (records s) e)
+  free : leb (shortestClash (marked s) n (entries s)) (records s) ≡ false → false ≡ clash (marked s) n (facts s)
+  free e = beyond-free settles (marked s) unmarked (leb-false (shortestClash (marked s) n (entries s)) (records s) e)
 
-  clashed : leb (shortestClash n (entries s)) (records s) ≡ true → Clashed n s (shortestClash n (entries s) - 1)
-  clashed e = within-clashed settles (leb-true (shortestClash n (entries s)) (records s) e)
+  clashed : leb (shortestClash (marked s) n (entries s)) (records s) ≡ true → Clashed (marked s) n s (shortestClash (marked s) n (entries s) - 1)
+  clashed e = within-clashed settles (marked s) unmarked (leb-true (shortestClash (marked s) n (entries s)) (records s) e)
 
   -- the answer byte of claim i
-  answer-at : (i : ℕ) → i < records cs → getD (indexed s cs n l .answers) i 0 ≡ verdict n (pickedFacts s cs i) (claimed cs i)
+  answer-at : (i : ℕ) → i < records cs → getD (indexed s cs n l .answers) i 0 ≡ verdict (marked s) n (pickedFacts s cs i) (claimed cs i)
   unfolding indexed front answersTo
   answer-at i h =
-      List·getD-append (answersTo s n cs) _ 0 i (omega (arith, tab-length (λ j. verdict n (pickedFacts s cs j) (claimed cs j)) 0 (records cs)))
-      ∙ tab-at (λ j. verdict n (pickedFacts s cs j) (claimed cs j)) (records cs) i 0 h
+      List·getD-append (answersTo s n cs) _ 0 i (omega (arith, tab-length (λ j. verdict (marked s) n (pickedFacts s cs j) (claimed cs j)) 0 (records cs)))
+      ∙ tab-at (λ j. verdict (marked s) n (pickedFacts s cs j) (claimed cs j)) (records cs) i 0 h
 
-  module _ (ok : Contradictory n (facts s) → ⊥) (i : ℕ) (h : i < records cs) where
+  module _ (ok : Contradictory (marked s) n (facts s) → ⊥) (i : ℕ) (h : i < records cs) where
     -- the facts that the claim picks are among the book's
     within : AllWithin n (pickedFacts s cs i)
-    within = fewer-within n (pickedFacts s cs i) (facts s) (settles .bounded .within) (settles .bounded .some) ok (picked-among s (recordAt cs i))
+    within = fewer-within (marked s) n (pickedFacts s cs i) (facts s) (settles .bounded .within) (settles .bounded .some) unmarked ok (picked-among s (recordAt cs i))
 
-    consistent : Contradictory n (pickedFacts s cs i) → ⊥
-    consistent = fewer-consistent n (pickedFacts s cs i) (facts s) (settles .bounded .within) (settles .bounded .some) ok (picked-among s (recordAt cs i))
+    consistent : Contradictory (marked s) n (pickedFacts s cs i) → ⊥
+    consistent = fewer-consistent (marked s) n (pickedFacts s cs i) (facts s) (settles .bounded .within) (settles .bounded .some) unmarked ok (picked-among s (recordAt cs i))
 
-    derived : Derived n (pickedFacts s cs i) (claimed cs i) (verdict n (pickedFacts s cs i) (claimed cs i))
+    derived : Derived (marked s) n (pickedFacts s cs i) (claimed cs i) (verdict (marked s) n (pickedFacts s cs i) (claimed cs i))
     derived =
         let some = settles .bounded .some in
         record {
-          follows = verdict-follows n (pickedFacts s cs i) within some consistent (claimed cs i) (claim-in i h);
-          denied = verdict-denied n (pickedFacts s cs i) within some consistent (claimed cs i) (claim-in i h);
-          undecided = verdict-open n (pickedFacts s cs i) within some consistent (claimed cs i) (claim-in i h);
+          follows = verdict-follows (marked s) n (pickedFacts s cs i) within some unmarked consistent (claimed cs i) (claim-in i h);
+          denied = verdict-denied (marked s) n (pickedFacts s cs i) within some unmarked consistent (claimed cs i) (claim-in i h);
+          undecided = verdict-open (marked s) n (pickedFacts s cs i) within some unmarked consistent (claimed cs i) (claim-in i h);
         }
 
-    entailed : Entailed n (pickedFacts s cs i) (claimed cs i) (verdict n (pickedFacts s cs i) (claimed cs i))
+    entailed : Entailed (marked s) n (pickedFacts s cs i) (claimed cs i) (verdict (marked s) n (pickedFacts s cs i) (claimed cs i))
     entailed =
         let some = settles .bounded .some in
         record {
-          follows = verdict-follows-everywhere n (pickedFacts s cs i) within some consistent (claimed cs i) (claim-in i h);
-          denied = verdict-denied-everywhere n (pickedFacts s cs i) within some consistent (claimed cs i) (claim-in i h);
-          undecided = verdict-open-iff n (pickedFacts s cs i) within some consistent (claimed cs i) (claim-in i h);
+          follows = verdict-follows-everywhere (marked s) n (pickedFacts s cs i) within some unmarked consistent (claimed cs i) (claim-in i h);
+          denied = verdict-denied-everywhere (marked s) n (pickedFacts s cs i) within some unmarked consistent (claimed cs i) (claim-in i h);
+          undecided = verdict-open-iff (marked s) n (pickedFacts s cs i) within some unmarked consistent (claimed cs i) (claim-in i h);
         }
 
-  agree : (Contradictory n (facts s) → ⊥) → (f : Fact) → Within n f → Agree n s f
+  agree : (Contradictory (marked s) n (facts s) → ⊥) → (f : Fact) → Within n f → Agree n s f
   agree ok f c =
       let B = settles .bounded in
       record {
-        follows = fewer-follows n (facts (sheets s)) (facts s) (B .within) (B .some) ok (sheets-among s) f c;
-        denied = fewer-denied n (facts (sheets s)) (facts s) (B .within) (B .some) ok (sheets-among s) f c;
+        follows = fewer-follows (marked s) n (facts (sheets s)) (facts s) (B .within) (B .some) unmarked ok (sheets-among s) f c;
+        denied = fewer-denied (marked s) n (facts (sheets s)) (facts s) (B .within) (B .some) unmarked ok (sheets-among s) f c;
       }
 
   -- refused as contradictory exactly when there is no model
-  runs-refused : (of.number (byRuns s n) ≡ 14) ↔ ((M : Model n) → keepsAll M (facts s) → ⊥)
+  runs-refused : (of.number (byRuns s n) ≡ 14) ↔ ((M : Model (marked s) n) → keepsAll M (facts s) → ⊥)
   unfolding byRuns
-  runs-refused = pick (known (leb (shortestClash n (entries s)) (records s)))
+  runs-refused = pick (known (leb (shortestClash (marked s) n (entries s)) (records s)))
     where
-      pick : Known (leb (shortestClash n (entries s)) (records s)) → (of.number (byRuns s n) ≡ 14) ↔ ((M : Model n) → keepsAll M (facts s) → ⊥)
-      pick (is-true e) = rw (e, byRuns) (λ q. clashed-no-model settles (clashed e), λ q. refl)
-      pick (is-false e) = rw (e, byRuns) (λ q. absurd (omega arith), λ none. let m = free-model settles (free e) in absurd (none (m .0) (m .1)))
+      pick : Known (leb (shortestClash (marked s) n (entries s)) (records s)) → (of.number (byRuns s n) ≡ 14) ↔ ((M : Model (marked s) n) → keepsAll M (facts s) → ⊥)
+      pick (is-true e) = rw (e, byRuns) (λ q. clashed-no-model settles (marked s) unmarked (clashed e), λ q. refl)
+      pick (is-false e) = rw (e, byRuns) (λ q. absurd (omega arith), λ none. let m = free-model settles (marked s) unmarked (free e) in absurd (none (m .0) (m .1)))
 
   -- the index fits
   fits : (nodes : ℕ) → nodes ≡ length (visitsOf n (edges n s)) → Fits n s nodes
@@ -131,20 +135,20 @@ module _ (s cs : List ℕ) (l : Lent) where
   two : (r : Outcome) → Told s cs l r → Demand2 s cs (left s cs l r .answers) (of.number r)
   unfolding left
   two (Accepted n nodes shadows) t q i h =
-      let ok = free-consistent (settles s cs l n (t .0)) (free s cs l n (t .0) (t .1)) in
+      let ok = free-consistent (settles s cs l n (t .0)) (marked s) (unmarked s cs l n (t .0)) (free s cs l n (t .0) (t .1)) in
       rw (← counted s cs l n (t .0), answer-at s cs l n (t .0) i h) (derived s cs l n (t .0) ok i h)
   two (Refused r i) t q j h = absurd (refused-positive r q)
 
-  three : (r : Outcome) → Told s cs l r → of.number r ≡ 0 → (i : ℕ) → i < records cs → Entailed (pieceCount s) (pickedFacts s cs i) (claimed cs i) (getD (left s cs l r .answers) i 0)
+  three : (r : Outcome) → Told s cs l r → of.number r ≡ 0 → (i : ℕ) → i < records cs → Entailed (marked s) (pieceCount s) (pickedFacts s cs i) (claimed cs i) (getD (left s cs l r .answers) i 0)
   unfolding left
   three (Accepted n nodes shadows) t q i h =
-      let ok = free-consistent (settles s cs l n (t .0)) (free s cs l n (t .0) (t .1)) in
+      let ok = free-consistent (settles s cs l n (t .0)) (marked s) (unmarked s cs l n (t .0)) (free s cs l n (t .0) (t .1)) in
       rw (← counted s cs l n (t .0), answer-at s cs l n (t .0) i h) (entailed s cs l n (t .0) ok i h)
   three (Refused r i) t q j h = absurd (refused-positive r q)
 
-  laid : (r : Outcome) → Told s cs l r → of.number r ≡ 0 → (M : Model (pieceCount s)) × keepsAll M (facts s)
+  laid : (r : Outcome) → Told s cs l r → of.number r ≡ 0 → (M : Model (marked s) (pieceCount s)) × keepsAll M (facts s)
   laid (Accepted n nodes shadows) t q =
-      subst (λ (m : ℕ). (M : Model m) × keepsAll M (facts s)) (counted s cs l n (t .0)) (free-model (settles s cs l n (t .0)) (free s cs l n (t .0) (t .1)))
+      subst (λ (m : ℕ). (M : Model (marked s) m) × keepsAll M (facts s)) (counted s cs l n (t .0)) (free-model (settles s cs l n (t .0)) (marked s) (unmarked s cs l n (t .0)) (free s cs l n (t .0) (t .1)))
   laid (Refused r i) t q = absurd (refused-positive r q)
 
   placed : (r : Outcome) → Told s cs l r → Contradicted s (of.number r) (of.place r)
@@ -152,9 +156,9 @@ module _ (s cs : List ℕ) (l : Lent) where
   placed (Refused r i) t q = pick (t q)
     where
       pick :
-          (n : ℕ) × Passed s cs l n × (leb (shortestClash n (entries s)) (records s) ≡ true) × (i ≡ shortestClash n (entries s) - 1)
-          → Contradiction (pieceCount s) s i
-      pick (n, p, e, k) = rw (← counted s cs l n p, k) (clashed-first (settles s cs l n p) (clashed s cs l n p e))
+          (n : ℕ) × Passed s cs l n × (leb (shortestClash (marked s) n (entries s)) (records s) ≡ true) × (i ≡ shortestClash (marked s) n (entries s) - 1)
+          → Contradiction (marked s) (pieceCount s) s i
+      pick (n, p, e, k) = rw (← counted s cs l n p, k) (clashed-first (settles s cs l n p) (marked s) (unmarked s cs l n p) (clashed s cs l n p e))
 
   sized : (r : Outcome) → Told s cs l r → Fitting s (of.number r) (of.nodeCount r)
   sized (Accepted n nodes shadows) t q = rw (← counted s cs l n (t .0)) (fits s cs l n (t .0) nodes (t .2))
@@ -189,5 +193,5 @@ sheets-agree s cs l q f c = pick (outcome s cs l) (told s cs l) q
     pick : (r : Outcome) → Told s cs l r → of.number r ≡ 0 → Agree (pieceCount s) s f
     pick (Accepted n nodes shadows) t z =
         let e = counted s cs l n (t .0) in
-        rw (← e) (agree s cs l n (t .0) (free-consistent (settles s cs l n (t .0)) (free s cs l n (t .0) (t .1))) f (rw (← e) at c))
+        rw (← e) (agree s cs l n (t .0) (free-consistent (settles s cs l n (t .0)) (marked s) (unmarked s cs l n (t .0)) (free s cs l n (t .0) (t .1))) f (rw (← e) at c))
     pick (Refused r i) t z = absurd (refused-positive r z)

@@ -2,7 +2,7 @@
 use Prim.Native.Nat.{ℕ, _-_, _<_}
 use mathlib.Core.Path.{_≡_, refl, sym, ap, _∙_, fun-ext}
 use mathlib.Core.Logic.{_⊎_, inl, inr}
-use mathlib.Core.Bool.{true, false, false≢true}
+use mathlib.Core.Bool.{Bool, true, false, false≢true}
 use mathlib.Core.List.{List}
 use native.Mathlib.Omega.{arith}
 use native.Mathlib.Decide.{decLt}
@@ -15,6 +15,7 @@ use Rattle.rules.specs.Entries.{shortestClash}
 use Rattle.rules.specs.Verdict.{verdict}
 use Rattle.rules.proofs.More.{same-clash, same-verdict}
 use Rattle.records.specs.Record.{recordAt, records}
+use Rattle.records.specs.Marked.{marked}
 use Rattle.records.specs.Reordered.{Reordered}
 use Rattle.records.specs.Facts.{entries, facts}
 use Rattle.records.specs.Check.{bookCheck, claimsCheck}
@@ -23,6 +24,7 @@ use Rattle.records.specs.declared.BookCheck.the-variants as book
 use Rattle.records.specs.declared.ClaimsCheck.{ClaimsCheck}
 use Rattle.records.specs.declared.ClaimsCheck.the-variants as claims
 use Rattle.records.proofs.Accepted.{accepted-claims}
+use Rattle.records.proofs.Marks.{marked-moved}
 use Rattle.records.proofs.Keeps.{picked-among}
 use Rattle.records.proofs.Orders.{facts-found, picked-found, found-moved, found-back, reordered-accepted}
 use Rattle.index.specs.Pairs.{joined}
@@ -30,7 +32,7 @@ use Rattle.index.specs.Index.{visitsOf}
 use Rattle.index.specs.Parts as on
 use Rattle.closure.specs.PartIn.{partIn}
 use Rattle.closure.proofs.FactIndex.{part-stored, stored-part}
-use Rattle.closure.proofs.Settling.{settleable, free-beyond, beyond-free}
+use Rattle.closure.proofs.Settling.{settleable, whole-unmarked, free-beyond, beyond-free}
 use Rattle.answers.specs.Lent.{Lent, shortLent}
 use Rattle.answers.specs.Outcome.{number}
 use Rattle.answers.specs.Call.{edges, byRuns, byClaims, byBook, outcome, claimed, pickedFacts, answersTo, indexed, left}
@@ -40,27 +42,31 @@ use Rattle.answers.specs.declared.Outcome.the-variants.{Accepted, Refuse
 
 -- row 14 looks at the facts alone: only its place turns on their order
 module _ (s : List ℕ) (n : ℕ) (sound : bookCheck s ≡ book.Accepted n) where
-  runs-clash : clash n (facts s) ≡ true → byRuns s n ≡ Refused Contradiction (shortestClash n (entries s) - 1)
+  runs-clash : clash (marked s) n (facts s) ≡ true → byRuns s n ≡ Refused Contradiction (shortestClash (marked s) n (entries s) - 1)
   unfolding byRuns
-  runs-clash e = pick (decLt (records s) (shortestClash n (entries s)))
+  runs-clash e = pick (decLt (records s) (shortestClash (marked s) n (entries s)))
     where
-      pick : Dec (records s < shortestClash n (entries s)) → byRuns s n ≡ Refused Contradiction (shortestClash n (entries s) - 1)
-      pick (yes h) = absurd (false≢true (beyond-free (settleable s n sound) h ∙ e))
-      pick (no h) = rw (le-leb (shortestClash n (entries s)) (records s) (omega arith), byRuns)
+      pick : Dec (records s < shortestClash (marked s) n (entries s)) → byRuns s n ≡ Refused Contradiction (shortestClash (marked s) n (entries s) - 1)
+      pick (yes h) = absurd (false≢true (beyond-free (settleable s n sound) (marked s) (whole-unmarked s n sound) h ∙ e))
+      pick (no h) = rw (le-leb (shortestClash (marked s) n (entries s)) (records s) (omega arith), byRuns)
 
-  runs-free : clash n (facts s) ≡ false → byRuns s n ≡ Accepted n (length (visitsOf n (edges n s))) (length (on.shadows (visitsOf n (edges n s))))
+  runs-free : clash (marked s) n (facts s) ≡ false → byRuns s n ≡ Accepted n (length (visitsOf n (edges n s))) (length (on.shadows (visitsOf n (edges n s))))
   unfolding byRuns
-  runs-free e = rw (lt-leb (shortestClash n (entries s)) (records s) (free-beyond (settleable s n sound) (sym e)), byRuns)
+  runs-free e = rw (lt-leb (shortestClash (marked s) n (entries s)) (records s) (free-beyond (settleable s n sound) (marked s) (whole-unmarked s n sound) (sym e)), byRuns)
 
--- the facts of t are those of s, and so are those that a claim picks
+-- the facts of t are those of s, and so are those that a claim picks, and the marks
 module _ (s t : List ℕ) (R : Reordered s t) (n : ℕ) (sound : bookCheck s ≡ book.Accepted n) where
   sound′ : bookCheck t ≡ book.Accepted n
   sound′ = reordered-accepted s t R n sound
 
-  same-clashes : clash n (facts s) ≡ clash n (facts t)
+  same-marks : marked t ≡ marked s
+  same-marks = marked-moved s t R
+
+  same-clashes : clash (marked s) n (facts s) ≡ clash (marked t) n (facts t)
   same-clashes =
       let S = settleable s n sound .bounded in
-      same-clash n (facts s) (facts t) (S .within) (settleable t n sound′ .bounded .within) (S .some) (facts-found s t (found-moved s t R)) (facts-found t s (found-back s t R))
+      same-clash (marked s) n (facts s) (facts t) (S .within) (settleable t n sound′ .bounded .within) (S .some) (whole-unmarked s n sound) (facts-found s t (found-moved s t R)) (facts-found t s (found-back s t R))
+      ∙ ap (λ (void : ℕ → Bool). clash void n (facts t)) (sym same-marks)
 
   same-edges : edges n s ≡ edges n t
   unfolding edges
@@ -72,14 +78,15 @@ module _ (s t : List ℕ) (R : Reordered s t) (n : ℕ) (sound : bookCheck s ≡
       (λ e. stored-part (facts s) p c (facts-found t s (found-back s t R) _ (part-stored (facts t) p c e))))))
 
   module _ (cs : List ℕ) (fit : claimsCheck n cs ≡ claims.Accepted) where
-    same-answer : (i : ℕ) → i < records cs → verdict n (pickedFacts s cs i) (claimed cs i) ≡ verdict n (pickedFacts t cs i) (claimed cs i)
+    same-answer : (i : ℕ) → i < records cs → verdict (marked s) n (pickedFacts s cs i) (claimed cs i) ≡ verdict (marked t) n (pickedFacts t cs i) (claimed cs i)
     unfolding claimed
     same-answer i l =
         let r = recordAt cs i in
         let S = settleable s n sound .bounded in
         let T = settleable t n sound′ .bounded in
-        same-verdict n (pickedFacts s cs i) (pickedFacts t cs i) (λ f m. S .within f (picked-among s r f m)) (λ f m. T .within f (picked-among t r f m)) (S .some)
+        same-verdict (marked s) n (pickedFacts s cs i) (pickedFacts t cs i) (λ f m. S .within f (picked-among s r f m)) (λ f m. T .within f (picked-among t r f m)) (S .some) (whole-unmarked s n sound)
         (picked-found s t (found-moved s t R) r) (picked-found t s (found-back s t R) r) (claimed cs i) (accepted-claims n cs fit .within i l)
+        ∙ ap (λ (void : ℕ → Bool). verdict void n (pickedFacts t cs i) (claimed cs i)) (sym same-marks)
 
     same-answers : answersTo s n cs ≡ answersTo t n cs
     unfolding answersTo
@@ -95,9 +102,9 @@ module _ (s t : List ℕ) (R : Reordered s t) (n : ℕ) (sound : bookCheck s ≡
 
     same-runs : claimsCheck n cs ≡ claims.Accepted → Same (byRuns s n) (byRuns t n)
     unfolding left
-    same-runs fit = pick (known (clash n (facts s)))
+    same-runs fit = pick (known (clash (marked s) n (facts s)))
       where
-        pick : Known (clash n (facts s)) → Same (byRuns s n) (byRuns t n)
+        pick : Known (clash (marked s) n (facts s)) → Same (byRuns s n) (byRuns t n)
         pick (is-true e) = rw (runs-clash s n sound e, runs-clash t n sound′ (sym same-clashes ∙ e)) (inr (refl, refl), refl)
         pick (is-false e) = rw (runs-free s n sound e, runs-free t n sound′ (sym same-clashes ∙ e), same-edges) (inl refl, same-indexed cs fit l)
 

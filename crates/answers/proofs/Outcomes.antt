@@ -8,15 +8,16 @@ use lib.Dec.{leb}
 use lib.ListN.{length}
 use Rattle.lists.proofs.Bools.{Known, is-true, is-false, known}
 use Rattle.rules.specs.Entries.{shortestClash}
+use Rattle.records.specs.Marked.{marked}
 use Rattle.records.specs.Record.{recordAt, records}
 use Rattle.records.specs.Refusal.{refusalNumber, row, judge, scan}
-use Rattle.records.specs.Rows.{ragged, moreThan, kindRow, originRow, pieceRow, orderRow, repeatRow, beyondRow}
+use Rattle.records.specs.Rows.{ragged, moreThan, kindRow, originRow, pieceRow, voidRow, orderRow, repeatRow, beyondRow}
 use Rattle.records.specs.Check.{formFinding, recordFinding, checkBy, bookCheck, claimsCheck, claimAt, claimFinding}
 use Rattle.records.specs.Facts.{entries}
 use Rattle.index.specs.Index.{visitsOf}
 use Rattle.records.specs.declared.Record.{Record}
 use Rattle.records.specs.declared.Refusal.{Refusal}
-use Rattle.records.specs.declared.Refusal.the-variants.{ShortBuffer, BookLength, TooManyRecords, Kind, Origin, PieceNumber, Order, Repeat, ClaimsLength, TooManyClaims, ClaimFormat, ClaimPiece, Contradiction, NotStanding}
+use Rattle.records.specs.declared.Refusal.the-variants.{ShortBuffer, BookLength, TooManyRecords, Kind, Origin, PieceNumber, VoidForm, Order, Repeat, ClaimsLength, TooManyClaims, ClaimFormat, ClaimPiece, Contradiction, NotStanding}
 use Rattle.records.specs.declared.Finding.{Finding}
 use Rattle.records.specs.declared.Edition.{Edition}
 use Rattle.records.specs.declared.Edition.the-variants.{Current}
@@ -53,7 +54,7 @@ judge-other (Unfit x) g h k = h
 
 form-other : (e : Edition) (r : Record) → Others (formFinding e r)
 unfolding formFinding
-form-other e r = row-other (kindRow e r) Kind _ (omega arith) (row-other (originRow r) Origin _ (omega arith) (row-other (pieceRow r) PieceNumber _ (omega arith) (row-other (orderRow r) Order _ (omega arith) fit-other)))
+form-other e r = row-other (kindRow e r) Kind _ (omega arith) (row-other (originRow r) Origin _ (omega arith) (row-other (pieceRow r) PieceNumber _ (omega arith) (row-other (voidRow r) VoidForm _ (omega arith) (row-other (orderRow r) Order _ (omega arith) fit-other))))
 
 record-other : (e : Edition) (s : List ℕ) (i : ℕ) → Others (recordFinding e s i)
 unfolding recordFinding
@@ -99,15 +100,15 @@ claims-other n cs =
 module _ (s cs : List ℕ) (l : Lent) where
   -- what the outcome says of the rows
   abbrev pub Told : Outcome → Type 0
-  Told (Accepted n nodes shadows) = Passed s cs l n × (leb (shortestClash n (entries s)) (records s) ≡ false) × (nodes ≡ length (visitsOf n (edges n s)))
+  Told (Accepted n nodes shadows) = Passed s cs l n × (leb (shortestClash (marked s) n (entries s)) (records s) ≡ false) × (nodes ≡ length (visitsOf n (edges n s)))
   Told (Refused r i) =
-      refusalNumber r ≡ 14 → (n : ℕ) × Passed s cs l n × (leb (shortestClash n (entries s)) (records s) ≡ true) × (i ≡ shortestClash n (entries s) - 1)
+      refusalNumber r ≡ 14 → (n : ℕ) × Passed s cs l n × (leb (shortestClash (marked s) n (entries s)) (records s) ≡ true) × (i ≡ shortestClash (marked s) n (entries s) - 1)
 
   pub runs-told : (n : ℕ) → Passed s cs l n → Told (byRuns s n)
   unfolding byRuns
-  runs-told n p = pick (known (leb (shortestClash n (entries s)) (records s)))
+  runs-told n p = pick (known (leb (shortestClash (marked s) n (entries s)) (records s)))
     where
-      pick : Known (leb (shortestClash n (entries s)) (records s)) → Told (byRuns s n)
+      pick : Known (leb (shortestClash (marked s) n (entries s)) (records s)) → Told (byRuns s n)
       pick (is-true e) = rw (e, byRuns) (λ q. (n, p, e, refl))
       pick (is-false e) = rw (e, byRuns) (p, e, refl)
 

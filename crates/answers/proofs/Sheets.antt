@@ -1,13 +1,14 @@
 -- The run of the cutting sheets of an accepted book: it can be settled, it is free where the book is, and its answers 1 and 2 are the book's.
 -- Assumes nothing.
 use Prim.Native.Nat.{ℕ, _<_, _≤_}
-use mathlib.Core.Path.{_≡_, refl, sym}
-use mathlib.Core.Bool.{true, false, false≢true}
+use mathlib.Core.Path.{_≡_, refl, sym, _∙_}
+use mathlib.Core.Bool.{Bool, true, false, false≢true}
 use mathlib.Core.List.{List}
 use native.Mathlib.Omega.{arith}
 use lib.ListN.{length, take}
 use Rattle.lists.specs.Front.{front}
 use Rattle.lists.proofs.Fronts.{front-taken}
+use Rattle.lists.proofs.Bools.{not-true}
 use Rattle.rules.specs.Fact.{Fact, Within, AllWithin}
 use Rattle.rules.specs.Derives.{Contradictory}
 use Rattle.rules.specs.Follows.{clash}
@@ -29,19 +30,19 @@ use Rattle.closure.proofs.Settling.{settleable, free-consistent}
 
 -- ---- fewer facts of a list that is not contradictory
 
-module _ (n : ℕ) (fs gs : List Fact) (i : AllWithin n gs) (p : 0 < n) (ok : Contradictory n gs → ⊥) (fewer : Among fs gs) where
+module _ (void : ℕ → Bool) (n : ℕ) (fs gs : List Fact) (i : AllWithin n gs) (p : 0 < n) (z : void 0 ≡ false) (ok : Contradictory void n gs → ⊥) (fewer : Among fs gs) where
   pub fewer-within : AllWithin n fs
   fewer-within f m = i f (fewer f m)
 
-  pub fewer-consistent : Contradictory n fs → ⊥
+  pub fewer-consistent : Contradictory void n fs → ⊥
   fewer-consistent c = ok (weaken-contradictory (omega arith) fewer c)
 
   module _ (f : Fact) (c : Within n f) where
-    pub fewer-follows : verdict n fs f ≡ 1 → verdict n gs f ≡ 1
-    fewer-follows e = verdict-follows n gs i p ok f c .1 (weaken (omega arith) fewer (verdict-follows n fs fewer-within p fewer-consistent f c .0 e))
+    pub fewer-follows : verdict void n fs f ≡ 1 → verdict void n gs f ≡ 1
+    fewer-follows e = verdict-follows void n gs i p z ok f c .1 (weaken (omega arith) fewer (verdict-follows void n fs fewer-within p z fewer-consistent f c .0 e))
 
-    pub fewer-denied : verdict n fs f ≡ 2 → verdict n gs f ≡ 2
-    fewer-denied e = verdict-denied n gs i p ok f c .1 (weaken (omega arith) fewer (verdict-denied n fs fewer-within p fewer-consistent f c .0 e))
+    pub fewer-denied : verdict void n fs f ≡ 2 → verdict void n gs f ≡ 2
+    fewer-denied e = verdict-denied void n gs i p z ok f c .1 (weaken (omega arith) fewer (verdict-denied void n fs fewer-within p z fewer-consistent f c .0 e))
 
 -- ---- the sheets
 
@@ -73,16 +74,19 @@ module _ (s : List ℕ) {n : ℕ} (sound : bookCheck s ≡ book.Accepted n) wher
               };
         })
 
-    module _ (free : false ≡ clash n (facts s)) where
-      sheets-free : true ≡ clash n (facts run) → ⊥
-      sheets-free e =
+    module _ (void : ℕ → Bool) (z : void 0 ≡ false) (free : false ≡ clash void n (facts s)) where
+      pub sheets-free : false ≡ clash void n (facts run)
+      sheets-free =
           let B = sheets-settleable .bounded in
-          let c : Contradictory n (facts (sheets s)) = rw are at (clash-iff n (facts run) (B .within) (B .some) .0 (sym e)) in
-          free-consistent (settleable s n sound) free (weaken-contradictory (omega arith) (sheets-among s) c)
+          sym
+          (not-true _
+          (λ e.
+          let c : Contradictory void n (facts (sheets s)) = rw are at (clash-iff void n (facts run) (B .within) (B .some) z .0 e) in
+          free-consistent (settleable s n sound) void z free (weaken-contradictory (omega arith) (sheets-among s) c)))
 
       -- settling them finds no contradiction
       pub sheets-opened :
-          {parens marks shadows places e d t : List ℕ} (r : Settled) → Settles n run parens marks shadows places e d t r
-          → (nodes : ℕ) × (shadowed : ℕ) × Opened n (facts run) parens marks shadows places nodes shadowed e d t false
+          {parens marks shadows places e d t : List ℕ} (r : Settled) → Settles void n run parens marks shadows places e d t r
+          → (nodes : ℕ) × (shadowed : ℕ) × Opened void n (facts run) parens marks shadows places nodes shadowed e d t false
       sheets-opened (Free a b) S = (a, b, S .free a b refl)
-      sheets-opened (Clash k) S = absurd (sheets-free (S .clash k refl .is))
+      sheets-opened (Clash k) S = absurd (false≢true (sheets-free ∙ sym (S .clash k refl .is)))

@@ -7,14 +7,15 @@ use Rattle.rules.specs.Verdict.{verdict}
 use Rattle.records.specs.Facts.{facts}
 use Rattle.records.specs.Pieces.{pieceCount}
 use Rattle.records.specs.Kept.{sheets}
+use Rattle.records.specs.Marked.{marked}
 use Rattle.answers.specs.Lent.{Lent}
 use Rattle.answers.specs.Outcome.{number}
 use Rattle.answers.specs.Call.{outcome}
 
--- an answer FOLLOWS or DENIED from the sheets is the same from all facts
+-- an answer FOLLOWS or DENIED from the sheets is the same from all facts, with the book's marks in both
 pub record Agree (n : ℕ) (s : List ℕ) (f : Fact) : Type 0 where
-  pub follows : verdict n (facts (sheets s)) f ≡ 1 → verdict n (facts s) f ≡ 1
-  pub denied : verdict n (facts (sheets s)) f ≡ 2 → verdict n (facts s) f ≡ 2
+  pub follows : verdict (marked s) n (facts (sheets s)) f ≡ 1 → verdict (marked s) n (facts s) f ≡ 1
+  pub denied : verdict (marked s) n (facts (sheets s)) f ≡ 2 → verdict (marked s) n (facts s) f ≡ 2
 
 -- of every claim about the pieces of an accepted book
 abbrev pub SheetsAgree : Type 0

@@ -16,6 +16,7 @@ use Rattle.records.specs.Refusal.{refusalNumber}
 use Rattle.records.specs.Check.{bookCheck, claimsCheck}
 use Rattle.records.specs.Facts.{saying, entries, facts}
 use Rattle.records.specs.Kept.{picked}
+use Rattle.records.specs.Marked.{marked}
 use Rattle.records.specs.declared.Refusal.the-variants.{ShortBuffer, Contradiction}
 use Rattle.records.specs.declared.BookCheck.{BookCheck}
 use Rattle.records.specs.declared.BookCheck.the-variants as book
@@ -36,11 +37,11 @@ edges n s = joined n (partIn (facts s))
 
 -- ---- the outcome: rows 1 to 14 from top to bottom
 
--- row 14, from the shortest contradictory run
+-- row 14, from the shortest contradictory run: the whole book's marks count in every run
 unfoldable pub byRuns : List ℕ → ℕ → Outcome
 byRuns s n =
-    elim (leb (shortestClash n (entries s)) (records s)) [
-      | true ↦ Refused Contradiction (shortestClash n (entries s) - 1)
+    elim (leb (shortestClash (marked s) n (entries s)) (records s)) [
+      | true ↦ Refused Contradiction (shortestClash (marked s) n (entries s) - 1)
       | false ↦ Accepted n (length (visitsOf n (edges n s))) (length (on.shadows (visitsOf n (edges n s))))
     ]
 
@@ -71,9 +72,9 @@ claimed cs i = saying (recordAt cs i)
 abbrev pub pickedFacts : List ℕ → List ℕ → ℕ → List Fact
 pickedFacts s cs i = facts (picked s (recordAt cs i))
 
--- the answers to all claims
+-- the answers to all claims: the whole book's marks count in each
 unfoldable pub answersTo : List ℕ → ℕ → List ℕ → List ℕ
-answersTo s n cs = tab (λ i. verdict n (pickedFacts s cs i) (claimed cs i)) 0 (records cs)
+answersTo s n cs = tab (λ i. verdict (marked s) n (pickedFacts s cs i) (claimed cs i)) 0 (records cs)
 
 unfoldable pub indexed : List ℕ → List ℕ → ℕ → Lent → Lent
 indexed s cs n l = record {

@@ -1,15 +1,17 @@
--- Entry order has no influence, and records that are added alter no FOLLOWS and no DENIED. Assumes nothing.
+-- Entry order has no influence, and records that are added alter no FOLLOWS and no DENIED, but for marks. Assumes nothing.
 use Prim.Native.Nat.{ℕ, _<_}
 use mathlib.Core.Path.{_≡_}
 use mathlib.Core.Logic.{_⊎_}
 use mathlib.Core.Bool.{false}
-use mathlib.Core.List.{List, [], _++_}
+use mathlib.Core.List.{List, [], _∷_, _++_}
 use lib.ListN.{getD}
-use Rattle.records.specs.Record.{records}
+use Rattle.records.specs.Record.{recordAt, records}
+use Rattle.records.specs.Marked.{marked}
 use Rattle.records.specs.Reordered.{Reordered}
 use Rattle.records.specs.Check.{bookCheck}
 use Rattle.records.specs.declared.BookCheck.the-variants as book
 use Rattle.records.specs.declared.Refusal.the-variants.{Contradiction}
+use Rattle.lists.specs.Front.{front}
 use Rattle.answers.specs.Lent.{Lent, shortLent}
 use Rattle.answers.specs.Outcome.{number}
 use Rattle.answers.specs.Call.{outcome, left}
@@ -42,9 +44,20 @@ PlaceDiffers =
 abbrev pub answerOf : List ℕ → List ℕ → Lent → ℕ → ℕ
 answerOf s cs l i = getD (left s cs l (outcome s cs l) .answers) i 0
 
--- t has the records of s and those of r besides, in whatever order, new pieces or not: where both are accepted, what s answers by FOLLOWS or DENIED t
--- answers so too, restricted or not. This is of the records of today's kinds: the marks of R-10 are to be shut out of r
+-- t has the records of s and those of r besides, none of them a mark, in whatever order, new pieces or not: where both are accepted, what s answers by
+-- FOLLOWS or DENIED t answers so too, restricted or not
 abbrev pub Steady : Type 0
 Steady =
-    (s r t cs : List ℕ) (l : Lent) → Reordered (s ++ r) t → number (outcome s cs l) ≡ 0 → number (outcome t cs l) ≡ 0
+    (s r t cs : List ℕ) (l : Lent) → Reordered (s ++ r) t → ((g : ℕ) → marked r g ≡ false) → number (outcome s cs l) ≡ 0 → number (outcome t cs l) ≡ 0
     → (i : ℕ) → i < records cs → (answerOf s cs l i ≡ 1 → answerOf t cs l i ≡ 1) × (answerOf s cs l i ≡ 2 → answerOf t cs l i ≡ 2)
+
+-- a mark that is added can turn any answer into any other: for one book and one mark both are accepted, and six claims have each turn once
+pub record Turned (s r cs : List ℕ) (l : Lent) : Type 0 where
+  pub one : records r ≡ 1
+  pub mark : recordAt r 0 .kind ≡ 6
+  pub accepted : (number (outcome s cs l) ≡ 0) × (number (outcome (s ++ r) cs l) ≡ 0)
+  pub before : left s cs l (outcome s cs l) .answers ≡ front (1 ∷ 1 ∷ 2 ∷ 2 ∷ 3 ∷ 3 ∷ []) (l .answers)
+  pub after : left (s ++ r) cs l (outcome (s ++ r) cs l) .answers ≡ front (3 ∷ 2 ∷ 3 ∷ 1 ∷ 1 ∷ 2 ∷ []) (l .answers)
+
+abbrev pub MarksTurn : Type 0
+MarksTurn = (s r cs : List ℕ) × ((l : Lent) → shortLent cs l ≡ false → Turned s r cs l)

@@ -6,6 +6,7 @@ ghost use lib.Dec.{ltb};
 ghost use mathlib.Core.Bool.{_||_};
 ghost use Rattle.records.specs.Facts.{facts};
 ghost use Rattle.records.specs.Kept.{sheets};
+ghost use Rattle.closure.specs.Void.{voidOf};
 ghost use Rattle.closure.specs.Answers.{answerByte};
 ghost use Rattle.answers.specs.Lent.{lent};
 ghost use Rattle.answers.specs.Call.{answersTo, Determined};
@@ -36,10 +37,11 @@ fn byte_of(answer: Answer) -> u8
     }
 }
 
-// Answers each claim of one origin from the closure that is lent.
+// Answers each claim of one origin from the marks and the closure that are lent.
 fn answer_each(
     origin: u8,
     claims: &[u8],
+    voids: &[u64],
     d: &[u64],
     u: &[u64],
     p: &[u64],
@@ -47,8 +49,8 @@ fn answer_each(
     q: &[u64],
     answers: &mut [u8],
 )
-    requires { ⌜ Closing (now claims) (now d) (now u) (now p) (now t) (now q) (length (now answers)) ⌝ }
-    ensures { λ _. ⌜ Answers origin (now (claims .entry)) (now (d .entry)) (now (u .entry)) (now (p .entry)) (now (t .entry)) (now (q .entry)) (now (answers .entry)) (now (answers .exit)) ⌝ }
+    requires { ⌜ Closing (now claims) (now voids) (now d) (now u) (now p) (now t) (now q) (length (now answers)) ⌝ }
+    ensures { λ _. ⌜ Answers (voidOf (now (voids .entry))) origin (now (claims .entry)) (now (d .entry)) (now (u .entry)) (now (p .entry)) (now (t .entry)) (now (q .entry)) (now (answers .entry)) (now (answers .exit)) ⌝ }
 {
     let n = claims.len() / 6;
     let mut i: usize = 0;
@@ -58,7 +60,7 @@ fn answer_each(
             i += 1;
             continue;
         }
-        let answer = closure::answer_to(claim.kind, claim.a, claim.b, d, u, p, t, q);
+        let answer = closure::answer_to(claim.kind, claim.a, claim.b, voids, d, u, p, t, q);
         answers[i] = byte_of(answer);
         i += 1;
     }
@@ -84,6 +86,7 @@ fn some_restricted(claims: &[u8]) -> bool
 fn answer_restricted(
     book: &[u8],
     n: usize,
+    voids: &[u64],
     claims: &[u8],
     e: &mut [u64],
     d: &mut [u64],
@@ -93,8 +96,8 @@ fn answer_restricted(
     q: &mut [u64],
     answers: &mut [u8],
 )
-    requires { ⌜ Restrictable (now book) n (now claims) (now e) (now d) (now t) (now u) (now p) (now q) (length (now answers)) ⌝ }
-    ensures { λ _. ⌜ AnsweredFrom 1 n (facts (sheets (now (book .entry)))) (now (claims .entry)) (now (answers .entry)) (now (answers .exit)) ⌝ }
+    requires { ⌜ Restrictable (now book) n (now voids) (now claims) (now e) (now d) (now t) (now u) (now p) (now q) (length (now answers)) ⌝ }
+    ensures { λ _. ⌜ AnsweredFrom (voidOf (now (voids .entry))) 1 n (facts (sheets (now (book .entry)))) (now (claims .entry)) (now (answers .entry)) (now (answers .exit)) ⌝ }
 {
     let mut kept = [0u8; 49152];
     let mut parens = [0u8; 2560];
@@ -106,6 +109,7 @@ fn answer_restricted(
     closure::settle(
         run,
         n,
+        voids,
         e,
         d,
         t,
@@ -114,21 +118,22 @@ fn answer_restricted(
         &mut shadows,
         &mut places,
     );
-    closure::complete(run, n, e, u, p, q);
-    answer_each(1, claims, d, u, p, t, q, answers);
+    closure::complete(run, n, voids, e, u, p, q);
+    answer_each(1, claims, voids, d, u, p, t, q, answers);
 }
 
 // Answers the claims on a book that is not contradictory: e are its edges, d and t its first two matrices. Without claims the others are not asked for.
 fn answer_all(
     book: &[u8],
     n: usize,
+    voids: &[u64],
     claims: &[u8],
     e: &mut [u64],
     d: &mut [u64],
     t: &mut [u64],
     answers: &mut [u8],
 )
-    requires { ⌜ Answerable (now book) n (now claims) (now e) (now d) (now t) (length (now answers)) ⌝ }
+    requires { ⌜ Answerable (now book) n (now voids) (now claims) (now e) (now d) (now t) (length (now answers)) ⌝ }
     ensures { λ _. ⌜ now (answers .exit) ≡ answersTo (now (book .entry)) n (now (claims .entry)) ⌝ }
 {
     if claims.len() < 6 {
@@ -137,12 +142,24 @@ fn answer_all(
     let mut u = [0u64; 65536];
     let mut p = [0u64; 65536];
     let mut q = [0u64; 65536];
-    closure::complete(book, n, e, &mut u, &mut p, &mut q);
-    answer_each(0, claims, d, &u, &p, t, &q, answers);
+    closure::complete(book, n, voids, e, &mut u, &mut p, &mut q);
+    answer_each(0, claims, voids, d, &u, &p, t, &q, answers);
     if !some_restricted(claims) {
         return;
     }
-    answer_restricted(book, n, claims, e, d, t, &mut u, &mut p, &mut q, answers);
+    answer_restricted(
+        book,
+        n,
+        voids,
+        claims,
+        e,
+        d,
+        t,
+        &mut u,
+        &mut p,
+        &mut q,
+        answers,
+    );
 }
 
 // Zeroes the four parts of the index.
@@ -155,7 +172,7 @@ fn clear_index(parens: &mut [u8], marks: &mut [u8], shadows: &mut [u16], places:
     index::clear(places);
 }
 
-// Row 14, the index and the answers, for a book and claims that pass the rows before, in lent parts of document 01's lengths.
+// The marks of the whole book, then row 14, the index and the answers, for a book and claims that pass the rows before, in lent parts of document 01's lengths.
 fn judge(
     book: &[u8],
     n: usize,
@@ -169,12 +186,15 @@ fn judge(
     requires { ⌜ Exact (now book) n (now claims) (lent (now parens) (now marks) (now shadows) (now places) (now answers)) ⌝ }
     ensures { λ r. ⌜ Judged (now (book .entry)) n (now (claims .entry)) (lent (now (parens .entry)) (now (marks .entry)) (now (shadows .entry)) (now (places .entry)) (now (answers .entry))) r (lent (now (parens .exit)) (now (marks .exit)) (now (shadows .exit)) (now (places .exit)) (now (answers .exit))) ⌝ }
 {
+    let mut voids = [0u64; 32];
+    closure::marking::mark_voids(book, &mut voids);
     let mut e = [0u64; 65536];
     let mut d = [0u64; 65536];
     let mut t = [0u64; 65536];
     let settled = closure::settle(
         book,
         n,
+        &voids,
         &mut e,
         &mut d,
         &mut t,
@@ -189,7 +209,7 @@ fn judge(
             Outcome::Refused(Refusal::Contradiction, place)
         }
         Settled::Free(nodes, shadowed) => {
-            answer_all(book, n, claims, &mut e, &mut d, &mut t, answers);
+            answer_all(book, n, &voids, claims, &mut e, &mut d, &mut t, answers);
             Outcome::Accepted(n, nodes, shadowed)
         }
     }

@@ -1,7 +1,7 @@
 -- Containment in the index of a list of facts is what `rules` derives: PART. Assumes nothing.
 use mathlib.Core.Path.{_≡_, refl, sym, fun-ext}
 use mathlib.Core.Logic.{_⊎_, inl, inr, _↔_}
-use mathlib.Core.Bool.{true, false, not, _&&_}
+use mathlib.Core.Bool.{true, false, not, _&&_, false≢true}
 use mathlib.Core.List.{List, List·Memᴰ}
 use Prim.Native.Nat.{ℕ, zero, suc, _+_, _*_, _/_, _≤_, _<_}
 use native.Mathlib.Decide.{decLt}
@@ -14,10 +14,10 @@ use Rattle.lists.proofs.Bools.{and-both, both-and, or-either, left-or, eqb-self
 use Rattle.parentheses.specs.Bits.{bits}
 use Rattle.relation.specs.Matrix.{bitOf}
 use Rattle.relation.proofs.Laws.{bit-zero}
-use Rattle.rules.specs.Fact.{Fact, PART, AllWithin, kind, left, right, factOf}
+use Rattle.rules.specs.Fact.{Fact, PART, AllWithin, kind, left, right, factOf, unmarked}
 use Rattle.rules.specs.Derives.{Derives}
 use Rattle.rules.specs.Follows.{storing}
-use Rattle.rules.proofs.Paths.{Path, here, top, up, path-derives, derives-shape}
+use Rattle.rules.proofs.Paths.{Path, here, top, up, leap, path-derives, derives-shape}
 use Rattle.rules.proofs.Facts.{storing-find, storing-hit}
 use Rattle.index.specs.Pairs.{joined, pairs, Book, Within, self, step}
 use Rattle.index.specs.Tree.{whole, visits}
@@ -80,23 +80,24 @@ module _ (n : ℕ) (fs : List Fact) (some : 0 < n) (all : AllWithin n fs) (lower
   unfolding joined
   pair g h m = left-or _ (stored-part fs g h m)
 
-  pub path-within : {g h : ℕ} → Path n fs g h → Within (joined n (partIn fs)) g h
+  pub path-within : {g h : ℕ} → Path unmarked n fs g h → Within (joined n (partIn fs)) g h
   path-within (here l) = self
+  path-within (leap c l r w) = absurd (false≢true c)
   path-within (top {g = g} l w) = within-trans (to-top (suc (book .level g)) g (omega arith) l) (path-within w)
   path-within (up {g = g} {h = h} m w) = step (pair g h m) (path-within w)
 
   -- a pair is stored, or it is a join
-  pair-path : (g c : ℕ) → joined n (partIn fs) g c ≡ true → {h : ℕ} → Path n fs c h → Path n fs g h
+  pair-path : (g c : ℕ) → joined n (partIn fs) g c ≡ true → {h : ℕ} → Path unmarked n fs c h → Path unmarked n fs g h
   unfolding joined
   pair-path g c e {h} w = go (or-either (partIn fs g c) (eqb c 0 && (ltb 0 g && (ltb g n && not (anyBelow (partIn fs g) n)))) e)
     where
-      go : (partIn fs g c ≡ true) ⊎ ((eqb c 0 && (ltb 0 g && (ltb g n && not (anyBelow (partIn fs g) n)))) ≡ true) → Path n fs g h
+      go : (partIn fs g c ≡ true) ⊎ ((eqb c 0 && (ltb 0 g && (ltb g n && not (anyBelow (partIn fs g) n)))) ≡ true) → Path unmarked n fs g h
       go (inl s) = up (part-stored fs g c s) w
       go (inr j) =
           let z = eqb-true c 0 (and-both (eqb c 0) (ltb 0 g && (ltb g n && not (anyBelow (partIn fs g) n))) j .0) in
           top (book .piece g c e) (rw z at w)
 
-  pub within-path : {g h : ℕ} → g < n → Within (joined n (partIn fs)) g h → Path n fs g h
+  pub within-path : {g h : ℕ} → g < n → Within (joined n (partIn fs)) g h → Path unmarked n fs g h
   within-path l self = here l
   within-path l (step {g = g} {c = c} e w) =
       pair-path g c e (within-path (book .whole g c e) w)
@@ -105,12 +106,12 @@ module _ (n : ℕ) (fs : List Fact) (some : 0 < n) (all : AllWithin n fs) (lower
   module _ (parens marks shadows places : List ℕ) (nodes shadowed : ℕ)
       (R : Room n (joined n (partIn fs)) (length parens) (length marks) (length shadows) (length places)) (I : Indexed n (joined n (partIn fs)) parens marks shadows places nodes shadowed)
       (h g : ℕ) (lh : h < n) (lg : g < n) where
-    pub inside-path : Inside (bits parens) (bits marks) shadows (getD places h 0) (getD places g 0) ↔ Path n fs g h
+    pub inside-path : Inside (bits parens) (bits marks) shadows (getD places h 0) (getD places g 0) ↔ Path unmarked n fs g h
     inside-path =
         let e = contains-lent n (joined n (partIn fs)) book parens marks shadows places nodes shadowed R I h g lh lg in
         (λ i. within-path lg (e .0 i), λ w. e .1 (path-within w))
 
-    pub inside-derived : Inside (bits parens) (bits marks) shadows (getD places h 0) (getD places g 0) ↔ Derives n fs (PART g h)
+    pub inside-derived : Inside (bits parens) (bits marks) shadows (getD places h 0) (getD places g 0) ↔ Derives unmarked n fs (PART g h)
     inside-derived = (λ i. path-derives (inside-path .0 i), λ d. inside-path .1 (derives-shape all (PART g h) some d))
 
   -- ## A matrix of the facts

@@ -1,7 +1,7 @@
 -- Matrices that grow by the bits of a function. Assumes nothing.
 use Prim.Native.Nat.{ℕ, _+_, _<_, _≤_}
 use mathlib.Core.Path.{_≡_, refl, sym, ap, _∙_}
-use mathlib.Core.Bool.{Bool, true, false, _&&_, _||_, or-false, or-true, or-assoc, and-false, and-comm}
+use mathlib.Core.Bool.{Bool, true, false, not, _&&_, _||_, or-false, or-true, or-assoc, and-false, and-true, and-comm}
 use mathlib.Core.List.{List}
 use native.Mathlib.Decide.{ℕ-discrete, decLt}
 use native.Mathlib.Omega.{arith}
@@ -40,6 +40,23 @@ diagonal-more k x y = pick (ℕ-discrete x y) (ℕ-discrete k x) (decLt x k)
     pick (yes e) (yes e′) d = simp (eq-eqb x y e, eq-eqb k x e′, eq-eqb k y (e′ ∙ e), lt-ltb x (k + 1) (omega arith), or-true)
     pick (yes e) (no e′) (yes h) = simp (eq-eqb x y e, ne-eqb k x e′, lt-ltb x k h, lt-ltb x (k + 1) (omega arith))
     pick (yes e) (no e′) (no h) = simp (eq-eqb x y e, ne-eqb k x e′, le-ltb x k (omega arith), le-ltb x (k + 1) (omega arith))
+
+-- and where the pieces that are marked are left out
+pub unmarked-none : (void : ℕ → Bool) (x y : ℕ) → (eqb x y && (ltb x 0 && not (void x))) ≡ false
+unmarked-none void x y = rw (le-ltb x 0 (omega arith)) (and-false (eqb x y))
+
+pub unmarked-more :
+    (void : ℕ → Bool) (k x y : ℕ)
+    → ((eqb x y && (ltb x k && not (void x))) || (not (void k) && (eqb k x && eqb k y))) ≡ (eqb x y && (ltb x (k + 1) && not (void x)))
+unmarked-more void k x y = pick (ℕ-discrete x y) (ℕ-discrete k x) (decLt x k)
+  where
+    pick : Dec (x ≡ y) → Dec (k ≡ x) → Dec (x < k) → ((eqb x y && (ltb x k && not (void x))) || (not (void k) && (eqb k x && eqb k y))) ≡ (eqb x y && (ltb x (k + 1) && not (void x)))
+    pick (no e) (yes e′) d = simp (ne-eqb x y e, ne-eqb k y (λ q. e (sym e′ ∙ q)), and-false)
+    pick (no e) (no e′) d = simp (ne-eqb x y e, ne-eqb k x e′, and-false)
+    pick (yes e) (yes e′) d =
+        simp (eq-eqb x y e, eq-eqb k x e′, eq-eqb k y (e′ ∙ e), le-ltb x k (omega arith), lt-ltb x (k + 1) (omega arith), and-true) (ap (λ (v : ℕ). not (void v)) e′)
+    pick (yes e) (no e′) (yes h) = simp (eq-eqb x y e, ne-eqb k x e′, lt-ltb x k h, lt-ltb x (k + 1) (omega arith), and-false, or-false)
+    pick (yes e) (no e′) (no h) = simp (eq-eqb x y e, ne-eqb k x e′, le-ltb x k (omega arith), le-ltb x (k + 1) (omega arith), and-false)
 
 -- piece 0's parts by one more
 pub crown-none : (x y : ℕ) → (eqb x 0 && (ltb 0 y && ltb y 1)) ≡ false

@@ -1,19 +1,18 @@
 -- The shortest contradictory run of a book by halving. Assumes nothing.
 use Prim.Native.Nat.{ℕ, _+_, _*_, _/_, _<_, _≤_}
-use mathlib.Core.Path.{_≡_, refl, sym, ap, _∙_}
+use mathlib.Core.Path.{_≡_, sym, ap, _∙_}
 use mathlib.Core.Bool.{Bool, true, false, false≢true}
 use mathlib.Core.List.{List, [], _∷_}
 use native.Mathlib.Decide.{ℕ-discrete}
 use native.Mathlib.Omega.{arith}
 use lib.ListN.{length, take}
 use lib.Seq.{take-length, length-take-le}
-use Rattle.lists.specs.Any.{any}
 use Rattle.lists.proofs.Bools.{not-true}
 use Rattle.rules.specs.Fact.{PART}
-use Rattle.rules.specs.Follows.{storing, clash}
+use Rattle.rules.specs.Follows.{clash}
 use Rattle.rules.specs.Entries.{Entry, fact, none, factsOf, shortestClash}
 use Rattle.rules.proofs.More.{Among}
-use Rattle.rules.proofs.Runs.{run-among, clash-grows, shortest-at}
+use Rattle.rules.proofs.Runs.{run-among, nothing-clashes, clash-grows, shortest-at}
 use Rattle.records.specs.Facts.{entries, facts}
 use Rattle.records.proofs.Runs.{entries-length, run-entries}
 use Rattle.closure.specs.Bounded.{Bounded}
@@ -79,49 +78,45 @@ facts-roomy s n b mb sc pc R =
 -- ---- the halving
 
 -- the run of `high` records is contradictory and that of `low` is not
-pub record Halving (n : ℕ) (s : List ℕ) (low high : ℕ) : Type 0 where
+pub record Halving (void : ℕ → Bool) (n : ℕ) (s : List ℕ) (low high : ℕ) : Type 0 where
   pub order : low < high
   pub upto : high ≤ length s / 6
-  pub free : clash n (factsOf (take low (entries s))) ≡ false
-  pub hit : clash n (factsOf (take high (entries s))) ≡ true
+  pub free : clash void n (factsOf (take low (entries s))) ≡ false
+  pub hit : clash void n (factsOf (take high (entries s))) ≡ true
 
-nothing-clashes : (n : ℕ) → clash n [] ≡ false
-unfolding clash storing any
-nothing-clashes n = refl
+module _ (void : ℕ → Bool) (n : ℕ) (s : List ℕ) where
+  whole : clash void n (facts s) ≡ true → clash void n (factsOf (take (length s / 6) (entries s))) ≡ true
+  whole e = ap (λ (k : ℕ). clash void n (factsOf (take k (entries s)))) (sym (entries-length s)) ∙ ap (λ (es : List Entry). clash void n (factsOf es)) (take-length (entries s)) ∙ e
 
-module _ (n : ℕ) (s : List ℕ) where
-  whole : clash n (facts s) ≡ true → clash n (factsOf (take (length s / 6) (entries s))) ≡ true
-  whole e = ap (λ (k : ℕ). clash n (factsOf (take k (entries s)))) (sym (entries-length s)) ∙ ap (λ (es : List Entry). clash n (factsOf es)) (take-length (entries s)) ∙ e
-
-  pub halving-start : clash n (facts s) ≡ true → Halving n s 0 (length s / 6)
+  pub halving-start : Bounded n (facts s) → void 0 ≡ false → clash void n (facts s) ≡ true → Halving void n s 0 (length s / 6)
   unfolding factsOf
-  halving-start e =
+  halving-start B z e =
       record {
         order =
             elim (ℕ-discrete (length s / 6) 0) [
-              | yes z ↦ absurd (false≢true (sym (nothing-clashes n) ∙ ap (λ (k : ℕ). clash n (factsOf (take k (entries s)))) (sym z) ∙ whole e))
-              | no z ↦ omega arith
+              | yes q ↦ absurd (false≢true (sym (nothing-clashes void n (B .some) z) ∙ ap (λ (k : ℕ). clash void n (factsOf (take k (entries s)))) (sym q) ∙ whole e))
+              | no q ↦ omega arith
             ];
         upto = omega arith;
-        free = nothing-clashes n;
+        free = nothing-clashes void n (B .some) z;
         hit = whole e;
       }
 
-  module _ (low high mid : ℕ) (H : Halving n s low high) (v : Bool) (is : v ≡ clash n (facts (take (6 * mid) s))) where
-    told : mid ≤ length s / 6 → clash n (factsOf (take mid (entries s))) ≡ v
-    told l = sym (is ∙ ap (clash n) (run-facts s mid (omega arith)))
+  module _ (low high mid : ℕ) (H : Halving void n s low high) (v : Bool) (is : v ≡ clash void n (facts (take (6 * mid) s))) where
+    told : mid ≤ length s / 6 → clash void n (factsOf (take mid (entries s))) ≡ v
+    told l = sym (is ∙ ap (clash void n) (run-facts s mid (omega arith)))
 
-    pub halving-high : low < mid → mid < high → v ≡ true → Halving n s low mid
+    pub halving-high : low < mid → mid < high → v ≡ true → Halving void n s low mid
     halving-high l h e = record { order = l; upto = omega (arith, H .upto); free = H .free; hit = told (omega (arith, H .upto)) ∙ e }
 
-    pub halving-low : low < mid → mid < high → v ≡ false → Halving n s mid high
+    pub halving-low : low < mid → mid < high → v ≡ false → Halving void n s mid high
     halving-low l h e = record { order = h; upto = H .upto; free = told (omega (arith, H .upto)) ∙ e; hit = H .hit }
 
-  pub halving-done : (low high : ℕ) → Bounded n (facts s) → high ≤ low + 1 → Halving n s low high → low + 1 ≡ shortestClash n (entries s)
-  halving-done low high B l H =
+  pub halving-done : (low high : ℕ) → Bounded n (facts s) → void 0 ≡ false → high ≤ low + 1 → Halving void n s low high → low + 1 ≡ shortestClash void n (entries s)
+  halving-done low high B z l H =
       let e : high ≡ low + 1 = omega (arith, H .order) in
-      let z = entries-length s in
+      let w = entries-length s in
       sym
-      (shortest-at n (entries s) (B .within) (B .some) high (omega (arith, H .upto)) (H .hit)
-      (λ j k. not-true _ (λ t. false≢true (sym (H .free) ∙ clash-grows n (entries s) (B .within) (B .some) j low (omega arith) (omega (arith, H .upto)) t)))
+      (shortest-at void n (entries s) (B .within) (B .some) z high (omega (arith, H .upto)) (H .hit)
+      (λ j k. not-true _ (λ t. false≢true (sym (H .free) ∙ clash-grows void n (entries s) (B .within) (B .some) z j low (omega arith) (omega (arith, H .upto)) t)))
       ∙ e)

@@ -2,7 +2,7 @@
 use Prim.Native.Nat.{ℕ, zero, suc, _<_, _≤_}
 use mathlib.Core.Path.{_≡_, refl, sym, ap, ap₂, _∙_}
 use mathlib.Core.Logic.{_⊎_, inl, inr}
-use mathlib.Core.Bool.{Bool, true, false, _&&_, _||_, or-comm, and-false}
+use mathlib.Core.Bool.{Bool, true, false, not, _&&_, _||_, or-comm, and-false}
 use mathlib.Core.List.{List}
 use native.Mathlib.Decide.{decLt}
 use native.Mathlib.Omega.{arith}
@@ -15,7 +15,7 @@ use Rattle.lists.proofs.Anys.{below-find, below-hit}
 use Rattle.relation.specs.Matrix.{bitOf, common, through, Multiplied}
 use Rattle.relation.specs.Flow.{Carried}
 use Rattle.relation.proofs.Cleared.{cleared}
-use Rattle.rules.specs.Fact.{Fact, PART, factOf, Within, AllWithin}
+use Rattle.rules.specs.Fact.{Fact, PART, factOf, Within, AllWithin, unmarked}
 use Rattle.rules.specs.Follows.{follows}
 use Rattle.rules.proofs.Facts.{storing-find}
 use Rattle.records.specs.declared.Record.{Record}
@@ -94,11 +94,11 @@ pieces-of n k a b c =
 module _ (n : ℕ) (fs : List Fact) where
   part-row : (h g : ℕ) → n ≤ h → partBit n fs h g ≡ false
   unfolding partBit
-  part-row h g l = ap (λ (t : Bool). (ltb g n && t) && follows n fs (PART g h)) (le-ltb h n l) ∙ ap (λ (t : Bool). t && follows n fs (PART g h)) (and-false (ltb g n))
+  part-row h g l = ap (λ (t : Bool). (ltb g n && t) && follows unmarked n fs (PART g h)) (le-ltb h n l) ∙ ap (λ (t : Bool). t && follows unmarked n fs (PART g h)) (and-false (ltb g n))
 
   whole-row : (g h : ℕ) → n ≤ g → wholeBit n fs g h ≡ false
   unfolding wholeBit partBit
-  whole-row g h l = ap (λ (t : Bool). (t && ltb h n) && follows n fs (PART g h)) (le-ltb g n l)
+  whole-row g h l = ap (λ (t : Bool). (t && ltb h n) && follows unmarked n fs (PART g h)) (le-ltb g n l)
 
   stored-row : AllWithin n fs → (k : ℕ) (straight swapped : Bool) (x y : ℕ) → n ≤ x → storedBit fs k straight swapped x y ≡ false
   unfolding storedBit
@@ -112,17 +112,18 @@ module _ (n : ℕ) (fs : List Fact) where
           let e = eqb-true b x (and-both (eqb a y) (eqb b x) (and-both swapped (eqb a y && eqb b x) h .1) .1) in
           omega (arith, pieces-of n k a b c .1)
 
-  meet-row : AllWithin n fs → (x y : ℕ) → n ≤ x → meetBit n fs x y ≡ false
+  meet-row : (void : ℕ → Bool) → AllWithin n fs → (x y : ℕ) → n ≤ x → meetBit void n fs x y ≡ false
   unfolding meetBit
-  meet-row w x y l = ap₂ _||_ (ap (λ (t : Bool). eqb x y && t) (le-ltb x n l) ∙ and-false (eqb x y)) (stored-row w 3 true true x y l)
+  meet-row void w x y l = ap₂ _||_ (ap (λ (t : Bool). eqb x y && (t && not (void x))) (le-ltb x n l) ∙ and-false (eqb x y)) (stored-row w 3 true true x y l)
 
   -- M, and the steps
-  pub meet-holds : {x x′ : List ℕ} → length x′ ≡ 65536 → Holds x (storedBit fs 3 true true) → Grown x x′ (λ a b. eqb a b && ltb a n) → Holds x′ (meetBit n fs)
+  pub meet-holds :
+      (void : ℕ → Bool) {x x′ : List ℕ} → length x′ ≡ 65536 → Holds x (storedBit fs 3 true true) → Grown x x′ (λ a b. eqb a b && (ltb a n && not (void a))) → Holds x′ (meetBit void n fs)
   unfolding meetBit
-  meet-holds z X G =
+  meet-holds void z X G =
       record {
         sized = z;
-        bits = λ a b la lb. G .bits a b la lb ∙ or-comm _ (eqb a b && ltb a n) ∙ ap (λ (t : Bool). (eqb a b && ltb a n) || t) (X .bits a b la lb);
+        bits = λ a b la lb. G .bits a b la lb ∙ or-comm _ (eqb a b && (ltb a n && not (void a))) ∙ ap (λ (t : Bool). (eqb a b && (ltb a n && not (void a))) || t) (X .bits a b la lb);
       }
 
   pub edge-holds :
@@ -144,14 +145,14 @@ module _ (n : ℕ) (fs : List Fact) where
           ∙ sym (any-none _ 2048 (λ x. ap (λ (t : Bool). t && f x y) (nowhere h x (omega arith))))
 
   -- N ∪ M·P
-  abbrev nextOut : ℕ → ℕ → Bool
-  nextOut x y = storedBit fs 4 true false x y || anyBelow (λ v. meetBit n fs x v && awayBit n fs v y) 2048
+  abbrev nextOut : (ℕ → Bool) → ℕ → ℕ → Bool
+  nextOut void x y = storedBit fs 4 true false x y || anyBelow (λ v. meetBit void n fs x v && awayBit n fs v y) 2048
 
   module _ (w : AllWithin n fs) where
     -- T
-    pub toward-holds : {t t′ : List ℕ} → length t′ ≡ 65536 → Holds t (meetBit n fs) → Carried (partBit n fs) n t t′ → Holds t′ (towardBit n fs)
+    pub toward-holds : (void : ℕ → Bool) {t t′ : List ℕ} → length t′ ≡ 65536 → Holds t (meetBit void n fs) → Carried (partBit n fs) n t t′ → Holds t′ (towardBit void n fs)
     unfolding towardBit
-    toward-holds z M C = carried z M (meet-row w) part-row C
+    toward-holds void z M C = carried z M (meet-row void w) part-row C
 
     -- P
     pub away-holds : {p p′ : List ℕ} → length p′ ≡ 65536 → Holds p (storedBit fs 2 true true) → Carried (wholeBit n fs) n p p′ → Holds p′ (awayBit n fs)
@@ -160,27 +161,27 @@ module _ (n : ℕ) (fs : List Fact) where
 
     -- Q
     pub out-holds :
-        {m p q q′ q″ : List ℕ} → length q′ ≡ 65536 → length q″ ≡ 65536 → Holds m (meetBit n fs) → Holds p (awayBit n fs) → Holds q (storedBit fs 4 true false)
-        → Multiplied q q′ m p n → Carried (partBit n fs) n q′ q″ → Holds q″ (outBit n fs)
+        (void : ℕ → Bool) {m p q q′ q″ : List ℕ} → length q′ ≡ 65536 → length q″ ≡ 65536 → Holds m (meetBit void n fs) → Holds p (awayBit n fs) → Holds q (storedBit fs 4 true false)
+        → Multiplied q q′ m p n → Carried (partBit n fs) n q′ q″ → Holds q″ (outBit void n fs)
     unfolding outBit towardBit
-    out-holds {m} {p} {q} {q′} {q″} z z′ M P Q X C =
-        holds-same (λ g y lg ly. spread (partBit n fs g) (λ x. storedBit fs 4 true false x y) (meetBit n fs) (λ x. awayBit n fs x y) 2048)
+    out-holds void {m} {p} {q} {q′} {q″} z z′ M P Q X C =
+        holds-same (λ g y lg ly. spread (partBit n fs g) (λ x. storedBit fs 4 true false x y) (meetBit void n fs) (λ x. awayBit n fs x y) 2048)
         (carried z′ first none part-row C)
       where
-        none : (x y : ℕ) → n ≤ x → nextOut x y ≡ false
-        none x y l = ap₂ _||_ (stored-row w 4 true false x y l) (any-none _ 2048 (λ v. ap (λ (t : Bool). t && awayBit n fs v y) (meet-row w x v l)))
+        none : (x y : ℕ) → n ≤ x → nextOut void x y ≡ false
+        none x y l = ap₂ _||_ (stored-row w 4 true false x y l) (any-none _ 2048 (λ v. ap (λ (t : Bool). t && awayBit n fs v y) (meet-row void w x v l)))
 
-        first : Holds q′ nextOut
+        first : Holds q′ (nextOut void)
         first = record { sized = z; bits = λ x y lx ly. one x y lx ly (decLt x n) }
           where
-            one : (x y : ℕ) → x < 2048 → y < 2048 → Dec (x < n) → bitOf q′ x y ≡ nextOut x y
+            one : (x y : ℕ) → x < 2048 → y < 2048 → Dec (x < n) → bitOf q′ x y ≡ nextOut void x y
             one x y lx ly (yes l) = X .row x y l ly ∙ ap₂ _||_ (Q .bits x y lx ly) (through-holds M P x y lx ly)
             one x y lx ly (no l) =
                 X .other x y (omega arith) ly ∙ Q .bits x y lx ly ∙ stored-row w 4 true false x y (omega arith) ∙ sym (none x y (omega arith))
 
   whole-column : (g y : ℕ) → wholeBit n fs g y ≡ true → ltb y n ≡ true
   unfolding wholeBit partBit
-  whole-column g y q = and-both (ltb g n) (ltb y n) (and-both (ltb g n && ltb y n) (follows n fs (PART g y)) q .0) .1
+  whole-column g y q = and-both (ltb g n) (ltb y n) (and-both (ltb g n && ltb y n) (follows unmarked n fs (PART g y)) q .0) .1
 
   -- U
   pub whole-holds :

@@ -12,3 +12,4 @@ pub mod Orders
 pub mod FactIndex
 pub mod Loads
 pub mod Settling
+pub mod VoidRows

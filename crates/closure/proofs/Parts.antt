@@ -10,7 +10,7 @@ use lib.Dec.{ltb}
 use lib.ListN.{length}
 use Rattle.lists.proofs.Bools.{same-truth}
 use Rattle.relation.specs.Matrix.{bitOf}
-use Rattle.rules.specs.Fact.{Fact, PART}
+use Rattle.rules.specs.Fact.{Fact, PART, unmarked}
 use Rattle.rules.proofs.Decides.{follows-iff}
 use Rattle.index.specs.Pairs.{joined, Book}
 use Rattle.index.specs.Index.{visitsOf, Room, Indexed}
@@ -69,7 +69,7 @@ module _ (n : ℕ) (fs : List Fact) (B : Bounded n fs) (O : Ordered fs) where
       where
         one : (h g : ℕ) → h < 2048 → g < 2048 → Dec (h < n) → Dec (g < n) → bitOf d h g ≡ partBit n fs h g
         one h g lh lg (yes k) (yes l) =
-            let s = follows-iff n fs (B .within) (B .some) (PART g h) (l, k) in
+            let s = follows-iff unmarked n fs (B .within) (B .some) (PART g h) (l, k) in
             let w = on.inside-derived n fs (B .some) (B .within) (O .lower) parens marks shadows places count shadowed (room (length parens) (length marks) (length shadows) (length places) R) I h g k l in
             let c = C .inside h g k l in
             rw (lt-ltb g n l, lt-ltb h n k) (same-truth _ _ (λ e. s .1 (w .0 (c .0 e))) (λ e. c .1 (w .1 (s .0 e))))

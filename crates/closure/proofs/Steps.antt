@@ -2,7 +2,7 @@
 use Prim.Native.Nat.{ℕ, _<_}
 use mathlib.Core.Path.{_≡_, refl, sym, _∙_}
 use mathlib.Core.Logic.{_⊎_, inl, inr}
-use mathlib.Core.Bool.{true, false, _&&_, _||_}
+use mathlib.Core.Bool.{true, false, _&&_, _||_, false≢true}
 use mathlib.Core.List.{List, List·Memᴰ}
 use native.Mathlib.Decide.{ℕ-discrete}
 use native.Mathlib.Omega.{arith}
@@ -13,8 +13,8 @@ use Rattle.lists.proofs.Bools.{and-both, both-and, or-either, left-or, right-or
 use Rattle.lists.proofs.Anys.{below-find, below-hit}
 use Rattle.relation.specs.Matrix.{bitOf}
 use Rattle.relation.specs.Flow.{Reached, along, against}
-use Rattle.rules.specs.Fact.{Fact, PART, factOf}
-use Rattle.rules.proofs.Paths.{Path, here, top, up, path-trans, path-below}
+use Rattle.rules.specs.Fact.{Fact, PART, factOf, unmarked}
+use Rattle.rules.proofs.Paths.{Path, here, top, up, leap, path-trans, path-below}
 use Rattle.closure.specs.Stored.{storedBit, edgeBit}
 use Rattle.closure.specs.Bounded.{Bounded}
 use Rattle.closure.specs.Ordered.{Ordered}
@@ -42,31 +42,33 @@ module _ (n : ℕ) (fs : List Fact) (B : Bounded n fs) where
   edge-bit {k} {p} (stored m) = left-or _ (swapped-hit fs 1 k p false refl m)
   edge-bit {k} {p} (crowned e l h) = right-or (storedBit fs 1 false true k p) (both-and (eq-eqb k 0 e) (both-and (lt-ltb 0 p l) (lt-ltb p n h)))
 
-  edge-path : {k p : ℕ} → Edge n fs k p → Path n fs p k
+  edge-path : {k p : ℕ} → Edge n fs k p → Path unmarked n fs p k
   edge-path (stored m) = up m (here (B .within _ m .1))
   edge-path {k} {p} (crowned e l h) = rw e (top h (here (B .some)))
 
   -- the last step of a path, and the first
-  path-last : {g k : ℕ} → Path n fs g k → (g ≡ k) ⊎ ((p : ℕ) × Path n fs g p × Edge n fs k p)
+  path-last : {g k : ℕ} → Path unmarked n fs g k → (g ≡ k) ⊎ ((p : ℕ) × Path unmarked n fs g p × Edge n fs k p)
   path-last (here l) = inl refl
+  path-last (leap c l r w) = absurd (false≢true c)
   path-last {g} {k} (up {h = h} m w) = go (path-last w)
     where
-      go : (h ≡ k) ⊎ ((p : ℕ) × Path n fs h p × Edge n fs k p) → (g ≡ k) ⊎ ((p : ℕ) × Path n fs g p × Edge n fs k p)
+      go : (h ≡ k) ⊎ ((p : ℕ) × Path unmarked n fs h p × Edge n fs k p) → (g ≡ k) ⊎ ((p : ℕ) × Path unmarked n fs g p × Edge n fs k p)
       go (inl e) = inr (g, here (B .within _ m .0), stored (rw e at m))
       go (inr r) = inr (r .0, up m (r .1), r .2)
   path-last {g} {k} (top l w) = go (path-last w) (ℕ-discrete g 0)
     where
-      go : (0 ≡ k) ⊎ ((p : ℕ) × Path n fs 0 p × Edge n fs k p) → Dec (g ≡ 0) → (g ≡ k) ⊎ ((p : ℕ) × Path n fs g p × Edge n fs k p)
+      go : (0 ≡ k) ⊎ ((p : ℕ) × Path unmarked n fs 0 p × Edge n fs k p) → Dec (g ≡ 0) → (g ≡ k) ⊎ ((p : ℕ) × Path unmarked n fs g p × Edge n fs k p)
       go (inl e) (yes z) = inl (z ∙ e)
       go (inl e) (no z) = inr (g, here l, crowned (sym e) (omega arith) l)
       go (inr r) d = inr (r .0, top l (r .1), r .2)
 
-  path-first : {g k : ℕ} → Path n fs g k → (g ≡ k) ⊎ ((p : ℕ) × Edge n fs p g × Path n fs p k)
+  path-first : {g k : ℕ} → Path unmarked n fs g k → (g ≡ k) ⊎ ((p : ℕ) × Edge n fs p g × Path unmarked n fs p k)
   path-first (here l) = inl refl
+  path-first (leap c l r w) = absurd (false≢true c)
   path-first (up {h = h} m w) = inr (h, stored m, w)
   path-first {g} {k} (top l w) = go (path-first w) (ℕ-discrete g 0)
     where
-      go : (0 ≡ k) ⊎ ((p : ℕ) × Edge n fs p 0 × Path n fs p k) → Dec (g ≡ 0) → (g ≡ k) ⊎ ((p : ℕ) × Edge n fs p g × Path n fs p k)
+      go : (0 ≡ k) ⊎ ((p : ℕ) × Edge n fs p 0 × Path unmarked n fs p k) → Dec (g ≡ 0) → (g ≡ k) ⊎ ((p : ℕ) × Edge n fs p g × Path unmarked n fs p k)
       go (inl e) (yes z) = inl (z ∙ e)
       go (inr r) (yes z) = inr (r .0, rw z (r .1), r .2)
       go f (no z) = inr (0, crowned refl (omega arith) l, w)
@@ -88,7 +90,7 @@ module _ (n : ℕ) (fs : List Fact) (B : Bounded n fs) where
         to : (h x : ℕ) → h < n → partBit n fs h x ≡ true → (eqb h x || anyBelow (λ p. bitOf e h p && partBit n fs p x) n) ≡ true
         to h x l q = pick (path-last (d-path n fs (B .within) (B .some) (B .fits) q))
           where
-            pick : (x ≡ h) ⊎ ((p : ℕ) × Path n fs x p × Edge n fs h p) → (eqb h x || anyBelow (λ p. bitOf e h p && partBit n fs p x) n) ≡ true
+            pick : (x ≡ h) ⊎ ((p : ℕ) × Path unmarked n fs x p × Edge n fs h p) → (eqb h x || anyBelow (λ p. bitOf e h p && partBit n fs p x) n) ≡ true
             pick (inl z) = left-or _ (eq-eqb h x (sym z))
             pick (inr r) =
                 let a = path-above (B .within) (r .1) in
@@ -99,7 +101,7 @@ module _ (n : ℕ) (fs : List Fact) (B : Bounded n fs) where
         from h x l q = pick (or-either _ _ q)
           where
             pick : (eqb h x ≡ true) ⊎ (anyBelow (λ p. bitOf e h p && partBit n fs p x) n ≡ true) → partBit n fs h x ≡ true
-            pick (inl z) = let w : Path n fs h h = here l in rw (← eqb-true h x z) (path-d n fs (B .within) (B .some) (B .fits) w)
+            pick (inl z) = let w : Path unmarked n fs h h = here l in rw (← eqb-true h x z) (path-d n fs (B .within) (B .some) (B .fits) w)
             pick (inr r) =
                 let f = below-find (λ p. bitOf e h p && partBit n fs p x) n r in
                 let b = and-both _ _ (f .2) in
@@ -112,7 +114,7 @@ module _ (n : ℕ) (fs : List Fact) (B : Bounded n fs) where
         to : (g x : ℕ) → g < n → wholeBit n fs g x ≡ true → (eqb g x || anyBelow (λ p. bitOf e p g && wholeBit n fs p x) n) ≡ true
         to g x l q = pick (path-first (u-path n fs (B .within) (B .some) (B .fits) q))
           where
-            pick : (g ≡ x) ⊎ ((p : ℕ) × Edge n fs p g × Path n fs p x) → (eqb g x || anyBelow (λ p. bitOf e p g && wholeBit n fs p x) n) ≡ true
+            pick : (g ≡ x) ⊎ ((p : ℕ) × Edge n fs p g × Path unmarked n fs p x) → (eqb g x || anyBelow (λ p. bitOf e p g && wholeBit n fs p x) n) ≡ true
             pick (inl z) = left-or _ (eq-eqb g x z)
             pick (inr r) =
                 let a = path-below (B .within) (r .2) in
@@ -123,7 +125,7 @@ module _ (n : ℕ) (fs : List Fact) (B : Bounded n fs) where
         from g x l q = pick (or-either _ _ q)
           where
             pick : (eqb g x ≡ true) ⊎ (anyBelow (λ p. bitOf e p g && wholeBit n fs p x) n ≡ true) → wholeBit n fs g x ≡ true
-            pick (inl z) = let w : Path n fs g g = here l in rw (← eqb-true g x z) (path-u n fs (B .within) (B .some) (B .fits) w)
+            pick (inl z) = let w : Path unmarked n fs g g = here l in rw (← eqb-true g x z) (path-u n fs (B .within) (B .some) (B .fits) w)
             pick (inr r) =
                 let f = below-find (λ p. bitOf e p g && wholeBit n fs p x) n r in
                 let b = and-both _ _ (f .2) in

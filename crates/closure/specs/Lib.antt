@@ -1,8 +1,10 @@
+pub mod Void
 pub mod Stored
 pub mod Closed
 pub mod Bounded
 pub mod Ordered
 pub mod Opposed
+pub mod ByMarks
 pub mod Opened
 pub mod Settled
 pub mod Contradiction

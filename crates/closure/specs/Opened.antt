@@ -11,9 +11,9 @@ use Rattle.index.specs.Index.{Indexed}
 use Rattle.closure.specs.Stored.{edgeBit}
 use Rattle.closure.specs.Closed.{Holds, partBit, towardBit}
 
-pub record Opened (n : ℕ) (fs : List Fact) (parens marks shadows places : List ℕ) (nodes shadowed : ℕ) (e d t : List ℕ) (clashed : Bool) : Type 0 where
+pub record Opened (void : ℕ → Bool) (n : ℕ) (fs : List Fact) (parens marks shadows places : List ℕ) (nodes shadowed : ℕ) (e d t : List ℕ) (clashed : Bool) : Type 0 where
   pub index : Indexed n (joined n (partIn fs)) parens marks shadows places nodes shadowed
   pub steps : Holds e (edgeBit n fs)
   pub parts : Holds d (partBit n fs)
-  pub toward : Holds t (towardBit n fs)
-  pub is : clashed ≡ clash n fs
+  pub toward : Holds t (towardBit void n fs)
+  pub is : clashed ≡ clash void n fs

@@ -1,6 +1,6 @@
 -- The bits of the stored facts: row x, column y. Assumes nothing.
 use Prim.Native.Nat.{ℕ}
-use mathlib.Core.Bool.{Bool, true, false, _&&_, _||_}
+use mathlib.Core.Bool.{Bool, true, false, not, _&&_, _||_}
 use mathlib.Core.List.{List}
 use lib.Dec.{eqb, ltb}
 use Rattle.rules.specs.Fact.{Fact}
@@ -10,9 +10,9 @@ use Rattle.rules.specs.Follows.{storing}
 unfoldable pub storedBit : List Fact → ℕ → Bool → Bool → ℕ → ℕ → Bool
 storedBit fs k straight swapped x y = storing fs k (λ a b. (straight && (eqb a x && eqb b y)) || (swapped && (eqb a y && eqb b x)))
 
--- x and y are one piece below n, or a stored MEETS has them
-unfoldable pub meetBit : ℕ → List Fact → ℕ → ℕ → Bool
-meetBit n fs x y = (eqb x y && ltb x n) || storedBit fs 3 true true x y
+-- x and y are one piece below n that is not marked, or a stored MEETS has them
+unfoldable pub meetBit : (ℕ → Bool) → ℕ → List Fact → ℕ → ℕ → Bool
+meetBit void n fs x y = (eqb x y && (ltb x n && not (void x))) || storedBit fs 3 true true x y
 
 -- the steps of containment, row by container: y PART x is stored, or x is piece 0, of which every other piece is part
 unfoldable pub edgeBit : ℕ → List Fact → ℕ → ℕ → Bool

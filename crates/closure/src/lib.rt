@@ -1,19 +1,22 @@
 // Every answer from one closure: containment and the stored facts as bit matrices, their products, and what those say of claims.
 ghost use mathlib.Core.Path.{_≡_};
-ghost use mathlib.Core.Bool.{Bool, true, _&&_, _||_};
+ghost use mathlib.Core.Bool.{Bool, true, not, _&&_, _||_};
 ghost use Prim.Native.Nat.{ℕ, _+_, _/_, _<_, _≤_};
 ghost use lib.Dec.{eqb, ltb};
 ghost use lib.ListN.{length};
-ghost use Rattle.rules.specs.Fact.{AllWithin};
+ghost use Rattle.rules.specs.Fact.{factOf, AllWithin};
 ghost use Rattle.rules.specs.Follows.{clash};
 ghost use Rattle.rules.specs.Entries.{shortestClash};
 ghost use Rattle.records.specs.Facts.{entries, facts};
 ghost use Rattle.index.specs.Pairs.{joined};
 ghost use Rattle.index.specs.Index.{Indexed};
+ghost use Rattle.closure.specs.Void.{voidOf, Voids};
+ghost use Rattle.closure.specs.ByMarks.{byMarks};
 ghost use Rattle.closure.specs.PartIn.{partIn};
 ghost use Rattle.closure.specs.Stored.{storedBit, meetBit, edgeBit};
 ghost use Rattle.closure.specs.Closed.{Grown, Holds, partBit, wholeBit, towardBit, awayBit, outBit};
 ghost use Rattle.closure.specs.Bounded.{Bounded};
+ghost use Rattle.relation.specs.Matrix.{bitOf};
 ghost use Rattle.relation.specs.Flow.{Reached, Carried, along, against};
 ghost use Rattle.closure.specs.Order.{Rising, Falling};
 ghost use Rattle.closure.specs.Ordered.{Ordered, Roomy};
@@ -23,6 +26,8 @@ ghost use Rattle.closure.specs.Settled.{Settleable, Settles};
 ghost use Rattle.closure.specs.Tells.{Derived, Answered, Clashing};
 ghost use Rattle.closure.specs.Answers.{answerByte};
 use records::Record;
+
+pub mod marking;
 
 // What a book says of a claim.
 pub enum Answer {
@@ -81,6 +86,18 @@ pub fn diagonal(n: usize, m: &mut [u64])
     }
 }
 
+// The same, but for the pieces that are marked.
+fn diagonal_unmarked(n: usize, voids: &[u64], m: &mut [u64])
+    requires { ⌜ (length (now voids) ≡ 32) × (length (now m) ≡ 65536) × (n ≤ 2048) ⌝ }
+    ensures { λ _. ⌜ Grown (now (m .entry)) (now (m .exit)) (λ x y. eqb x y && (ltb x n && not (voidOf (now (voids .entry)) x))) ⌝ }
+{
+    let mut i: usize = 0;
+    while i < n {
+        insert_where(!relation::has(voids, i), m, i, i);
+        i += 1;
+    }
+}
+
 // Every piece but 0 as a part of piece 0.
 fn crown(n: usize, e: &mut [u64])
     requires { ⌜ (length (now e) ≡ 65536) × (n ≤ 2048) × (0 < n) ⌝ }
@@ -102,13 +119,13 @@ pub fn edges(run: &[u8], n: usize, e: &mut [u64])
     crown(n, e);
 }
 
-// M: the stored MEETS, and each piece with itself.
-fn meets(run: &[u8], n: usize, m: &mut [u64])
-    requires { ⌜ Bounded n (facts (now run)) × (length (now m) ≡ 65536) ⌝ }
-    ensures { λ _. ⌜ Holds (now (m .exit)) (meetBit n (facts (now (run .entry)))) ⌝ }
+// M: the stored MEETS, and each piece that is not marked with itself.
+fn meets(run: &[u8], n: usize, voids: &[u64], m: &mut [u64])
+    requires { ⌜ Bounded n (facts (now run)) × Voids (now voids) × (length (now m) ≡ 65536) ⌝ }
+    ensures { λ _. ⌜ Holds (now (m .exit)) (meetBit (voidOf (now (voids .entry))) n (facts (now (run .entry)))) ⌝ }
 {
     store(run, 3, true, true, m);
-    diagonal(n, m);
+    diagonal_unmarked(n, voids, m);
 }
 
 // The pieces from the last to the first: parts before their containers.
@@ -144,11 +161,11 @@ fn join_wholes(n: usize, e: &[u64], m: &mut [u64])
 }
 
 // T = D·M.
-pub fn meeting(run: &[u8], n: usize, e: &[u64], t: &mut [u64])
-    requires { ⌜ Bounded n (facts (now run)) × Ordered (facts (now run)) × Holds (now e) (edgeBit n (facts (now run))) × (length (now t) ≡ 65536) ⌝ }
-    ensures { λ _. ⌜ Holds (now (t .exit)) (towardBit n (facts (now (run .entry)))) ⌝ }
+pub fn meeting(run: &[u8], n: usize, voids: &[u64], e: &[u64], t: &mut [u64])
+    requires { ⌜ Bounded n (facts (now run)) × Voids (now voids) × Ordered (facts (now run)) × Holds (now e) (edgeBit n (facts (now run))) × (length (now t) ≡ 65536) ⌝ }
+    ensures { λ _. ⌜ Holds (now (t .exit)) (towardBit (voidOf (now (voids .entry))) n (facts (now (run .entry)))) ⌝ }
 {
-    meets(run, n, t);
+    meets(run, n, voids, t);
     join_parts(n, e, t);
 }
 
@@ -162,52 +179,99 @@ fn parting(run: &[u8], n: usize, e: &[u64], p: &mut [u64])
 }
 
 // Q = D·N ∪ T·P, as D·(N ∪ M·P): M has few bits. m is scratch.
-fn outing(run: &[u8], n: usize, e: &[u64], p: &[u64], m: &mut [u64], q: &mut [u64])
-    requires { ⌜ Bounded n (facts (now run)) × Ordered (facts (now run)) × Holds (now e) (edgeBit n (facts (now run))) × Holds (now p) (awayBit n (facts (now run))) × (length (now m) ≡ 65536) × (length (now q) ≡ 65536) ⌝ }
-    ensures { λ _. ⌜ Holds (now (q .exit)) (outBit n (facts (now (run .entry)))) ⌝ }
+fn outing(run: &[u8], n: usize, voids: &[u64], e: &[u64], p: &[u64], m: &mut [u64], q: &mut [u64])
+    requires { ⌜ Bounded n (facts (now run)) × Voids (now voids) × Ordered (facts (now run)) × Holds (now e) (edgeBit n (facts (now run))) × Holds (now p) (awayBit n (facts (now run))) × (length (now m) ≡ 65536) × (length (now q) ≡ 65536) ⌝ }
+    ensures { λ _. ⌜ Holds (now (q .exit)) (outBit (voidOf (now (voids .entry))) n (facts (now (run .entry)))) ⌝ }
 {
-    meets(run, n, m);
+    meets(run, n, voids, m);
     store(run, 4, true, false, q);
     relation::product(q, m, p, n);
     join_parts(n, e, q);
 }
 
 // U, P and Q.
-pub fn complete(run: &[u8], n: usize, e: &[u64], u: &mut [u64], p: &mut [u64], q: &mut [u64])
-    requires { ⌜ Bounded n (facts (now run)) × Ordered (facts (now run)) × Holds (now e) (edgeBit n (facts (now run))) × (length (now u) ≡ 65536) × (length (now p) ≡ 65536) × (length (now q) ≡ 65536) ⌝ }
-    ensures { λ _. ⌜ Holds (now (u .exit)) (wholeBit n (facts (now (run .entry)))) × Holds (now (p .exit)) (awayBit n (facts (now (run .entry)))) × Holds (now (q .exit)) (outBit n (facts (now (run .entry)))) ⌝ }
+pub fn complete(
+    run: &[u8],
+    n: usize,
+    voids: &[u64],
+    e: &[u64],
+    u: &mut [u64],
+    p: &mut [u64],
+    q: &mut [u64],
+)
+    requires { ⌜ Bounded n (facts (now run)) × Voids (now voids) × Ordered (facts (now run)) × Holds (now e) (edgeBit n (facts (now run))) × (length (now u) ≡ 65536) × (length (now p) ≡ 65536) × (length (now q) ≡ 65536) ⌝ }
+    ensures { λ _. ⌜ Holds (now (u .exit)) (wholeBit n (facts (now (run .entry)))) × Holds (now (p .exit)) (awayBit n (facts (now (run .entry)))) × Holds (now (q .exit)) (outBit (voidOf (now (voids .entry))) n (facts (now (run .entry)))) ⌝ }
 {
     parting(run, n, e, p);
-    outing(run, n, e, p, u, q);
+    outing(run, n, voids, e, p, u, q);
     relation::clear(u);
     diagonal(n, u);
     join_wholes(n, e, u);
 }
 
-// Whether the closure contradicts a record.
-fn opposes(r: Record, d: &[u64], t: &[u64]) -> bool
-    requires { ⌜ (length (now d) ≡ 65536) × (length (now t) ≡ 65536) × (1 ≤ r .kind → r .kind ≤ 4 → (r .a < 2048) × (r .b < 2048)) ⌝ }
-    ensures { λ b. ⌜ b ≡ opposed (now (d .entry)) (now (t .entry)) r ⌝ }
+// Whether one of two pieces is marked.
+fn either_marked(voids: &[u64], a: usize, b: usize) -> bool
+    requires { ⌜ (length (now voids) ≡ 32) × (a < 2048) × (b < 2048) ⌝ }
+    ensures { λ r. ⌜ r ≡ (voidOf (now (voids .entry)) a || voidOf (now (voids .entry)) b) ⌝ }
 {
+    if relation::has(voids, a) {
+        return true;
+    }
+    relation::has(voids, b)
+}
+
+// Whether of two pieces the second alone is marked.
+fn second_marked(voids: &[u64], a: usize, b: usize) -> bool
+    requires { ⌜ (length (now voids) ≡ 32) × (a < 2048) × (b < 2048) ⌝ }
+    ensures { λ r. ⌜ r ≡ (not (voidOf (now (voids .entry)) a) && voidOf (now (voids .entry)) b) ⌝ }
+{
+    if relation::has(voids, a) {
+        return false;
+    }
+    relation::has(voids, b)
+}
+
+// Whether a is marked, or part of b by the stored facts.
+fn part_or_marked(voids: &[u64], d: &[u64], a: usize, b: usize) -> bool
+    requires { ⌜ (length (now voids) ≡ 32) × (length (now d) ≡ 65536) × (a < 2048) × (b < 2048) ⌝ }
+    ensures { λ r. ⌜ r ≡ (voidOf (now (voids .entry)) a || bitOf (now (d .entry)) b a) ⌝ }
+{
+    if relation::has(voids, a) {
+        return true;
+    }
+    relation::test(d, b, a)
+}
+
+// Whether the marks and the closure contradict a record.
+fn opposes(r: Record, voids: &[u64], d: &[u64], t: &[u64]) -> bool
+    requires { ⌜ (length (now voids) ≡ 32) × (length (now d) ≡ 65536) × (length (now t) ≡ 65536) × (1 ≤ r .kind → r .kind ≤ 4 → (r .a < 2048) × (r .b < 2048)) ⌝ }
+    ensures { λ b. ⌜ b ≡ opposed (voidOf (now (voids .entry))) (now (d .entry)) (now (t .entry)) r ⌝ }
+{
+    if r.kind == 1 {
+        return second_marked(voids, r.a, r.b);
+    }
     if r.kind == 2 {
         return relation::meet(t, r.a, d, r.b);
     }
+    if r.kind == 3 {
+        return either_marked(voids, r.a, r.b);
+    }
     if r.kind == 4 {
-        return relation::test(d, r.b, r.a);
+        return part_or_marked(voids, d, r.a, r.b);
     }
     false
 }
 
 // Whether the run is contradictory, where d and t are those of its facts: only stored facts are looked at.
-fn clashes(run: &[u8], d: &[u64], t: &[u64]) -> bool
-    requires { ⌜ (length (now d) ≡ 65536) × (length (now t) ≡ 65536) × AllWithin 2048 (facts (now run)) ⌝ }
-    ensures { λ b. ⌜ Clashing (facts (now (run .entry))) (now (d .entry)) (now (t .entry)) b ⌝ }
+fn clashes(run: &[u8], voids: &[u64], d: &[u64], t: &[u64]) -> bool
+    requires { ⌜ (length (now voids) ≡ 32) × (length (now d) ≡ 65536) × (length (now t) ≡ 65536) × AllWithin 2048 (facts (now run)) ⌝ }
+    ensures { λ b. ⌜ Clashing (voidOf (now (voids .entry))) (facts (now (run .entry))) (now (d .entry)) (now (t .entry)) b ⌝ }
 {
     let n = run.len() / 6;
     let mut i: usize = 0;
     while i < n {
         let r = records::record_at(run, i);
-        if opposes(r, d, t) {
+        if opposes(r, voids, d, t) {
             return true;
         }
         i += 1;
@@ -215,20 +279,41 @@ fn clashes(run: &[u8], d: &[u64], t: &[u64]) -> bool
     false
 }
 
-// Whether the fact of a kind about a and b has a derivation from the facts whose closure is lent.
+// Whether the marks alone tell the fact of a kind about a and b.
+fn marks_tell(kind: u8, a: usize, b: usize, voids: &[u64]) -> bool
+    requires { ⌜ (length (now voids) ≡ 32) × (a < 2048) × (b < 2048) ⌝ }
+    ensures { λ r. ⌜ r ≡ byMarks (voidOf (now (voids .entry))) (factOf kind a b) ⌝ }
+{
+    if kind == 1 {
+        return relation::has(voids, a);
+    }
+    if kind == 2 {
+        return either_marked(voids, a, b);
+    }
+    if kind == 3 {
+        return false;
+    }
+    second_marked(voids, a, b)
+}
+
+// Whether the fact of a kind about a and b has a derivation from the marks and the facts whose closure is lent.
 pub fn derived(
     kind: u8,
     a: usize,
     b: usize,
+    voids: &[u64],
     d: &[u64],
     u: &[u64],
     p: &[u64],
     t: &[u64],
     q: &[u64],
 ) -> bool
-    requires { ⌜ (a < 2048) × (b < 2048) × (length (now d) ≡ 65536) × (length (now u) ≡ 65536) × (length (now p) ≡ 65536) × (length (now t) ≡ 65536) × (length (now q) ≡ 65536) ⌝ }
-    ensures { λ r. ⌜ Derived (now (d .entry)) (now (u .entry)) (now (p .entry)) (now (t .entry)) (now (q .entry)) kind a b r ⌝ }
+    requires { ⌜ (a < 2048) × (b < 2048) × (length (now voids) ≡ 32) × (length (now d) ≡ 65536) × (length (now u) ≡ 65536) × (length (now p) ≡ 65536) × (length (now t) ≡ 65536) × (length (now q) ≡ 65536) ⌝ }
+    ensures { λ r. ⌜ Derived (voidOf (now (voids .entry))) (now (d .entry)) (now (u .entry)) (now (p .entry)) (now (t .entry)) (now (q .entry)) kind a b r ⌝ }
 {
+    if marks_tell(kind, a, b, voids) {
+        return true;
+    }
     if kind == 1 {
         return relation::test(d, b, a);
     }
@@ -246,19 +331,20 @@ pub fn answer_to(
     kind: u8,
     a: usize,
     b: usize,
+    voids: &[u64],
     d: &[u64],
     u: &[u64],
     p: &[u64],
     t: &[u64],
     q: &[u64],
 ) -> Answer
-    requires { ⌜ (1 ≤ kind) × (kind ≤ 4) × (a < 2048) × (b < 2048) × (length (now d) ≡ 65536) × (length (now u) ≡ 65536) × (length (now p) ≡ 65536) × (length (now t) ≡ 65536) × (length (now q) ≡ 65536) ⌝ }
-    ensures { λ r. ⌜ Answered (now (d .entry)) (now (u .entry)) (now (p .entry)) (now (t .entry)) (now (q .entry)) kind a b (answerByte r) ⌝ }
+    requires { ⌜ (1 ≤ kind) × (kind ≤ 4) × (a < 2048) × (b < 2048) × (length (now voids) ≡ 32) × (length (now d) ≡ 65536) × (length (now u) ≡ 65536) × (length (now p) ≡ 65536) × (length (now t) ≡ 65536) × (length (now q) ≡ 65536) ⌝ }
+    ensures { λ r. ⌜ Answered (voidOf (now (voids .entry))) (now (d .entry)) (now (u .entry)) (now (p .entry)) (now (t .entry)) (now (q .entry)) kind a b (answerByte r) ⌝ }
 {
-    if derived(kind, a, b, d, u, p, t, q) {
+    if derived(kind, a, b, voids, d, u, p, t, q) {
         return Answer::Follows;
     }
-    if derived(5 - kind, a, b, d, u, p, t, q) {
+    if derived(5 - kind, a, b, voids, d, u, p, t, q) {
         return Answer::Denied;
     }
     Answer::Open
@@ -312,6 +398,7 @@ struct Begun {
 fn begin(
     run: &[u8],
     n: usize,
+    voids: &[u64],
     e: &mut [u64],
     d: &mut [u64],
     t: &mut [u64],
@@ -320,13 +407,13 @@ fn begin(
     shadows: &mut [u16],
     places: &mut [u16],
 ) -> Begun
-    requires { ⌜ Bounded n (facts (now run)) × Ordered (facts (now run)) × Roomy n (length (now run) / 6) (length (now parens)) (length (now marks)) (length (now shadows)) (length (now places)) × (length (now e) ≡ 65536) × (length (now d) ≡ 65536) × (length (now t) ≡ 65536) ⌝ }
-    ensures { λ r. ⌜ Opened n (facts (now (run .entry))) (now (parens .exit)) (now (marks .exit)) (now (shadows .exit)) (now (places .exit)) (r .nodes) (r .shadows) (now (e .exit)) (now (d .exit)) (now (t .exit)) (r .clash) ⌝ }
+    requires { ⌜ Bounded n (facts (now run)) × Ordered (facts (now run)) × Roomy n (length (now run) / 6) (length (now parens)) (length (now marks)) (length (now shadows)) (length (now places)) × (length (now e) ≡ 65536) × (length (now d) ≡ 65536) × (length (now t) ≡ 65536) × Voids (now voids) ⌝ }
+    ensures { λ r. ⌜ Opened (voidOf (now (voids .entry))) n (facts (now (run .entry))) (now (parens .exit)) (now (marks .exit)) (now (shadows .exit)) (now (places .exit)) (r .nodes) (r .shadows) (now (e .exit)) (now (d .exit)) (now (t .exit)) (r .clash) ⌝ }
 {
     let counts = contained(run, n, e, parens, marks, shadows, places, d);
     edges(run, n, e);
-    meeting(run, n, e, t);
-    let clash = clashes(run, d, t);
+    meeting(run, n, voids, e, t);
+    let clash = clashes(run, voids, d, t);
     Begun {
         nodes: counts.nodes,
         shadows: counts.shadows,
@@ -339,6 +426,7 @@ fn begin(
 fn contradiction(
     book: &[u8],
     n: usize,
+    voids: &[u64],
     e: &mut [u64],
     d: &mut [u64],
     t: &mut [u64],
@@ -347,15 +435,26 @@ fn contradiction(
     shadows: &mut [u16],
     places: &mut [u16],
 ) -> usize
-    requires { ⌜ Bounded n (facts (now book)) × Ordered (facts (now book)) × Roomy n (length (now book) / 6) (length (now parens)) (length (now marks)) (length (now shadows)) (length (now places)) × (length (now e) ≡ 65536) × (length (now d) ≡ 65536) × (length (now t) ≡ 65536) × (clash n (facts (now book)) ≡ true) ⌝ }
-    ensures { λ r. ⌜ r + 1 ≡ shortestClash n (entries (now (book .entry))) ⌝ }
+    requires { ⌜ Bounded n (facts (now book)) × Ordered (facts (now book)) × Roomy n (length (now book) / 6) (length (now parens)) (length (now marks)) (length (now shadows)) (length (now places)) × (length (now e) ≡ 65536) × (length (now d) ≡ 65536) × (length (now t) ≡ 65536) × (clash (voidOf (now voids)) n (facts (now book)) ≡ true) × Voids (now voids) ⌝ }
+    ensures { λ r. ⌜ r + 1 ≡ shortestClash (voidOf (now (voids .entry))) n (entries (now (book .entry))) ⌝ }
 {
     let mut low: usize = 0;
     let mut high = book.len() / 6;
     while low + 1 < high {
         let mid = (low + high) / 2;
         let end = 6 * mid;
-        let begun = begin(&book[..end], n, e, d, t, parens, marks, shadows, places);
+        let begun = begin(
+            &book[..end],
+            n,
+            voids,
+            e,
+            d,
+            t,
+            parens,
+            marks,
+            shadows,
+            places,
+        );
         if begun.clash {
             high = mid;
             continue;
@@ -371,10 +470,11 @@ pub enum Settled {
     Clash(usize),
 }
 
-// Settles row 14 of a run, with its index, steps, D and T where it is free.
+// Settles row 14 of a run with the marks of its book, with its index, steps, D and T where it is free.
 pub fn settle(
     run: &[u8],
     n: usize,
+    voids: &[u64],
     e: &mut [u64],
     d: &mut [u64],
     t: &mut [u64],
@@ -383,12 +483,12 @@ pub fn settle(
     shadows: &mut [u16],
     places: &mut [u16],
 ) -> Settled
-    requires { ⌜ Settleable n (now run) (length (now parens)) (length (now marks)) (length (now shadows)) (length (now places)) × (length (now e) ≡ 65536) × (length (now d) ≡ 65536) × (length (now t) ≡ 65536) ⌝ }
-    ensures { λ r. ⌜ Settles n (now (run .entry)) (now (parens .exit)) (now (marks .exit)) (now (shadows .exit)) (now (places .exit)) (now (e .exit)) (now (d .exit)) (now (t .exit)) r ⌝ }
+    requires { ⌜ Settleable n (now run) (length (now parens)) (length (now marks)) (length (now shadows)) (length (now places)) × (length (now e) ≡ 65536) × (length (now d) ≡ 65536) × (length (now t) ≡ 65536) × Voids (now voids) ⌝ }
+    ensures { λ r. ⌜ Settles (voidOf (now (voids .entry))) n (now (run .entry)) (now (parens .exit)) (now (marks .exit)) (now (shadows .exit)) (now (places .exit)) (now (e .exit)) (now (d .exit)) (now (t .exit)) r ⌝ }
 {
-    let begun = begin(run, n, e, d, t, parens, marks, shadows, places);
+    let begun = begin(run, n, voids, e, d, t, parens, marks, shadows, places);
     if begun.clash {
-        let place = contradiction(run, n, e, d, t, parens, marks, shadows, places);
+        let place = contradiction(run, n, voids, e, d, t, parens, marks, shadows, places);
         return Settled::Clash(place);
     }
     Settled::Free(begun.nodes, begun.shadows)

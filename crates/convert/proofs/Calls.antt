@@ -1,6 +1,6 @@
 -- A converted book in the calls in force: accepted with any claims and buffers that fit, and the answers are those of the former book. Assumes nothing.
 use Prim.Native.Nat.{ℕ, _<_}
-use mathlib.Core.Path.{_≡_, sym, ap, _∙_}
+use mathlib.Core.Path.{_≡_, sym, ap, _∙_, fun-ext}
 use mathlib.Core.Bool.{false}
 use mathlib.Core.List.{List}
 use native.Mathlib.Omega.{arith}
@@ -10,6 +10,7 @@ use lib.Seq.{ext-getD}
 use Rattle.lists.specs.Tab.{tab}
 use Rattle.lists.proofs.Bools.{not-true}
 use Rattle.lists.proofs.Tabs.{tab-at, tab-length}
+use Rattle.rules.specs.Fact.{unmarked}
 use Rattle.rules.specs.Follows.{clash}
 use Rattle.rules.specs.Entries.{shortestClash}
 use Rattle.rules.specs.Verdict.{verdict}
@@ -17,35 +18,42 @@ use Rattle.rules.proofs.Models.{clash-iff}
 use Rattle.records.specs.Record.{recordAt, records}
 use Rattle.records.specs.Pieces.{pieceCount}
 use Rattle.records.specs.Facts.{entries, facts}
-use Rattle.records.specs.Check.{claimsCheck}
+use Rattle.records.specs.Marked.{marked}
+use Rattle.records.specs.Check.{formerCheck, claimsCheck}
+use Rattle.records.specs.declared.BookCheck.the-variants as book
 use Rattle.records.specs.declared.ClaimsCheck.the-variants as claims
 use Rattle.records.proofs.Accepted.{accepted-claims}
-use Rattle.closure.proofs.Settling.{settleable, free-beyond}
+use Rattle.closure.proofs.Settling.{settleable, whole-unmarked, free-beyond}
 use Rattle.answers.specs.Lent.{Lent, shortLent}
 use Rattle.answers.specs.Call.{pickedFacts, claimed, answersTo, byRuns, outcome, Passed}
 use Rattle.answers.specs.Outcome.{number}
 use Rattle.answers.proofs.Outcomes.{passed-outcome}
 use Rattle.convert.specs.Same.{InForce, SameAnswers}
+use Rattle.convert.proofs.Markless.{former-markless}
 
 module _ (s t cs : List ℕ) (l : Lent) (F : InForce s t) (lent : shortLent cs l ≡ false) (fit : claimsCheck (pieceCount s) cs ≡ claims.Accepted) where
-  free : false ≡ clash (pieceCount s) (facts t)
+  free : false ≡ clash (marked t) (pieceCount s) (facts t)
   free =
       let S = settleable t (pieceCount s) (F .sound) in
-      sym (not-true _ (λ e. F .consistent (rw (F .counted) (clash-iff (pieceCount s) (facts t) (S .bounded .within) (S .bounded .some) .0 e))))
+      sym (not-true _ (λ e. F .consistent (rw (F .counted) (clash-iff (marked t) (pieceCount s) (facts t) (S .bounded .within) (S .bounded .some) (whole-unmarked t (pieceCount s) (F .sound)) .0 e))))
 
   pub converted-accepted : number (outcome t cs l) ≡ 0
   unfolding byRuns
   converted-accepted =
       ap number (passed-outcome t cs l (pieceCount s) (record { lent = lent; sound = F .sound; fit = fit }))
-      ∙ rw (lt-leb (shortestClash (pieceCount s) (entries t)) (records t) (free-beyond (settleable t (pieceCount s) (F .sound)) free), byRuns)
+      ∙ rw (lt-leb (shortestClash (marked t) (pieceCount s) (entries t)) (records t) (free-beyond (settleable t (pieceCount s) (F .sound)) (marked t) (whole-unmarked t (pieceCount s) (F .sound)) free), byRuns)
 
-  module _ (same : SameAnswers s t) where
+  module _ (former : formerCheck s ≡ book.Accepted (pieceCount s)) (same : SameAnswers s t) where
     at : ℕ → List ℕ → ℕ
-    at i u = verdict (pieceCount s) (pickedFacts u cs i) (claimed cs i)
+    at i u = verdict (marked u) (pieceCount s) (pickedFacts u cs i) (claimed cs i)
+
+    -- the former book marks nothing
+    silent : unmarked ≡ marked s
+    silent = sym (fun-ext (former-markless s (pieceCount s) former))
 
     at-same : (i : ℕ) → i < records cs → at i t ≡ at i s
     unfolding at claimed
-    at-same i h = rw (F .counted) at (same (recordAt cs i) (accepted-claims (pieceCount s) cs fit .within i h))
+    at-same i h = rw (F .counted, silent) at (same (recordAt cs i) (accepted-claims (pieceCount s) cs fit .within i h))
 
     pub converted-answers : answersTo t (pieceCount s) cs ≡ answersTo s (pieceCount s) cs
     unfolding answersTo at

@@ -1,13 +1,13 @@
 -- A converted book passes the rows in force, is consistent, and gives every claim the answer that it had. Assumes nothing.
 use Prim.Native.Nat.{ℕ, _-_, _≤_, _<_}
-use mathlib.Core.Path.{_≡_, refl, sym, ap, subst, _∙_}
+use mathlib.Core.Path.{_≡_, refl, sym, ap, subst, _∙_, fun-ext}
 use mathlib.Core.Logic.{_⊎_, inl, inr}
 use mathlib.Core.Bool.{true, false, false≢true}
 use mathlib.Core.List.{List, List·Memᴰ, Memᴰ·cast}
 use native.Mathlib.Omega.{arith}
 use lib.ListN.{getD}
 use Rattle.lists.proofs.Bools.{not-true}
-use Rattle.rules.specs.Fact.{Fact, PART, factOf, Within, AllWithin}
+use Rattle.rules.specs.Fact.{Fact, PART, factOf, Within, AllWithin, unmarked}
 use Rattle.rules.specs.Derives.{Contradictory}
 use Rattle.rules.specs.Follows.{clash}
 use Rattle.rules.specs.Verdict.{verdict}
@@ -20,6 +20,7 @@ use Rattle.records.specs.Record.{recordAt, records}
 use Rattle.records.specs.Pieces.{stated, pieceCount}
 use Rattle.records.specs.Facts.{saying, facts}
 use Rattle.records.specs.Kept.{onSheet, picked}
+use Rattle.records.specs.Marked.{marked}
 use Rattle.records.specs.Check.{bookCheck, formerCheck}
 use Rattle.records.proofs.Rows.{Formed, admits-stated}
 use Rattle.records.proofs.Runs.{pieces-positive}
@@ -28,6 +29,7 @@ use Rattle.records.proofs.Accepted.{AcceptedBook, accepted-by, acceptable, acce
 use Rattle.convert.specs.Converted.{noTray, noTrays, converted}
 use Rattle.convert.specs.Same.{InForce, SameAnswers}
 use Rattle.convert.proofs.Made.{speaks, Last, last-stated, last-largest, From, Made, made}
+use Rattle.convert.proofs.Markless.{converted-markless}
 use Rattle.convert.proofs.Answers.{Extended, still-consistent, same-answer}
 
 module _ (s : List ℕ) (n : ℕ) (former : formerCheck s ≡ book.Accepted n) (bytes : (k : ℕ) → getD s k 0 < 256) where
@@ -49,12 +51,13 @@ module _ (s : List ℕ) (n : ℕ) (former : formerCheck s ≡ book.Accepted n) (
         kind = admits-stated Current r (last-stated r L);
         known = omega arith;
         named = omega (arith, last-largest m r L);
+        marking = λ e. absurd (omega arith);
         order = λ e. omega arith;
       }
 
   kept-formed : (r : Record) → Formed Former r → noTray r ≡ true → Formed Current r
   kept-formed r F t =
-      record { kind = admits-stated Current r (speaks r (F .kind) t); known = F .known; named = F .named; order = F .order }
+      record { kind = admits-stated Current r (speaks r (F .kind) t); known = F .known; named = F .named; marking = F .marking; order = F .order }
 
   formed-in-force : (j : ℕ) → j < records (converted s) → Formed Current (recordAt (converted s) j)
   formed-in-force j l = pick (M .from j l)
@@ -74,6 +77,10 @@ module _ (s : List ℕ) (n : ℕ) (former : formerCheck s ≡ book.Accepted n) (
         each = formed-in-force;
         new = λ i j l k. not-true _ (λ e. M .once i j l k (same-record (converted s) i j e));
       }
+
+  -- it marks nothing
+  converted-unmarked : marked (converted s) ≡ unmarked
+  converted-unmarked = fun-ext (converted-markless s n former bytes)
 
   -- ---- the facts of either book that a claim picks
 
@@ -100,27 +107,27 @@ module _ (s : List ℕ) (n : ℕ) (former : formerCheck s ≡ book.Accepted n) (
         pick j t d e (inr (h, L)) = inr (pieceCount s - 1, sym e ∙ last-says _ _ L)
 
     -- where the former book is consistent
-    module _ (ok : Contradictory n (facts s) → ⊥) where
+    module _ (ok : Contradictory unmarked n (facts s) → ⊥) where
       within-former : AllWithin n (facts (picked s claim))
       within-former f m = accepted-within A f (picked-among s claim f m)
 
       within-new : AllWithin n (facts (picked (converted s) claim))
       within-new f m = subst (λ (k : ℕ). Within k f) (M .count ∙ sym (A .count)) (facts-within (converted s) f (picked-among (converted s) claim f m))
 
-      picked-consistent : Contradictory n (facts (picked s claim)) → ⊥
+      picked-consistent : Contradictory unmarked n (facts (picked s claim)) → ⊥
       picked-consistent c = ok (weaken-contradictory (omega arith) (picked-among s claim) c)
 
-      new-consistent : Contradictory n (facts (picked (converted s) claim)) → ⊥
+      new-consistent : Contradictory unmarked n (facts (picked (converted s) claim)) → ⊥
       new-consistent =
           still-consistent n (facts (picked s claim)) (facts (picked (converted s) claim)) within-former within-new (accepted-positive A) picked-to picked-back picked-consistent
 
-      new-answer : (f : Fact) → Within n f → verdict n (facts (picked (converted s) claim)) f ≡ verdict n (facts (picked s claim)) f
+      new-answer : (f : Fact) → Within n f → verdict unmarked n (facts (picked (converted s) claim)) f ≡ verdict unmarked n (facts (picked s claim)) f
       new-answer =
           same-answer n (facts (picked s claim)) (facts (picked (converted s) claim)) within-former within-new (accepted-positive A) picked-to picked-back picked-consistent
 
-  module _ (free : false ≡ clash n (facts s)) where
-    consistent : Contradictory n (facts s) → ⊥
-    consistent c = false≢true (free ∙ clash-iff n (facts s) (accepted-within A) (accepted-positive A) .1 c)
+  module _ (free : false ≡ clash unmarked n (facts s)) where
+    consistent : Contradictory unmarked n (facts s) → ⊥
+    consistent c = false≢true (free ∙ clash-iff unmarked n (facts s) (accepted-within A) (accepted-positive A) refl .1 c)
 
     -- a claim that picks all facts
     abbrev any-claim : Record
@@ -132,8 +139,8 @@ module _ (s : List ℕ) (n : ℕ) (former : formerCheck s ≡ book.Accepted n) (
         record {
           sound = acceptable Current (converted s) (pieceCount s) accepted-in-force;
           counted = M .count;
-          consistent = λ c. new-consistent any-claim consistent (rw (M .count, ← (A .count)) at c);
+          consistent = λ c. new-consistent any-claim consistent (rw (M .count, ← (A .count), converted-unmarked) at c);
         }
 
     pub same-answers : SameAnswers s (converted s)
-    same-answers claim w = rw (M .count, ← (A .count)) (new-answer claim consistent (saying claim) (rw (← (A .count)) at w))
+    same-answers claim w = rw (M .count, ← (A .count), converted-unmarked) (new-answer claim consistent (saying claim) (rw (← (A .count)) at w))

@@ -1,14 +1,15 @@
 -- What the converter writes, what row 14 says, and the outcome. Assumes nothing.
 use Prim.Native.Nat.{ℕ, _+_, _-_, _≤_, _<_, _%_, _/_}
-use mathlib.Core.Path.{_≡_, refl, sym, ap, _∙_}
+use mathlib.Core.Path.{_≡_, refl, sym, ap, _∙_, fun-ext}
 use mathlib.Core.Bool.{true, false}
 use mathlib.Core.List.{List, [], _∷_, _++_, append-nil}
 use native.Mathlib.Omega.{arith}
 use borrow.Author.Tests.{lt-ltb, le-ltb, lt-leb, le-leb}
 use lib.Dec.{ltb, leb}
-use lib.ListN.{length, getD, take, length-append}
+use lib.ListN.{length, getD, take, replicate, length-append}
 use Rattle.lists.specs.Front.{front, placed}
 use Rattle.lists.proofs.Fronts.{front-taken, placed-front}
+use Rattle.rules.specs.Fact.{unmarked}
 use Rattle.rules.specs.Follows.{clash}
 use Rattle.rules.specs.Entries.{shortestClash}
 use Rattle.records.specs.declared.Edition.the-variants.{Former}
@@ -23,7 +24,9 @@ use Rattle.records.specs.Check.{formerCheck}
 use Rattle.records.proofs.Rows.{refused-positive}
 use Rattle.records.proofs.Keeps.{Written, written-all, kept-fewer, kept-whole, kept-shorter}
 use Rattle.records.proofs.Accepted.{accepted-by, accepted-within, accepted-order, accepted-positive, accepted-pieces}
+use Rattle.closure.specs.Void.{voidOf}
 use Rattle.closure.specs.Settled.{Settleable, Clashed}
+use Rattle.closure.proofs.VoidRows.{cleared-voids}
 use Rattle.closure.proofs.Settling.{free-beyond, clashed-within}
 use Rattle.convert.specs.Converted.{noTray, noTrays, inWhole, converted}
 use Rattle.convert.specs.Writing.{FormerBook}
@@ -37,6 +40,10 @@ pub written-trays :
     (s l out : List ℕ) (i at : ℕ) → i ≤ records s → records s ≤ i → Written noTray s l i out at → (at ≡ length (noTrays s)) × (out ≡ front (noTrays s) l)
 unfolding noTrays
 written-trays s l out i at h k w = written-all noTray s l out i at h k w
+
+-- a row of zeroes marks nothing
+pub no-marks : voidOf (replicate 32 0) ≡ unmarked
+no-marks = fun-ext (cleared-voids 32)
 
 -- every book of the former edition can be settled, in parts of document 01's lengths
 pub settleable-former : (s : List ℕ) (n : ℕ) → FormerBook s n → Settleable n s 2560 1280 8192 2048
@@ -115,19 +122,19 @@ module _ (s out : List ℕ) where
       unfolding conversion byBook
       judged = rw (le-ltb (length out) (length s) h, conversion, former, byBook)
 
-      pub by-clash : (place : ℕ) → Clashed n s place → Promised s out (to.Refused Contradiction place) out
+      pub by-clash : (place : ℕ) → Clashed unmarked n s place → Promised s out (to.Refused Contradiction place) out
       unfolding byRuns
       by-clash place C =
           let q = C .last in
-          let k : place ≡ shortestClash n (entries s) - 1 = omega arith in
+          let k : place ≡ shortestClash unmarked n (entries s) - 1 = omega arith in
           refused Contradiction place
-          (rw (le-leb (shortestClash n (entries s)) (records s) (clashed-within (settleable-former s n former) C), byRuns) (ap (to.Refused Contradiction) k) ∙ judged)
+          (rw (le-leb (shortestClash unmarked n (entries s)) (records s) (clashed-within (settleable-former s n former) unmarked refl C), byRuns) (ap (to.Refused Contradiction) k) ∙ judged)
 
       pub by-free :
-          ((k : ℕ) → getD s k 0 < 256) → false ≡ clash n (facts s) → (k : ℕ) (out′ : List ℕ) → k ≡ length (converted s) → out′ ≡ front (converted s) out
+          ((k : ℕ) → getD s k 0 < 256) → false ≡ clash unmarked n (facts s) → (k : ℕ) (out′ : List ℕ) → k ≡ length (converted s) → out′ ≡ front (converted s) out
           → Promised s out (to.Written k) out′
       unfolding byRuns left
       by-free bytes c k out′ e f = (
-        ((rw (lt-leb (shortestClash n (entries s)) (records s) (free-beyond (settleable-former s n former) c), byRuns) (ap to.Written e)) ∙ judged, f),
+        ((rw (lt-leb (shortestClash unmarked n (entries s)) (records s) (free-beyond (settleable-former s n former) unmarked refl c), byRuns) (ap to.Written e)) ∙ judged, f),
         (λ z. in-force s n former bytes c, λ z. same-answers s n former bytes c),
       )

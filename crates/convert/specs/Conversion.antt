@@ -6,6 +6,7 @@ use mathlib.Core.List.{List}
 use lib.Dec.{ltb, leb}
 use lib.ListN.{length}
 use Rattle.lists.specs.Front.{front}
+use Rattle.rules.specs.Fact.{unmarked}
 use Rattle.rules.specs.Entries.{shortestClash}
 use Rattle.records.specs.Record.{records}
 use Rattle.records.specs.Facts.{entries}
@@ -31,11 +32,11 @@ abbrev pub size : Conversion → ℕ
 size (Written k) = k
 size (Refused r i) = 0
 
--- row 14, from the shortest contradictory run
+-- row 14, from the shortest contradictory run; the former edition has no marks
 unfoldable pub byRuns : List ℕ → ℕ → Conversion
 byRuns s n =
-    elim (leb (shortestClash n (entries s)) (records s)) [
-      | true ↦ Refused Contradiction (shortestClash n (entries s) - 1)
+    elim (leb (shortestClash unmarked n (entries s)) (records s)) [
+      | true ↦ Refused Contradiction (shortestClash unmarked n (entries s) - 1)
       | false ↦ Written (length (converted s))
     ]
 

@@ -4,6 +4,7 @@ use mathlib.Core.Path.{_≡_}
 use mathlib.Core.Bool.{false}
 use mathlib.Core.List.{List}
 use lib.ListN.{length}
+use Rattle.rules.specs.Fact.{unmarked}
 use Rattle.rules.specs.Follows as on
 use Rattle.records.specs.Facts.{facts}
 use Rattle.records.specs.Check.{formerCheck}
@@ -22,5 +23,5 @@ pub record Room (s : List ℕ) (n room : ℕ) : Type 0 where
 
 -- what row 14 says of it
 pub record Judged (s : List ℕ) (n : ℕ) (r : Settled) : Type 0 where
-  pub free : (nodes shadowed : ℕ) → r ≡ Free nodes shadowed → false ≡ on.clash n (facts s)
-  pub clash : (place : ℕ) → r ≡ Clash place → Clashed n s place
+  pub free : (nodes shadowed : ℕ) → r ≡ Free nodes shadowed → false ≡ on.clash unmarked n (facts s)
+  pub clash : (place : ℕ) → r ≡ Clash place → Clashed unmarked n s place

@@ -46,11 +46,12 @@ fn write_book(book: &[u8], n: usize, out: &mut [u8]) -> usize
     records::copy_where(true, &last, 0, out, at)
 }
 
-// Row 14 of a book of the former edition.
+// Row 14 of a book of the former edition, which has no marks.
 fn settle(book: &[u8], n: usize) -> Settled
     requires { ⌜ FormerBook (now book) n ⌝ }
     ensures { λ r. ⌜ Judged (now (book .entry)) n r ⌝ }
 {
+    let voids = [0u64; 32];
     let mut e = [0u64; 65536];
     let mut d = [0u64; 65536];
     let mut t = [0u64; 65536];
@@ -61,6 +62,7 @@ fn settle(book: &[u8], n: usize) -> Settled
     closure::settle(
         book,
         n,
+        &voids,
         &mut e,
         &mut d,
         &mut t,

@@ -166,7 +166,7 @@ fn rows() {
     ask(b"no-bytes-claim-piece-1", b"", b"\x03\x00\x00\x00\x01\x00");
     ask(b"ragged", b"\x03\x00\x00\x00\x00", b"");
     full();
-    ask(b"kind-6", b"\x06\x00\x00\x00\x00\x00", b"");
+    ask(b"kind-7", b"\x07\x00\x00\x00\x00\x00", b"");
     ask(b"origin-1", b"\x03\x01\x00\x00\x00\x00", b"");
     ask(b"origin-2", b"\x03\x02\x00\x00\x00\x00", b"");
     ask(b"piece-2047", b"\x02\x00\x01\x00\xff\x07", b"");
@@ -187,6 +187,31 @@ fn rows() {
         b"repeat",
         b"\x02\x00\x03\x00\x04\x00\x02\x00\x03\x00\x04\x00",
         b"",
+    );
+}
+
+// Marks: row 19, and the rows before it and behind it.
+fn mark_rows() {
+    ask(b"mark", b"\x06\x00\x01\x00\x00\x00", b"");
+    ask(b"mark-of-origin-1", b"\x06\x01\xff\x07\x00\x00", b"");
+    ask(b"mark-of-origin-2", b"\x06\x02\x00\x00\x00\x00", b"");
+    ask(b"mark-of-2048", b"\x06\x00\x00\x08\x01\x00", b"");
+    ask(b"mark-of-0", b"\x06\x00\x00\x00\x00\x00", b"");
+    ask(b"mark-with-b", b"\x06\x00\x01\x00\x00\x08", b"");
+    ask(
+        b"marks-of-both-origins",
+        b"\x06\x00\x01\x00\x00\x00\x06\x01\x01\x00\x00\x00",
+        b"",
+    );
+    ask(
+        b"repeated-mark",
+        b"\x06\x00\x01\x00\x00\x00\x06\x00\x01\x00\x00\x00",
+        b"",
+    );
+    ask(
+        b"claim-of-kind-6",
+        b"\x06\x00\x01\x00\x00\x00",
+        b"\x06\x00\x01\x00\x00\x00",
     );
 }
 
@@ -253,11 +278,103 @@ fn claim_rows() {
     );
 }
 
+// Row 14 with marks, which count wherever they stand.
+fn void_rows() {
+    ask(
+        b"void-MEETS",
+        b"\x06\x00\x01\x00\x00\x00\x03\x00\x01\x00\x02\x00",
+        b"",
+    );
+    ask(
+        b"void-MEETS-marked-behind",
+        b"\x03\x00\x01\x00\x02\x00\x06\x00\x01\x00\x00\x00",
+        b"",
+    );
+    ask(
+        b"void-MEETS-itself",
+        b"\x06\x00\x01\x00\x00\x00\x03\x00\x01\x00\x01\x00",
+        b"",
+    );
+    ask(
+        b"unmarked-part-of-void",
+        b"\x06\x00\x01\x00\x00\x00\x01\x00\x02\x00\x01\x00",
+        b"",
+    );
+    ask(
+        b"void-part-of-void",
+        b"\x06\x00\x01\x00\x00\x00\x01\x00\x02\x00\x01\x00\x06\x00\x02\x00\x00\x00",
+        b"",
+    );
+    ask(
+        b"void-NOTPART",
+        b"\x06\x00\x01\x00\x00\x00\x04\x00\x01\x00\x02\x00",
+        b"",
+    );
+    ask(
+        b"NOTPART-of-void",
+        b"\x06\x00\x01\x00\x00\x00\x04\x00\x02\x00\x01\x00",
+        b"",
+    );
+    ask(
+        b"void-APART-from-itself-and-0",
+        b"\x06\x00\x01\x00\x00\x00\x02\x00\x01\x00\x01\x00\x02\x00\x01\x00\x00\x00",
+        b"",
+    );
+}
+
+// Piece 1 void by the scanner's mark, and PART 2 0. The four kinds of 1 2, 2 1, 1 1 and 2 2.
+fn void_claims() {
+    let book = b"\x06\x01\x01\x00\x00\x00\x01\x00\x02\x00\x00\x00";
+    ask_four(
+        b"void-with-another-from-all-facts",
+        book,
+        b"\x01\x00\x01\x00\x02\x00\x02\x00\x01\x00\x02\x00\x03\x00\x01\x00\x02\x00\x04\x00\x01\x00\x02\x00",
+    );
+    ask_four(
+        b"another-with-void-from-all-facts",
+        book,
+        b"\x01\x00\x02\x00\x01\x00\x02\x00\x02\x00\x01\x00\x03\x00\x02\x00\x01\x00\x04\x00\x02\x00\x01\x00",
+    );
+    ask_four(
+        b"void-with-itself-from-all-facts",
+        book,
+        b"\x01\x00\x01\x00\x01\x00\x02\x00\x01\x00\x01\x00\x03\x00\x01\x00\x01\x00\x04\x00\x01\x00\x01\x00",
+    );
+    ask_four(
+        b"another-with-itself-from-all-facts",
+        book,
+        b"\x01\x00\x02\x00\x02\x00\x02\x00\x02\x00\x02\x00\x03\x00\x02\x00\x02\x00\x04\x00\x02\x00\x02\x00",
+    );
+    ask_four(
+        b"void-with-another-from-sheets",
+        book,
+        b"\x01\x01\x01\x00\x02\x00\x02\x01\x01\x00\x02\x00\x03\x01\x01\x00\x02\x00\x04\x01\x01\x00\x02\x00",
+    );
+    ask_four(
+        b"another-with-void-from-sheets",
+        book,
+        b"\x01\x01\x02\x00\x01\x00\x02\x01\x02\x00\x01\x00\x03\x01\x02\x00\x01\x00\x04\x01\x02\x00\x01\x00",
+    );
+    ask_four(
+        b"void-with-itself-from-sheets",
+        book,
+        b"\x01\x01\x01\x00\x01\x00\x02\x01\x01\x00\x01\x00\x03\x01\x01\x00\x01\x00\x04\x01\x01\x00\x01\x00",
+    );
+    ask_four(
+        b"another-with-itself-from-sheets",
+        book,
+        b"\x01\x01\x02\x00\x02\x00\x02\x01\x02\x00\x02\x00\x03\x01\x02\x00\x02\x00\x04\x01\x02\x00\x02\x00",
+    );
+}
+
 fn main() {
     rows();
+    mark_rows();
     origins();
     contradictions();
     claim_rows();
     restricted();
+    void_rows();
+    void_claims();
     ask_short(b"places-2047", b"\x03\x00\x00\x00\x00\x00");
 }

@@ -1,14 +1,20 @@
 -- The calls of `working` as C gets them. Assumes nothing.
-use mathlib.Core.Path.{_≡_, sym, subst}
+use mathlib.Core.Path.{_≡_, refl, sym, subst}
 use mathlib.Core.List.{List}
 use Prim.Native.Nat.{ℕ}
+use Rattle.records.specs.Refusal.{refusalNumber}
+use Rattle.records.specs.declared.Refusal.{Refusal}
 use Rattle.answers.specs.declared.Outcome.{Outcome}
+use Rattle.answers.specs.declared.Outcome.the-variants.{Refused}
 use Rattle.working.specs.declared.Working.{Working}
 use Rattle.working.specs.declared.Asked.{Asked}
 use Rattle.working.specs.Kept as on
 use Rattle.piecebook.specs.declared.PiecebookWorking.{PiecebookWorking}
 use Rattle.piecebook.specs.declared.PiecebookWorkingResult.{PiecebookWorkingResult}
 use Rattle.piecebook.specs.OpenBook.{stateOf, begunCounts, Replied, Started, Added, Withdrawn, Answered}
+
+pub replied-refused : (o : Outcome) (x : Refusal) (i n a : ℕ) → o ≡ Refused x i → n ≡ refusalNumber x → Replied o a (record { number = n; place = i; answer = a })
+replied-refused o x i n a e f = rw e (record { number-is = f; place-is = refl; answer-is = refl })
 
 module _ (w w′ : PiecebookWorking) (was s : Working) (o : Outcome) (r : PiecebookWorkingResult) (before : was ≡ stateOf w) (behind : stateOf w′ ≡ s) (told : Replied o 0 r) (area area′ : List ℕ) where
   pub added : (a : List ℕ) → on.Added was area a o s area′ → Added w area a r w′ area′

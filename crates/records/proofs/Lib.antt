@@ -10,3 +10,4 @@ mod Books
 mod Claims
 pub mod Keeps
 pub mod Orders
+pub mod Marks

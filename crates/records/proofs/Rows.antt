@@ -1,21 +1,22 @@
 -- When each row refuses and when it lets a record pass, and what a record that passes rows 5 to 8 is like. Assumes nothing.
 use Prim.Native.Nat.{ℕ, max, _≤_, _<_}
-use mathlib.Core.Path.{_≡_, refl}
-use mathlib.Core.Bool.{Bool, true, false}
+use mathlib.Core.Path.{_≡_, refl, sym, _∙_}
+use mathlib.Core.Bool.{Bool, true, false, false≢true}
 use native.Mathlib.Omega.{arith}
 use native.Mathlib.Decide.{ℕ-discrete}
 use lib.Dec.{eqb}
-use borrow.Author.Tests.{le-leb, lt-leb, lt-ltb, le-ltb, eq-eqb, ne-eqb, leb-false, ltb-false, not-false}
+use borrow.Author.Tests.{le-leb, lt-leb, lt-ltb, le-ltb, eq-eqb, ne-eqb, eqb-true, eqb-false, leb-false, ltb-false, not-false}
+use Rattle.lists.proofs.Bools.{Known, is-true, is-false, known}
 use Rattle.records.specs.declared.Record.{Record}
 use Rattle.records.specs.declared.Edition.{Edition}
 use Rattle.records.specs.declared.Edition.the-variants.{Former, Current}
 use Rattle.records.specs.declared.Refusal.{Refusal}
 use Rattle.records.specs.declared.Finding.{Finding}
 use Rattle.records.specs.Refusal.{refusalNumber, row}
-use Rattle.records.specs.declared.Refusal.the-variants.{ShortBuffer, BookLength, TooManyRecords, Kind, Origin, PieceNumber, Order, Repeat, ClaimsLength, TooManyClaims, ClaimFormat, ClaimPiece, Contradiction, NotStanding}
+use Rattle.records.specs.declared.Refusal.the-variants.{ShortBuffer, BookLength, TooManyRecords, Kind, Origin, PieceNumber, Order, Repeat, ClaimsLength, TooManyClaims, ClaimFormat, ClaimPiece, Contradiction, NotStanding, VoidForm}
 use Rattle.records.specs.declared.Finding.the-variants.{Fit, Unfit}
-use Rattle.records.specs.Pieces.{stated, larger, largest}
-use Rattle.records.specs.Rows.{admitted, kindRow, originRow, pieceRow, orderRow}
+use Rattle.records.specs.Pieces.{stated, marking, larger, largest}
+use Rattle.records.specs.Rows.{admitted, kindRow, originRow, pieceRow, badMark, voidRow, orderRow}
 use Rattle.records.specs.Check.{formFinding}
 
 module _ (r : Record) where
@@ -31,14 +32,14 @@ module _ (r : Record) where
   unfolding admitted
   admits-former q h = rw (q, h)
 
-  pub admits-current : {e : Edition} → e ≡ Current → stated r ≡ false → false ≡ admitted e r
+  pub admits-current : {e : Edition} → e ≡ Current → stated r ≡ false → eqb (r .kind) 6 ≡ admitted e r
   unfolding admitted
   admits-current q h = rw (q, h)
 
 pub admits-stated : (e : Edition) (r : Record) → stated r ≡ true → admitted e r ≡ true
 unfolding admitted
 admits-stated Former r h = rw h
-admits-stated Current r h = h
+admits-stated Current r h = rw h
 
 module _ (e : Edition) (r : Record) where
   pub no-kind : admitted e r ≡ false → formFinding e r ≡ Unfit Kind
@@ -56,24 +57,45 @@ module _ (e : Edition) (r : Record) where
       too-large p = simp (h, le-ltb 1 (r .origin) t, lt-ltb 2047 (largest r) p)
 
       module _ (p : largest r ≤ 2047) where
-        pub not-part : (r .kind ≡ 1 → ⊥) → formFinding e r ≡ Fit
+        pub marks-one : r .kind ≡ 6 → formFinding e r ≡ row (badMark r) VoidForm Fit
         unfolding formFinding
-        not-part n = simp (h, le-ltb 1 (r .origin) t, le-ltb 2047 (largest r) p, ne-eqb (r .kind) 1 n)
+        marks-one n =
+            let q : r .kind ≡ 1 → ⊥ = λ k. omega arith in
+            simp (h, le-ltb 1 (r .origin) t, le-ltb 2047 (largest r) p, eq-eqb (r .kind) 6 n, ne-eqb (r .kind) 1 q)
 
-        pub ordered : r .kind ≡ 1 → r .b < r .a → formFinding e r ≡ Fit
-        unfolding formFinding
-        ordered n o = simp (h, le-ltb 1 (r .origin) t, le-ltb 2047 (largest r) p, eq-eqb (r .kind) 1 n, lt-leb (r .a) (r .b) o)
+        module _ (m : r .kind ≡ 6 → ⊥) where
+          pub not-part : (r .kind ≡ 1 → ⊥) → formFinding e r ≡ Fit
+          unfolding formFinding
+          not-part n = simp (h, le-ltb 1 (r .origin) t, le-ltb 2047 (largest r) p, ne-eqb (r .kind) 6 m, ne-eqb (r .kind) 1 n)
 
-        pub disordered : r .kind ≡ 1 → r .a ≤ r .b → formFinding e r ≡ Unfit Order
-        unfolding formFinding
-        disordered n o =
-            simp (h, le-ltb 1 (r .origin) t, le-ltb 2047 (largest r) p, eq-eqb (r .kind) 1 n, le-leb (r .a) (r .b) o)
+          pub ordered : r .kind ≡ 1 → r .b < r .a → formFinding e r ≡ Fit
+          unfolding formFinding
+          ordered n o =
+              simp (h, le-ltb 1 (r .origin) t, le-ltb 2047 (largest r) p, ne-eqb (r .kind) 6 m, eq-eqb (r .kind) 1 n, lt-leb (r .a) (r .b) o)
 
--- What a record is that passes rows 5 to 8.
+          pub disordered : r .kind ≡ 1 → r .a ≤ r .b → formFinding e r ≡ Unfit Order
+          unfolding formFinding
+          disordered n o =
+              simp (h, le-ltb 1 (r .origin) t, le-ltb 2047 (largest r) p, ne-eqb (r .kind) 6 m, eq-eqb (r .kind) 1 n, le-leb (r .a) (r .b) o)
+
+-- row 19 of a mark
+module _ (r : Record) where
+  pub no-piece : r .a ≡ 0 → row (badMark r) VoidForm Fit ≡ Unfit VoidForm
+  no-piece e = simp (eq-eqb (r .a) 0 e)
+
+  module _ (a : r .a ≡ 0 → ⊥) where
+    pub second-piece : (r .b ≡ 0 → ⊥) → row (badMark r) VoidForm Fit ≡ Unfit VoidForm
+    second-piece b = simp (ne-eqb (r .a) 0 a, ne-eqb (r .b) 0 b)
+
+    pub good-mark : r .b ≡ 0 → row (badMark r) VoidForm Fit ≡ Fit
+    good-mark b = simp (ne-eqb (r .a) 0 a, eq-eqb (r .b) 0 b)
+
+-- What a record is that passes rows 5 to 8, 19 among them.
 pub record Formed (e : Edition) (r : Record) : Type 0 where
   pub kind : admitted e r ≡ true
   pub known : r .origin ≤ 1
   pub named : largest r ≤ 2047
+  pub marking : r .kind ≡ 6 → (0 < r .a) × (r .b ≡ 0)
   pub order : r .kind ≡ 1 → r .b < r .a
 
 pub row-fit : (b : Bool) (x : Refusal) (f : Finding) → row b x f ≡ Fit → (b ≡ false) × (f ≡ Fit)
@@ -83,27 +105,42 @@ row-fit false x f e = (refl, e)
 in-order : (r : Record) → orderRow r ≡ false → r .kind ≡ 1 → r .b < r .a
 in-order r e k = leb-false (r .a) (r .b) (rw (eq-eqb (r .kind) 1 k) at e)
 
+in-form : (r : Record) → voidRow r ≡ false → r .kind ≡ 6 → (0 < r .a) × (r .b ≡ 0)
+in-form r e k = pick (known (eqb (r .a) 0)) (known (eqb (r .b) 0))
+  where
+    bad : badMark r ≡ false
+    bad = rw (eq-eqb (r .kind) 6 k) at e
+
+    pick : Known (eqb (r .a) 0) → Known (eqb (r .b) 0) → (0 < r .a) × (r .b ≡ 0)
+    pick (is-true a) b = absurd (false≢true (sym bad ∙ rw a))
+    pick (is-false a) (is-false b) = absurd (false≢true (sym bad ∙ rw (a, b)))
+    pick (is-false a) (is-true b) = (omega (arith, eqb-false (r .a) 0 a), eqb-true (r .b) 0 b)
+
 pub formed : (e : Edition) (r : Record) → formFinding e r ≡ Fit → Formed e r
 unfolding formFinding
 formed e r q =
     let k = row-fit (kindRow e r) _ _ q in
     let t = row-fit (originRow r) _ _ (k .1) in
     let p = row-fit (pieceRow r) _ _ (t .1) in
-    let o = row-fit (orderRow r) _ _ (p .1) in
+    let v = row-fit (voidRow r) _ _ (p .1) in
+    let o = row-fit (orderRow r) _ _ (v .1) in
     record {
       kind = not-false (admitted e r) (k .0);
       known = ltb-false _ _ (t .0);
       named = ltb-false _ _ (p .0);
+      marking = in-form r (v .0);
       order = in-order r (o .0);
     }
 
 -- and such a record passes them
 pub fits : (e : Edition) (r : Record) → Formed e r → formFinding e r ≡ Fit
-fits e r F = pick (ℕ-discrete (r .kind) 1)
+fits e r F = pick (ℕ-discrete (r .kind) 6) (ℕ-discrete (r .kind) 1)
   where
-    pick : Dec (r .kind ≡ 1) → formFinding e r ≡ Fit
-    pick (yes k) = ordered e r (F .kind) (F .known) (F .named) k (F .order k)
-    pick (no k) = not-part e r (F .kind) (F .known) (F .named) k
+    pick : Dec (r .kind ≡ 6) → Dec (r .kind ≡ 1) → formFinding e r ≡ Fit
+    pick (yes m) k =
+        let f = F .marking m in marks-one e r (F .kind) (F .known) (F .named) m ∙ good-mark r (λ a. omega (arith, f .0)) (f .1)
+    pick (no m) (yes k) = ordered e r (F .kind) (F .known) (F .named) m k (F .order k)
+    pick (no m) (no k) = not-part e r (F .kind) (F .known) (F .named) m k
 
 -- no refusal has the number 0
 pub refused-positive : (r : Refusal) → refusalNumber r ≡ 0 → ⊥
@@ -121,3 +158,4 @@ refused-positive ClaimFormat e = omega arith
 refused-positive ClaimPiece e = omega arith
 refused-positive Contradiction e = omega arith
 refused-positive NotStanding e = omega arith
+refused-positive VoidForm e = omega arith

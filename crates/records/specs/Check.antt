@@ -6,7 +6,7 @@ use mathlib.Core.List.{List}
 use Rattle.records.specs.declared.Record.{Record}
 use Rattle.records.specs.declared.Edition.{Edition}
 use Rattle.records.specs.declared.Edition.the-variants.{Former, Current}
-use Rattle.records.specs.declared.Refusal.the-variants.{BookLength, TooManyRecords, Kind, Origin, PieceNumber, Order, Repeat, ClaimsLength, TooManyClaims, ClaimFormat, ClaimPiece}
+use Rattle.records.specs.declared.Refusal.the-variants.{BookLength, TooManyRecords, Kind, Origin, PieceNumber, VoidForm, Order, Repeat, ClaimsLength, TooManyClaims, ClaimFormat, ClaimPiece}
 use Rattle.records.specs.declared.Finding.{Finding}
 use Rattle.records.specs.declared.Finding.the-variants.{Fit, Unfit}
 use Rattle.records.specs.declared.BookCheck.{BookCheck}
@@ -18,17 +18,17 @@ use Rattle.records.specs.declared.Claim.the-variants.{Sound, Unsound}
 use Rattle.records.specs.Record.{recordAt, records}
 use Rattle.records.specs.Refusal.{row, judge, scan}
 use Rattle.records.specs.Pieces.{piecesUpTo}
-use Rattle.records.specs.Rows.{ragged, moreThan, kindRow, originRow, pieceRow, orderRow, repeatRow, claimRow, beyondRow}
+use Rattle.records.specs.Rows.{ragged, moreThan, kindRow, originRow, pieceRow, voidRow, orderRow, repeatRow, claimRow, beyondRow}
 
 -- rows 3 and 4
 abbrev pub bookLength : List ℕ → Finding
 bookLength s = row (ragged s) BookLength (row (moreThan 8192 s) TooManyRecords Fit)
 
--- rows 5 to 8, which look at one record alone
+-- rows 5 to 7, 19 and 8, which look at one record alone
 unfoldable pub formFinding : Edition → Record → Finding
-formFinding e r = row (kindRow e r) Kind (row (originRow r) Origin (row (pieceRow r) PieceNumber (row (orderRow r) Order Fit)))
+formFinding e r = row (kindRow e r) Kind (row (originRow r) Origin (row (pieceRow r) PieceNumber (row (voidRow r) VoidForm (row (orderRow r) Order Fit))))
 
--- rows 5 to 9 of record i
+-- rows 5 to 9 of record i, 19 among them
 unfoldable pub recordFinding : Edition → List ℕ → ℕ → Finding
 recordFinding e s i = judge Unfit (row (repeatRow s i) Repeat Fit) (formFinding e (recordAt s i))
 

@@ -1,4 +1,4 @@
--- The facts of a run of records, one entry a record (TRAY brings none), and a claim as a fact. Assumes nothing.
+-- The facts of a run of records, one entry a record (marks and TRAY bring none), and a claim as a fact. Assumes nothing.
 use Prim.Native.Nat.{ℕ}
 use mathlib.Core.Bool.{true, false}
 use mathlib.Core.List.{List}

@@ -8,3 +8,4 @@ pub mod Key
 pub mod Met
 pub mod Kept
 pub mod Reordered
+pub mod Marked

@@ -1,9 +1,10 @@
--- The numbers of the refusals, one for each row of document 01's table but 2, which R-1 took away, and what one row says.
+-- The numbers of the refusals, one for each row of document 01's table but 2, which R-1 took away, and for those of later requests, and what one row
+-- says.
 -- Assumes nothing.
 use Prim.Native.Nat.{ℕ, zero, suc}
 use mathlib.Core.Bool.{Bool, true, false}
 use Rattle.records.specs.declared.Refusal.{Refusal}
-use Rattle.records.specs.declared.Refusal.the-variants.{ShortBuffer, BookLength, TooManyRecords, Kind, Origin, PieceNumber, Order, Repeat, ClaimsLength, TooManyClaims, ClaimFormat, ClaimPiece, Contradiction, NotStanding}
+use Rattle.records.specs.declared.Refusal.the-variants.{ShortBuffer, BookLength, TooManyRecords, Kind, Origin, PieceNumber, Order, Repeat, ClaimsLength, TooManyClaims, ClaimFormat, ClaimPiece, Contradiction, NotStanding, VoidForm}
 use Rattle.records.specs.declared.Finding.{Finding}
 use Rattle.records.specs.declared.Finding.the-variants.{Fit, Unfit}
 
@@ -22,6 +23,7 @@ refusalNumber ClaimFormat = 12
 refusalNumber ClaimPiece = 13
 refusalNumber Contradiction = 14
 refusalNumber NotStanding = 18
+refusalNumber VoidForm = 19
 
 -- a row that refuses, or the rows below it
 abbrev pub row : Bool → Refusal → Finding → Finding

@@ -1,4 +1,4 @@
--- Document 01's rows 3 to 13, one definition each: true where the row refuses. Assumes nothing.
+-- Document 01's rows 3 to 13 and row 19, one definition each: true where the row refuses. Assumes nothing.
 use Prim.Native.Nat.{ℕ, zero, suc, _+_, _*_, _%_}
 use mathlib.Core.Bool.{Bool, true, _&&_, _||_, not}
 use mathlib.Core.List.{List}
@@ -9,7 +9,7 @@ use Rattle.records.specs.declared.Record.{Record}
 use Rattle.records.specs.declared.Edition.{Edition}
 use Rattle.records.specs.declared.Edition.the-variants.{Former, Current}
 use Rattle.records.specs.Record.{records}
-use Rattle.records.specs.Pieces.{stated, largest}
+use Rattle.records.specs.Pieces.{stated, marking, largest}
 
 -- 3 and 10: not a multiple of 6
 abbrev pub ragged : List ℕ → Bool
@@ -19,10 +19,10 @@ ragged s = not (eqb (length s % 6) 0)
 abbrev pub moreThan : ℕ → List ℕ → Bool
 moreThan most s = ltb most (records s)
 
--- 5: a kind that the edition does not have. Both have 1 to 4, the former one TRAY too
+-- 5: a kind that the edition does not have. Both have 1 to 4, the former one TRAY too, and the one in force marks
 unfoldable pub admitted : Edition → Record → Bool
 admitted Former r = stated r || eqb (r .kind) 5
-admitted Current r = stated r
+admitted Current r = stated r || marking r
 
 abbrev pub kindRow : Edition → Record → Bool
 kindRow e r = not (admitted e r)
@@ -34,6 +34,13 @@ originRow r = ltb 1 (r .origin)
 -- 7: a above 2,047, or b above it in kinds 1 to 4
 abbrev pub pieceRow : Record → Bool
 pieceRow r = ltb 2047 (largest r)
+
+-- 19, between 7 and 8: a mark of piece 0, or one whose b is not zero
+abbrev pub badMark : Record → Bool
+badMark r = eqb (r .a) 0 || not (eqb (r .b) 0)
+
+abbrev pub voidRow : Record → Bool
+voidRow r = marking r && badMark r
 
 -- 8: PART with b not below a
 abbrev pub orderRow : Record → Bool

@@ -6,9 +6,11 @@ ghost use mathlib.Core.Bool.{Bool};
 ghost use Rattle.lists.specs.Front.{front, placed};
 ghost use Rattle.records.specs.Record.{recordAt};
 ghost use Rattle.records.specs.Kept.{bytesAt, bytesWhere, sheets};
-ghost use Rattle.records.specs.Refusal.{refusalNumber};
+ghost use Rattle.records.specs.Refusal.{refusalNumber, row};
+ghost use Rattle.records.specs.declared.Refusal.the-variants.{VoidForm};
+ghost use Rattle.records.specs.declared.Finding.the-variants.{Fit};
 ghost use Rattle.records.specs.Pieces.{stated, largest, pieceCount};
-ghost use Rattle.records.specs.Rows.{admitted};
+ghost use Rattle.records.specs.Rows.{admitted, badMark};
 ghost use Rattle.records.specs.Key.{keyAt, slotOf};
 ghost use Rattle.records.specs.Met.{met, Marked, start};
 ghost use Rattle.records.specs.Check.{formFinding, recordsCheck, checkBy, bookCheck, formerCheck, claimAt, claimsCheck};
@@ -22,7 +24,7 @@ pub struct Record {
     pub b: usize,
 }
 
-// The rows of document 01's table, in order. Row 2 is gone: a book without records is piece 0 alone.
+// The rows of document 01's table, in order, then those that came later. Row 2 is gone: a book without records is piece 0 alone.
 pub enum Refusal {
     ShortBuffer,
     BookLength,
@@ -38,6 +40,7 @@ pub enum Refusal {
     ClaimPiece,
     Contradiction,
     NotStanding,
+    VoidForm,
 }
 
 // An edition of the format. The former one is what the converter takes: it has TRAY records, and later changes leave it alone.
@@ -87,6 +90,7 @@ pub fn refusal_number(r: Refusal) -> u8
         Refusal::ClaimPiece => 13,
         Refusal::Contradiction => 14,
         Refusal::NotStanding => 18,
+        Refusal::VoidForm => 19,
     }
 }
 
@@ -145,11 +149,24 @@ fn admits(edition: Edition, r: Record) -> bool
     }
     match edition {
         Edition::Former => r.kind == 5,
-        Edition::Current => false,
+        Edition::Current => r.kind == 6,
     }
 }
 
-// Rows 5 to 8, which look at one record alone.
+// Row 19 of a record of kind 6.
+fn check_mark(r: Record) -> Finding
+    ensures { λ f. ⌜ f ≡ row (badMark r) VoidForm Fit ⌝ }
+{
+    if r.a == 0 {
+        return Finding::Unfit(Refusal::VoidForm);
+    }
+    if r.b != 0 {
+        return Finding::Unfit(Refusal::VoidForm);
+    }
+    Finding::Fit
+}
+
+// Rows 5 to 7, 19 and 8, which look at one record alone.
 fn check_form(edition: Edition, r: Record) -> Finding
     ensures { λ f. ⌜ f ≡ formFinding edition r ⌝ }
 {
@@ -161,6 +178,9 @@ fn check_form(edition: Edition, r: Record) -> Finding
     }
     if 2047 < largest_named(r) {
         return Finding::Unfit(Refusal::PieceNumber);
+    }
+    if r.kind == 6 {
+        return check_mark(r);
     }
     if r.kind != 1 {
         return Finding::Fit;

@@ -7,8 +7,8 @@ use libc::STDOUT_FILENO;
 use records::BookCheck;
 use records::ClaimsCheck;
 
-// Twelve records: sound ones, and one that each row refuses, together with what later rows refuse.
-const SAMPLES: [u8; 72] = [
+// Fourteen records: sound ones, and one that each row refuses, together with what later rows refuse.
+const SAMPLES: [u8; 84] = [
     1,
     0,
     3,
@@ -81,6 +81,18 @@ const SAMPLES: [u8; 72] = [
     0,
     0,
     0,
+    6,
+    1,
+    0,
+    0,
+    0,
+    0,
+    6,
+    0,
+    1,
+    0,
+    1,
+    0,
 ];
 
 fn numbers(number: u8, rest: usize) {
@@ -134,7 +146,7 @@ fn put(s: &mut [u8], i: usize, kind: u8, a: usize, b: usize)
 }
 
 fn put_sample(s: &mut [u8], i: usize, k: usize)
-    requires { ⌜ (6 * i + 6 ≤ length (now s)) × (k < 12) ⌝ }
+    requires { ⌜ (6 * i + 6 ≤ length (now s)) × (k < 14) ⌝ }
 {
     let from = 6 * k;
     let at = 6 * i;
@@ -146,13 +158,13 @@ fn put_sample(s: &mut [u8], i: usize, k: usize)
     s[at + 5] = SAMPLES[from + 5];
 }
 
-// Three samples, by the digits of n in base 12.
+// Three samples, by the digits of n in base 14.
 fn put_three(s: &mut [u8], n: usize)
     requires { ⌜ 18 ≤ length (now s) ⌝ }
 {
-    put_sample(s, 0, n % 12);
-    put_sample(s, 1, n / 12 % 12);
-    put_sample(s, 2, n / 144 % 12);
+    put_sample(s, 0, n % 14);
+    put_sample(s, 1, n / 14 % 14);
+    put_sample(s, 2, n / 196 % 14);
 }
 
 // Every book of so many bytes from the samples.
@@ -209,7 +221,7 @@ fn varied_claims(s: &mut [u8])
 fn lengths(s: &mut [u8])
     requires { ⌜ 18 ≤ length (now s) ⌝ }
 {
-    put_three(s, 300);
+    put_three(s, 406);
     let mut n: usize = 0;
     while n < 19 {
         book(s, n);
@@ -256,6 +268,17 @@ fn long_repeats(s: &mut [u8])
     book(s, 49158);
 }
 
+// A full book that ends in a mark, good or not.
+fn long_marks(s: &mut [u8])
+    requires { ⌜ length (now s) ≡ 49158 ⌝ }
+{
+    put(s, 0, 2, 0, 0);
+    put(s, 8191, 6, 2047, 0);
+    book(s, 49152);
+    put(s, 8191, 6, 2047, 1);
+    book(s, 49152);
+}
+
 fn put_claims(s: &mut [u8])
     requires { ⌜ length (now s) ≡ 49158 ⌝ }
 {
@@ -283,16 +306,18 @@ fn long_claims(s: &mut [u8])
 fn main() {
     let mut s = [0u8; 49158];
     lengths(&mut s);
-    sample_books(&mut s, 12, 6);
-    sample_books(&mut s, 144, 12);
-    sample_books(&mut s, 1728, 18);
+    sample_books(&mut s, 14, 6);
+    sample_books(&mut s, 196, 12);
+    sample_books(&mut s, 2744, 18);
     varied_books(&mut s, 1);
     varied_books(&mut s, 5);
-    sample_claims(&mut s, 144, 12, 1);
-    sample_claims(&mut s, 144, 12, 5);
-    sample_claims(&mut s, 144, 12, 2048);
+    varied_books(&mut s, 6);
+    sample_claims(&mut s, 196, 12, 1);
+    sample_claims(&mut s, 196, 12, 5);
+    sample_claims(&mut s, 196, 12, 2048);
     varied_claims(&mut s);
     long_books(&mut s);
     long_repeats(&mut s);
+    long_marks(&mut s);
     long_claims(&mut s);
 }

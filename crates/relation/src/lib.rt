@@ -15,6 +15,14 @@ pub fn test(m: &[u64], r: usize, i: usize) -> bool
     (m[r * 32 + i / 64] >> (i % 64)) & 1 == 1
 }
 
+// Whether bit i of a row that stands alone is set.
+pub fn has(row: &[u64], i: usize) -> bool
+    requires { ⌜ (length (now row) ≡ 32) × (i < 2048) ⌝ }
+    ensures { λ b. ⌜ b ≡ bitOf (now (row .entry)) 0 i ⌝ }
+{
+    (row[i / 64] >> (i % 64)) & 1 == 1
+}
+
 // Sets bit i of row r.
 pub fn insert(m: &mut [u64], r: usize, i: usize)
     requires { ⌜ (length (now m) ≡ 65536) × (r < 2048) × (i < 2048) ⌝ }
@@ -22,6 +30,15 @@ pub fn insert(m: &mut [u64], r: usize, i: usize)
 {
     let w = r * 32 + i / 64;
     m[w] = m[w] | (1 << (i % 64));
+}
+
+// Sets bit i of a row that stands alone.
+pub fn put(row: &mut [u64], i: usize)
+    requires { ⌜ (length (now row) ≡ 32) × (i < 2048) ⌝ }
+    ensures { λ _. ⌜ Inserted (now (row .entry)) (now (row .exit)) 0 i ⌝ }
+{
+    let w = i / 64;
+    row[w] = row[w] | (1 << (i % 64));
 }
 
 // Puts row s of src into row d of dst. Two words a turn, both read before either is written: such a pair is one vector.

@@ -6,9 +6,10 @@ use Rattle.lists.specs.Tab.{tab}
 use Rattle.lists.specs.Any.{any, anyBelow}
 use Rattle.lists.specs.First.{first}
 use Rattle.rules.specs.Fact.{factOf}
-use Rattle.rules.specs.Follows.{storing, turned, table, entry, step, rounds, containment, apart, meets, notpart, derived, follows, clash}
+use Rattle.rules.specs.Follows.{storing, turned, parting, table, entry, step, rounds, containment, apart, meets, notpart, derived, follows, clash}
 use Rattle.rules.specs.Verdict.{judge, verdict}
 use Rattle.rules.specs.Entries.{factsOf, shortestClash}
+use Rattle.records.specs.Marked.{marks, marked}
 use Rattle.records.specs.Record.{recordAt}
 use Rattle.records.specs.Refusal.{scan}
 use Rattle.records.specs.Pieces.{stated, largest, piecesUpTo}
@@ -55,5 +56,5 @@ pub session-printed :
     ++ ascii "7 NOTPART 1 3 FOLLOWS\n"
     ++ ascii "8 NOTPART 0 1 FOLLOWS\n"
     ++ ascii "9 PART 1 2 OPEN\n"
-unfolding printed zeros session countsLine claimLines claimLine recordAt kindName answerName decimal spell outcome shortLent byBook checkBy scan recordFinding formFinding stated largest piecesUpTo sameBytes anyBelow byClaims claimsCheck claimAt byRuns shortestClash entries entryOf factOf tab clash any table entry storing turned step rounds containment apart meets notpart derived follows first factsOf visitsOf edges joined partIn range keep find parts breadth order parent hang under whole visits shadows isShadow left indexed front answersTo picked admitted verdict judge claimed
+unfolding printed zeros session countsLine claimLines claimLine recordAt kindName answerName decimal spell outcome shortLent byBook checkBy scan recordFinding formFinding stated largest piecesUpTo sameBytes anyBelow byClaims claimsCheck claimAt byRuns shortestClash entries entryOf factOf tab clash any table entry storing turned parting marks marked step rounds containment apart meets notpart derived follows first factsOf visitsOf edges joined partIn range keep find parts breadth order parent hang under whole visits shadows isShadow left indexed front answersTo picked admitted verdict judge claimed
 session-printed = refl

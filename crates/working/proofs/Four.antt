@@ -10,15 +10,16 @@ use lib.Dec.{ltb, leb, eqb}
 use lib.ListN.{length, take, length-append, length-take}
 use Rattle.lists.proofs.Bools.{Known, is-true, is-false, known}
 use Rattle.rules.specs.Entries.{shortestClash}
+use Rattle.records.specs.Marked.{marked}
 use Rattle.records.specs.Record.{recordAt, records}
 use Rattle.records.specs.Facts.{entries}
 use Rattle.records.specs.Refusal.{refusalNumber, row, judge, scan}
-use Rattle.records.specs.Rows.{ragged, moreThan, kindRow, originRow, pieceRow, orderRow, repeatRow}
+use Rattle.records.specs.Rows.{ragged, moreThan, kindRow, originRow, pieceRow, voidRow, orderRow, repeatRow}
 use Rattle.records.specs.Check.{bookCheck, checkBy, claimsCheck, formFinding, recordFinding}
 use Rattle.records.specs.declared.Edition.the-variants.{Current}
 use Rattle.records.specs.declared.Record.{Record}
 use Rattle.records.specs.declared.Refusal.{Refusal}
-use Rattle.records.specs.declared.Refusal.the-variants.{ShortBuffer, BookLength, TooManyRecords, Kind, Origin, PieceNumber, Order, Repeat, Contradiction}
+use Rattle.records.specs.declared.Refusal.the-variants.{ShortBuffer, BookLength, TooManyRecords, Kind, Origin, PieceNumber, VoidForm, Order, Repeat, Contradiction}
 use Rattle.records.specs.declared.Finding.{Finding}
 use Rattle.records.specs.declared.Finding.the-variants.{Fit, Unfit}
 use Rattle.records.specs.declared.BookCheck.{BookCheck}
@@ -53,7 +54,7 @@ module _ (B : Type 0) where
 
   form-only : (r : Record) → Onlys (formFinding Current r)
   unfolding formFinding
-  form-only r = row-only (kindRow Current r) Kind _ (λ _ n. absurd (omega arith)) (row-only (originRow r) Origin _ (λ _ n. absurd (omega arith)) (row-only (pieceRow r) PieceNumber _ (λ _ n. absurd (omega arith)) (row-only (orderRow r) Order _ (λ _ n. absurd (omega arith)) fit-only)))
+  form-only r = row-only (kindRow Current r) Kind _ (λ _ n. absurd (omega arith)) (row-only (originRow r) Origin _ (λ _ n. absurd (omega arith)) (row-only (pieceRow r) PieceNumber _ (λ _ n. absurd (omega arith)) (row-only (voidRow r) VoidForm _ (λ _ n. absurd (omega arith)) (row-only (orderRow r) Order _ (λ _ n. absurd (omega arith)) fit-only))))
 
   record-only : (s : List ℕ) (i : ℕ) → Onlys (recordFinding Current s i)
   unfolding recordFinding
@@ -89,7 +90,7 @@ module _ (B : Type 0) where
   by-only : (s : List ℕ) (k : BookCheck) → BookOnly k → OutcomeOnly (byBook s [] k)
   unfolding byBook byClaims byRuns claimsCheck scan
   by-only s (book.Refused r i) p = p
-  by-only s (book.Accepted n) p = runs-only (leb (shortestClash n (entries s)) (records s)) (shortestClash n (entries s) - 1) n (length (visitsOf n (edges n s))) (length (on.shadows (visitsOf n (edges n s))))
+  by-only s (book.Accepted n) p = runs-only (leb (shortestClash (marked s) n (entries s)) (records s)) (shortestClash (marked s) n (entries s) - 1) n (length (visitsOf n (edges n s))) (length (on.shadows (visitsOf n (edges n s))))
 
   if-only : (b : Bool) (x : Refusal) (o : Outcome) → (b ≡ true → Only x) → (b ≡ false → OutcomeOnly o) → OutcomeOnly (refuseIf b x o)
   unfolding refuseIf

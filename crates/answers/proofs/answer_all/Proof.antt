@@ -9,7 +9,7 @@ use Rattle.answers.proofs.answer_all.Statement.{statement}
 use Rattle.answers.proofs.answer_all.Tie as tie
 
 returns : tie.Need-returns
-returns c = answers-none _ _ _ _ (omega arith) (c .before .before .before .before .before .before .before .pre .rooms)
+returns c = answers-none _ _ _ _ (omega arith) (c .before .before .before .before .before .before .before .before .pre .rooms)
 
 slice-aggregate-complete : tie.Need-slice-aggregate-complete
 slice-aggregate-complete c = search needs
@@ -22,9 +22,9 @@ slice-aggregate-complete-3 c = search needs
 
 complete-requires : tie.Need-complete-requires
 complete-requires c κs =
-    let s = c .before .before .before .before .before .before .before .before .before .before .before .pre in
+    let s = c .before .before .before .before .before .before .before .before .before .before .before .before .pre in
     let S = settleable _ _ (s .sound) in
-    (S .bounded, S .ordered, s .edged, search needs, search needs, search needs)
+    (S .bounded, s .void .0, S .ordered, s .edged, search needs, search needs, search needs)
 
 slice-aggregate-answer-each : tie.Need-slice-aggregate-answer-each
 slice-aggregate-answer-each c = search needs
@@ -37,13 +37,14 @@ slice-aggregate-answer-each-3 c = search needs
 
 answer-each-requires : tie.Need-answer-each-requires
 answer-each-requires c κs =
-    let s = c .before .before .before .before .before .before .before .before .before .before .before .before .before .before .before .before .before .before .before .before .before .pre in
+    let s = c .before .before .before .before .before .before .before .before .before .before .before .before .before .before .before .before .before .before .before .before .before .before .pre in
     let C = c .before .before .before .before .before .before .before .before .before .complete .ensures in
     record {
       n = _;
       small = settleable _ _ (s .sound) .bounded .fits;
       fit = s .fit;
       rooms = s .rooms;
+      voids-sized = s .void .0 .sized;
       d-sized = s .parts .sized;
       u-sized = C .0 .sized;
       p-sized = C .1 .sized;
@@ -68,11 +69,11 @@ same-length-4 c = search needs
 
 returns-2 : tie.Need-returns-2
 returns-2 c =
-    let s = c .before .before .before .before .before .before .before .before .before .before .before .before .before .before .before .before .before .before .before .before .before .before .before .before .before .before .pre in
+    let s = c .before .before .before .before .before .before .before .before .before .before .before .before .before .before .before .before .before .before .before .before .before .before .before .before .before .before .before .pre in
     let C = c .before .before .before .before .before .before .before .before .before .before .before .before .before .before .complete .ensures in
     let A = c .before .before .before .before .answer-each in
-    answers-all _ _ _ _ _ (sym (c .before .some-restricted .ensures) ∙ not-true _ (c .if2 .taken)) (A .kept .1 .1 .1 .1 .1 .1 .1 .0 ∙ s .rooms)
-    (A .ensures .are _ _ (settleable _ _ (s .sound) .bounded) (record { parts = s .parts; wholes = C .0; away = C .1; toward = s .toward; outside = C .2 }) (s .fit))
+    answers-all _ _ _ _ _ (sym (c .before .some-restricted .ensures) ∙ not-true _ (c .if2 .taken)) (A .kept .1 .1 .1 .1 .1 .1 .1 .1 .0 ∙ s .rooms)
+    (rw (s .void .1) at (A .ensures .are _ _ (settleable _ _ (s .sound) .bounded) (record { whole = s .void .0 .whole; free = s .free; parts = s .parts; wholes = C .0; away = C .1; toward = s .toward; outside = C .2 }) (s .fit)))
 
 slice-aggregate-answer-restricted : tie.Need-slice-aggregate-answer-restricted
 slice-aggregate-answer-restricted c = search needs
@@ -85,13 +86,14 @@ slice-aggregate-answer-restricted-3 c = search needs
 
 answer-restricted-requires : tie.Need-answer-restricted-requires
 answer-restricted-requires c κs =
-    let s = c .before .before .before .before .before .before .before .before .before .before .before .before .before .before .before .before .before .before .before .before .before .before .before .before .before .before .before .before .before .before .before .before .before .pre in
+    let s = c .before .before .before .before .before .before .before .before .before .before .before .before .before .before .before .before .before .before .before .before .before .before .before .before .before .before .before .before .before .before .before .before .before .before .pre in
     let C = c .before .before .before .before .before .before .before .before .before .before .before .before .before .before .before .before .before .before .before .before .before .complete .ensures in
     record {
       sound = s .sound;
+      void = s .void .0;
       free = s .free;
       fit = s .fit;
-      rooms = c .before .before .before .before .before .before .before .before .before .before .before .answer-each .kept .1 .1 .1 .1 .1 .1 .1 .0 ∙ s .rooms;
+      rooms = c .before .before .before .before .before .before .before .before .before .before .before .answer-each .kept .1 .1 .1 .1 .1 .1 .1 .1 .0 ∙ s .rooms;
       e-sized = s .edged .sized;
       d-sized = s .parts .sized;
       t-sized = s .toward .sized;
@@ -114,13 +116,13 @@ same-length-8 c = search needs
 
 returns-3 : tie.Need-returns-3
 returns-3 c =
-    let s = c .before .before .before .before .before .before .before .before .before .before .before .before .before .before .before .before .before .before .before .before .before .before .before .before .before .before .before .before .before .before .before .before .before .before .before .before .before .before .before .before .before .before .before .before .before .pre in
+    let s = c .before .before .before .before .before .before .before .before .before .before .before .before .before .before .before .before .before .before .before .before .before .before .before .before .before .before .before .before .before .before .before .before .before .before .before .before .before .before .before .before .before .before .before .before .before .before .pre in
     let C = c .before .before .before .before .before .before .before .before .before .before .before .before .before .before .before .before .before .before .before .before .before .before .before .before .before .before .before .before .before .before .before .before .before .complete .ensures in
     let A = c .before .before .before .before .before .before .before .before .before .before .before .before .before .before .before .before .before .before .before .before .before .before .before .answer-each in
     let R = c .before .before .before .before .before .before .before .before .before .before .before .answer-restricted in
-    answers-both _ _ _ _ _ _ (s .fit) (R .kept .1 .1 .1 .1 .1 .1 .1 .1 .1 .0 ∙ A .kept .1 .1 .1 .1 .1 .1 .1 .0 ∙ s .rooms)
-    (A .ensures .are _ _ (settleable _ _ (s .sound) .bounded) (record { parts = s .parts; wholes = C .0; away = C .1; toward = s .toward; outside = C .2 }) (s .fit))
-    (R .ensures)
+    answers-both _ _ _ _ _ _ (s .fit) (R .kept .1 .1 .1 .1 .1 .1 .1 .1 .1 .1 .0 ∙ A .kept .1 .1 .1 .1 .1 .1 .1 .1 .0 ∙ s .rooms)
+    (rw (s .void .1) at (A .ensures .are _ _ (settleable _ _ (s .sound) .bounded) (record { whole = s .void .0 .whole; free = s .free; parts = s .parts; wholes = C .0; away = C .1; toward = s .toward; outside = C .2 }) (s .fit)))
+    (rw (s .void .1) at (R .ensures))
 
 pub answer-all-spec : {M : Type 1} → statement M
 answer-all-spec =

@@ -8,7 +8,7 @@ derived-requires : tie.Need-derived-requires
 derived-requires c κs = search needs
 
 returns : tie.Need-returns
-returns c = answered-follows _ _ _ _ _ _ _ _ _ (c .if1 .taken) (c .before .derived .ensures)
+returns c = answered-follows _ _ _ _ _ _ _ _ _ _ (c .if1 .taken) (c .before .derived .ensures)
 
 sub-derived : tie.Need-sub-derived
 sub-derived c = search needs
@@ -18,13 +18,13 @@ derived-requires-2 c κs = search needs
 
 returns-2 : tie.Need-returns-2
 returns-2 c =
-    let P = c .before .before .before .before .before .before .before .before .before .pre in
-    answered-denied _ _ _ _ _ _ _ _ (P .0) (P .1) _ _ (c .before .before .if1 .left) (c .before .before .before .derived .ensures) (c .before .derived2 .ensures) (c .if2 .taken)
+    let P = c .before .before .before .before .before .before .before .before .before .before .pre in
+    answered-denied _ _ _ _ _ _ _ _ _ (P .0) (P .1) _ _ (c .before .before .if1 .left) (c .before .before .before .derived .ensures) (c .before .derived2 .ensures) (c .if2 .taken)
 
 returns-3 : tie.Need-returns-3
 returns-3 c =
-    let P = c .before .before .before .before .before .before .before .before .before .pre in
-    answered-open _ _ _ _ _ _ _ _ (P .0) (P .1) _ _ (c .before .before .if1 .left) (c .before .before .before .derived .ensures) (c .before .derived2 .ensures) (c .if2 .left)
+    let P = c .before .before .before .before .before .before .before .before .before .before .pre in
+    answered-open _ _ _ _ _ _ _ _ _ (P .0) (P .1) _ _ (c .before .before .if1 .left) (c .before .before .before .derived .ensures) (c .before .derived2 .ensures) (c .if2 .left)
 
 pub answer-to-spec : {M : Type 1} → statement M
 answer-to-spec =

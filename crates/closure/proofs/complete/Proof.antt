@@ -19,7 +19,7 @@ diagonal-requires : tie.Need-diagonal-requires
 diagonal-requires c κs = search needs
 
 join-wholes-requires : tie.Need-join-wholes-requires
-join-wholes-requires c κs = (search needs, search needs, search needs, edges-rise _ _ (c .before .before .before .before .before .before .before .before .before .before .before .before .before .before .before .before .before .before .before .before .before .before .before .before .before .before .pre .0) _ (c .before .before .before .before .before .before .before .before .before .before .before .before .before .before .before .before .before .before .before .before .before .before .before .before .before .before .pre .2) (c .before .before .before .before .before .before .before .before .before .before .before .before .before .before .before .before .before .before .before .before .before .before .before .before .before .before .pre .1))
+join-wholes-requires c κs = (search needs, search needs, search needs, edges-rise _ _ (c .before .before .before .before .before .before .before .before .before .before .before .before .before .before .before .before .before .before .before .before .before .before .before .before .before .before .before .pre .0) _ (c .before .before .before .before .before .before .before .before .before .before .before .before .before .before .before .before .before .before .before .before .before .before .before .before .before .before .before .pre .3) (c .before .before .before .before .before .before .before .before .before .before .before .before .before .before .before .before .before .before .before .before .before .before .before .before .before .before .before .pre .2))
 
 same-length : tie.Need-same-length
 same-length c = search needs
@@ -32,8 +32,8 @@ same-length-3 c = search needs
 
 returns : tie.Need-returns
 returns c =
-    let P = c .before .before .before .before .before .before .before .before .before .before .before .before .before .before .before .before .before .before .before .before .before .before .before .before .before .before .before .before .before .pre in (
-      whole-holds _ _ (length (c .before .before .before .before .before .before .before .before .before .before .before .before .before .before .before .before .outing .last .1 .1 .1 .1 .0)) (c .before .before .before .before .before .before .before .before .before .before .clear .ensures) (search needs) (c .before .before .before .before .before .before .diagonal .ensures) (c .before .before .join-wholes .ensures _ (wholes-reached _ _ (P .0) _ (P .2))),
+    let P = c .before .before .before .before .before .before .before .before .before .before .before .before .before .before .before .before .before .before .before .before .before .before .before .before .before .before .before .before .before .before .pre in (
+      whole-holds _ _ (length (c .before .before .before .before .before .before .before .before .before .before .before .before .before .before .before .before .outing .last .1 .1 .1 .1 .1 .0)) (c .before .before .before .before .before .before .before .before .before .before .clear .ensures) (search needs) (c .before .before .before .before .before .before .diagonal .ensures) (c .before .before .join-wholes .ensures _ (wholes-reached _ _ (P .0) _ (P .3))),
       c .before .before .before .before .before .before .before .before .before .before .before .before .before .before .before .before .before .before .before .before .before .before .parting .ensures,
       c .before .before .before .before .before .before .before .before .before .before .before .before .before .before .before .before .outing .ensures,
     )

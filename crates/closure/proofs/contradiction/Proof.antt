@@ -5,20 +5,21 @@ use Prim.Native.Nat.{_+_, _*_, _/_, _-_, _≤_}
 use mathlib.Core.Path.{_≡_, refl, sym}
 use lib.ListN.{length}
 use lib.Seq.{length-take-le}
+use Rattle.closure.specs.Void.{voidOf}
 use Rattle.closure.proofs.Halving.{run-bounded, run-ordered, run-roomy, roomy-same, Halving, halving-start, halving-high, halving-low, halving-done}
 use Rattle.closure.proofs.contradiction.Statement.{statement}
 use Rattle.closure.proofs.contradiction.Tie as tie
 
 abbrev Inv-loop : tie.InvT-loop
-Inv-loop book n e₀ d₀ t₀ parens₀ marks₀ shadows₀ places₀ low₀ high₀ e d t parens marks shadows places low high =
+Inv-loop book n voids e₀ d₀ t₀ parens₀ marks₀ shadows₀ places₀ low₀ high₀ e d t parens marks shadows places low high =
     (length e ≡ length e₀) × (length d ≡ length d₀) × (length t ≡ length t₀) × (length parens ≡ length parens₀) × (length marks ≡ length marks₀)
-    × (length shadows ≡ length shadows₀) × (length places ≡ length places₀) × Halving n book low high
+    × (length shadows ≡ length shadows₀) × (length places ≡ length places₀) × Halving (voidOf voids) n book low high
 
 abbrev μ-loop : tie.MeasureT-loop
-μ-loop book n e₀ d₀ t₀ parens₀ marks₀ shadows₀ places₀ low₀ high₀ e d t parens marks shadows places low high = high - low
+μ-loop book n voids e₀ d₀ t₀ parens₀ marks₀ shadows₀ places₀ low₀ high₀ e d t parens marks shadows places low high = high - low
 
 loop-holds : tie.Need-loop-holds Inv-loop μ-loop
-loop-holds c = (refl, refl, refl, refl, refl, refl, refl, halving-start _ _ (c .before .before .before .before .before .before .before .before .pre .6))
+loop-holds c = (refl, refl, refl, refl, refl, refl, refl, halving-start _ _ _ (c .before .before .before .before .before .before .before .before .before .pre .0) (c .before .before .before .before .before .before .before .before .before .pre .7 .whole) (c .before .before .before .before .before .before .before .before .before .pre .6))
 
 add-loop : tie.Need-add-loop Inv-loop μ-loop
 add-loop c = search needs
@@ -33,12 +34,12 @@ slice-aggregate-begin : tie.Need-slice-aggregate-begin Inv-loop μ-loop
 slice-aggregate-begin c =
     let L = c .before .before .loop in
     let up = L .inv .7 .upto in
-    sym (length-take-le (6 * ((L .low + L .high) / 2)) (c .before .before .before .before .before .before .before .before .before .before .before .args .book .now) (omega arith))
+    sym (length-take-le (6 * ((L .low + L .high) / 2)) (c .before .before .before .before .before .before .before .before .before .before .before .before .args .book .now) (omega arith))
 
 begin-requires : tie.Need-begin-requires Inv-loop μ-loop
 begin-requires c κs =
     let L = c .before .before .before .before .before .before .before .before .before .loop in
-    let S = c .before .before .before .before .before .before .before .before .before .before .before .before .before .before .before .before .before .before in
+    let S = c .before .before .before .before .before .before .before .before .before .before .before .before .before .before .before .before .before .before .before in
     let s = S .args .book .now in
     let mid = (L .low + L .high) / 2 in
     let up = L .inv .7 .upto in
@@ -49,6 +50,7 @@ begin-requires c κs =
       search needs,
       search needs,
       search needs,
+      S .pre .7,
     )
 
 loop-less : tie.Need-loop-less Inv-loop μ-loop
@@ -65,7 +67,7 @@ loop-again c =
       search needs,
       search needs,
       search needs,
-      halving-high _ _ (L .low) (L .high) mid (L .inv .7) _ (c .before .before .before .before .before .before .before .before .before .before .before .before .before .before .before .begin .ensures .is) (omega arith) (omega arith) (c .if1 .taken),
+      halving-high _ _ _ (L .low) (L .high) mid (L .inv .7) _ (c .before .before .before .before .before .before .before .before .before .before .before .before .before .before .before .begin .ensures .is) (omega arith) (omega arith) (c .if1 .taken),
     )
 
 loop-less-2 : tie.Need-loop-less-2 Inv-loop μ-loop
@@ -82,7 +84,7 @@ loop-again-2 c =
       search needs,
       search needs,
       search needs,
-      halving-low _ _ (L .low) (L .high) mid (L .inv .7) _ (c .before .before .before .before .before .before .before .before .before .before .before .before .before .before .before .begin .ensures .is) (omega arith) (omega arith) (c .if1 .left),
+      halving-low _ _ _ (L .low) (L .high) mid (L .inv .7) _ (c .before .before .before .before .before .before .before .before .before .before .before .before .before .before .before .begin .ensures .is) (omega arith) (omega arith) (c .if1 .left),
     )
 
 same-length : tie.Need-same-length Inv-loop μ-loop
@@ -109,7 +111,7 @@ same-length-7 c = search needs
 returns : tie.Need-returns Inv-loop μ-loop
 returns c =
     let L = c .before .loop in
-    halving-done _ _ (L .low) (L .high) (c .before .before .before .before .before .before .before .before .before .before .pre .0) (omega arith) (L .inv .7)
+    halving-done _ _ _ (L .low) (L .high) (c .before .before .before .before .before .before .before .before .before .before .before .pre .0) (c .before .before .before .before .before .before .before .before .before .before .before .pre .7 .whole) (omega arith) (L .inv .7)
 
 pub contradiction-spec : {M : Type 1} → statement M
 contradiction-spec =

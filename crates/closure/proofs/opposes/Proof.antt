@@ -1,31 +1,60 @@
 -- `closure::opposes` meets its contract: by the record's kind. Assumes nothing.
 use native.Mathlib.Omega.{arith}
 use borrow.Author.Needs.{needs}
-use mathlib.Core.Bool.{false}
-use Rattle.closure.proofs.Answering.{opposed-apart, opposed-notpart, opposed-never}
+use mathlib.Core.Path.{refl}
+use Rattle.closure.proofs.Answering.{opposed-part, opposed-apart, opposed-meets, opposed-notpart, opposed-never}
 use Rattle.closure.proofs.opposes.Statement.{statement}
 use Rattle.closure.proofs.opposes.Tie as tie
 
-meet-requires : tie.Need-meet-requires
-meet-requires c κs =
+second-marked-requires : tie.Need-second-marked-requires
+second-marked-requires c κs =
     let e = c .if1 .taken in
-    let w = c .before .before .before .before .pre .2 (omega arith) (omega arith) in
-    (search needs, search needs, w .0, w .1)
+    let w = c .before .before .before .before .before .pre .3 (omega arith) (omega arith) in
+    (search needs, w .0, w .1)
 
 returns : tie.Need-returns
-returns c = opposed-apart _ _ _ _ (c .before .if1 .taken) (c .meet .ensures)
+returns c = opposed-part _ _ _ _ _ (c .before .if1 .taken) (c .second-marked .ensures)
 
-test-requires : tie.Need-test-requires
-test-requires c κs =
+meet-requires : tie.Need-meet-requires
+meet-requires c κs =
     let e = c .if2 .taken in
-    let w = c .before .before .before .before .before .before .pre .2 (omega arith) (omega arith) in
-    (search needs, w .1, w .0)
+    let w = c .before .before .before .before .before .before .before .pre .3 (omega arith) (omega arith) in
+    (search needs, search needs, w .0, w .1)
 
 returns-2 : tie.Need-returns-2
-returns-2 c = opposed-notpart _ _ _ _ (c .before .before .before .if1 .left) (c .before .if2 .taken) (c .test .ensures)
+returns-2 c = opposed-apart _ _ _ _ _ (c .before .if2 .taken) (c .meet .ensures)
+
+either-marked-requires : tie.Need-either-marked-requires
+either-marked-requires c κs =
+    let e = c .if3 .taken in
+    let w = c .before .before .before .before .before .before .before .before .before .pre .3 (omega arith) (omega arith) in
+    (search needs, w .0, w .1)
 
 returns-3 : tie.Need-returns-3
-returns-3 c = opposed-never _ _ _ false (c .before .before .if1 .left) (c .if2 .left)
+returns-3 c = opposed-meets _ _ _ _ _ (c .before .if3 .taken) (c .either-marked .ensures)
+
+part-or-marked-requires : tie.Need-part-or-marked-requires
+part-or-marked-requires c κs =
+    let e = c .if4 .taken in
+    let w = c .before .before .before .before .before .before .before .before .before .before .before .pre .3 (omega arith) (omega arith) in
+    (search needs, search needs, w .0, w .1)
+
+returns-4 : tie.Need-returns-4
+returns-4 c = opposed-notpart _ _ _ _ _ (c .before .if4 .taken) (c .part-or-marked .ensures)
+
+returns-5 : tie.Need-returns-5
+returns-5 c = opposed-never _ _ _ _ _ (c .before .before .before .before .before .before .if1 .left) (c .before .before .before .before .if2 .left) (c .before .before .if3 .left) (c .if4 .left) refl
 
 pub opposes-spec : {M : Type 1} → statement M
-opposes-spec = tie.close (tie.spec meet-requires returns test-requires returns-2 returns-3)
+opposes-spec =
+    tie.close
+    (tie.spec
+    second-marked-requires
+    returns
+    meet-requires
+    returns-2
+    either-marked-requires
+    returns-3
+    part-or-marked-requires
+    returns-4
+    returns-5)

@@ -12,14 +12,15 @@ begin-requires c κs = search needs
 contradiction-requires : tie.Need-contradiction-requires
 contradiction-requires c κs =
     let B = c .before .before .before .before .before .before .before .before .before .before .before .before .before .before .before .before .before .before .before .before .before .before .begin in
-    let P = c .before .before .before .before .before .before .before .before .before .before .before .before .before .before .before .before .before .before .before .before .before .before .before .before .before .before .before .before .before .before .before .before .before .before .before .before .before .before .pre in (
+    let P = c .before .before .before .before .before .before .before .before .before .before .before .before .before .before .before .before .before .before .before .before .before .before .before .before .before .before .before .before .before .before .before .before .before .before .before .before .before .before .before .pre in (
       P .0 .bounded,
       P .0 .ordered,
-      roomy-same (B .kept .1 .1 .1 .1 .1 .0) (B .kept .1 .1 .1 .1 .1 .1 .0) (B .kept .1 .1 .1 .1 .1 .1 .1 .0) (B .kept .1 .1 .1 .1 .1 .1 .1 .1 .0) (P .0 .roomy),
+      roomy-same (B .kept .1 .1 .1 .1 .1 .1 .0) (B .kept .1 .1 .1 .1 .1 .1 .1 .0) (B .kept .1 .1 .1 .1 .1 .1 .1 .1 .0) (B .kept .1 .1 .1 .1 .1 .1 .1 .1 .1 .0) (P .0 .roomy),
       search needs,
       search needs,
       search needs,
       sym (B .ensures .is) ∙ c .before .before .before .before .before .before .before .if1 .taken,
+      P .4,
     )
 
 same-length : tie.Need-same-length

@@ -1,6 +1,7 @@
 -- `convert::settle` meets its contract. Assumes nothing.
 use borrow.Author.Needs.{needs}
-use Rattle.convert.proofs.Writes.{settleable-former}
+use Rattle.closure.proofs.VoidRows.{no-voids}
+use Rattle.convert.proofs.Writes.{no-marks, settleable-former}
 use Rattle.convert.proofs.settle.Statement.{statement}
 use Rattle.convert.proofs.settle.Tie as tie
 
@@ -25,12 +26,15 @@ slice-aggregate-settle-6 c = search needs
 slice-aggregate-settle-7 : tie.Need-slice-aggregate-settle-7
 slice-aggregate-settle-7 c = search needs
 
+slice-aggregate-settle-8 : tie.Need-slice-aggregate-settle-8
+slice-aggregate-settle-8 c = search needs
+
 settle-requires : tie.Need-settle-requires
 settle-requires c κs =
-    (settleable-former _ _ (c .before .before .before .before .before .before .before .before .pre), search needs, search needs, search needs)
+    (settleable-former _ _ (c .before .before .before .before .before .before .before .before .before .pre), search needs, search needs, search needs, no-voids)
 
 returns : tie.Need-returns
-returns c = let S = c .before .before .before .before .before .before .before .settle .ensures in record { free = λ a b q. S .free a b q .is; clash = S .clash }
+returns c = let S = c .before .before .before .before .before .before .before .settle .ensures in record { free = λ a b q. rw no-marks at (S .free a b q .is); clash = λ p q. rw no-marks at (S .clash p q) }
 
 pub settle-spec : {M : Type 1} → statement M
 settle-spec =
@@ -43,5 +47,6 @@ settle-spec =
     slice-aggregate-settle-5
     slice-aggregate-settle-6
     slice-aggregate-settle-7
+    slice-aggregate-settle-8
     settle-requires
     returns)

@@ -22,7 +22,7 @@ returns-2 : tie.Need-returns-2
 returns-2 c = admits-former _ (c .before .enum-told .given .1) (sym (c .before .before .before .before .states-fact .ensures) ∙ c .before .before .before .if1 .left)
 
 returns-3 : tie.Need-returns-3
-returns-3 c = admits-current _ (c .enum-told2 .given .1) (sym (c .before .before .before .states-fact .ensures) ∙ c .before .before .if1 .left)
+returns-3 c = admits-current _ (c .before .enum-told2 .given .1) (sym (c .before .before .before .before .states-fact .ensures) ∙ c .before .before .before .if1 .left)
 
 pub admits-spec : {M : Type 1} → statement M
 admits-spec =

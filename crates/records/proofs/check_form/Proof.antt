@@ -2,7 +2,7 @@
 use mathlib.Core.Path.{sym, _∙_}
 use native.Mathlib.Omega.{arith}
 use borrow.Author.Tests.{not-true, not-false}
-use Rattle.records.proofs.Rows.{no-kind, unknown, too-large, not-part, ordered, disordered}
+use Rattle.records.proofs.Rows.{no-kind, unknown, too-large, marks-one, not-part, ordered, disordered}
 use borrow.Author.Needs.{needs}
 use Rattle.records.proofs.check_form.Statement.{statement}
 use Rattle.records.proofs.check_form.Tie as tie
@@ -22,14 +22,22 @@ largest-named-requires c κs = search needs
 returns-3 : tie.Need-returns-3
 returns-3 c = sym (too-large _ _ (sym (c .before .before .before .before .before .admits .ensures) ∙ not-false _ (c .before .before .before .before .if1 .left)) (omega arith) (omega arith))
 
+check-mark-requires : tie.Need-check-mark-requires
+check-mark-requires c κs = search needs
+
 returns-4 : tie.Need-returns-4
-returns-4 c = sym (not-part _ _ (sym (c .before .before .before .before .before .before .before .admits .ensures) ∙ not-false _ (c .before .before .before .before .before .before .if1 .left)) (omega arith) (omega arith) (λ e. omega arith))
+returns-4 c =
+    c .check-mark .ensures
+    ∙ sym (marks-one _ _ (sym (c .before .before .before .before .before .before .before .before .admits .ensures) ∙ not-false _ (c .before .before .before .before .before .before .before .if1 .left)) (omega arith) (omega arith) (omega arith))
 
 returns-5 : tie.Need-returns-5
-returns-5 c = sym (ordered _ _ (sym (c .before .before .before .before .before .before .before .before .before .admits .ensures) ∙ not-false _ (c .before .before .before .before .before .before .before .before .if1 .left)) (omega arith) (omega arith) (omega arith) (omega arith))
+returns-5 c = sym (not-part _ _ (sym (c .before .before .before .before .before .before .before .before .before .admits .ensures) ∙ not-false _ (c .before .before .before .before .before .before .before .before .if1 .left)) (omega arith) (omega arith) (λ e. omega arith) (λ e. omega arith))
 
 returns-6 : tie.Need-returns-6
-returns-6 c = sym (disordered _ _ (sym (c .before .before .before .before .before .before .before .before .before .admits .ensures) ∙ not-false _ (c .before .before .before .before .before .before .before .before .if1 .left)) (omega arith) (omega arith) (omega arith) (omega arith))
+returns-6 c = sym (ordered _ _ (sym (c .before .before .before .before .before .before .before .before .before .before .before .admits .ensures) ∙ not-false _ (c .before .before .before .before .before .before .before .before .before .before .if1 .left)) (omega arith) (omega arith) (λ e. omega arith) (omega arith) (omega arith))
+
+returns-7 : tie.Need-returns-7
+returns-7 c = sym (disordered _ _ (sym (c .before .before .before .before .before .before .before .before .before .before .before .admits .ensures) ∙ not-false _ (c .before .before .before .before .before .before .before .before .before .before .if1 .left)) (omega arith) (omega arith) (λ e. omega arith) (omega arith) (omega arith))
 
 pub check-form-spec : {M : Type 1} → statement M
 check-form-spec =
@@ -40,6 +48,8 @@ check-form-spec =
     returns-2
     largest-named-requires
     returns-3
+    check-mark-requires
     returns-4
     returns-5
-    returns-6)
+    returns-6
+    returns-7)
