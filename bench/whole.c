@@ -2,10 +2,9 @@
 #define _POSIX_C_SOURCE 199309L
 #include "books.h"
 #include "plain.h"
+#include "times.h"
 
 #include <stdio.h>
-#include <stdlib.h>
-#include <time.h>
 
 enum { MOST = 101 };
 
@@ -21,24 +20,10 @@ typedef piecebook_result call(const uint8_t *, size_t, const uint8_t *, size_t, 
 
 static double once(call *f, const sample *s, written *w)
 {
-    struct timespec start, end;
-    clock_gettime(CLOCK_PROCESS_CPUTIME_ID, &start);
+    double start = now();
     w->result = f(s->book, s->records * 6, s->asked, s->claims * 6, w->parentheses, PIECEBOOK_PARENTHESES, w->marks, PIECEBOOK_MARKS,
                   w->shadows, PIECEBOOK_SHADOWS, w->places, PIECEBOOK_PLACES, w->answers, sizeof w->answers);
-    clock_gettime(CLOCK_PROCESS_CPUTIME_ID, &end);
-    return (end.tv_sec - start.tv_sec) * 1e6 + (end.tv_nsec - start.tv_nsec) / 1e3;
-}
-
-static int rising(const void *x, const void *y)
-{
-    double a = *(const double *)x, b = *(const double *)y;
-    return (a > b) - (a < b);
-}
-
-static double median(double *times, unsigned runs)
-{
-    qsort(times, runs, sizeof *times, rising);
-    return times[runs / 2];
+    return now() - start;
 }
 
 static int same(const written *x, const written *y)

@@ -3,34 +3,14 @@
 #define _POSIX_C_SOURCE 199309L
 #include "books.h"
 #include "plain.h"
+#include "times.h"
 
 #include <stdio.h>
-#include <stdlib.h>
-#include <time.h>
 
 enum { RUNS = 41 };
 
 static uint8_t parentheses[PIECEBOOK_PARENTHESES], marks[PIECEBOOK_MARKS], answers[4096], area[PIECEBOOK_AREA];
 static uint16_t shadows[PIECEBOOK_SHADOWS], places[PIECEBOOK_PLACES];
-
-static double now(void)
-{
-    struct timespec t;
-    clock_gettime(CLOCK_PROCESS_CPUTIME_ID, &t);
-    return t.tv_sec * 1e6 + t.tv_nsec / 1e3;
-}
-
-static int rising(const void *x, const void *y)
-{
-    double a = *(const double *)x, b = *(const double *)y;
-    return (a > b) - (a < b);
-}
-
-static double median(double *times)
-{
-    qsort(times, RUNS, sizeof *times, rising);
-    return times[RUNS / 2];
-}
 
 static void measure(const char *name, const sample *s)
 {
@@ -62,8 +42,8 @@ static void measure(const char *name, const sample *s)
         }
         add[i] = t1 - t0, ask[i] = t2 - t1, fresh[i] = t3 - t2, answered[i] = t4 - t3, plain[i] = t5 - t4, withdraw[i] = t6 - t5;
     }
-    double index = median(fresh), answer = median(answered), c = median(plain);
-    double adding = median(add), withdrawing = median(withdraw), asking = median(ask);
+    double index = median(fresh, RUNS), answer = median(answered, RUNS), c = median(plain, RUNS);
+    double adding = median(add, RUNS), withdrawing = median(withdraw, RUNS), asking = median(ask, RUNS);
     printf("working %s: addition %.0f us, %.2f of an index call; withdrawal %.0f us, %.2f; claim %.0f us, %.2f of an answer call; C index %.0f us\n", name,
            adding, adding / index, withdrawing, withdrawing / index, asking, asking / answer, c);
 }

@@ -48,6 +48,20 @@ piecebook_result piecebook_index(const uint8_t *book, size_t book_length,
                                  uint8_t *parentheses, size_t parentheses_length, uint8_t *marks, size_t marks_length,
                                  uint16_t *shadows, size_t shadows_length, uint16_t *places, size_t places_length);
 
+/* The grids of a book of at most 64 pieces, one for each kind of claim: bit b of row a is set where the claim about pieces a and b follows from all
+   facts; bits of pieces beyond the book are zero. number and place are those of piecebook_index, but that the buffers are the call's own, or 16 and 0
+   for an accepted book of more than 64 pieces. A refusal gives four zero grids. */
+typedef struct {
+    size_t number;
+    size_t place;
+    uint64_t part[64];
+    uint64_t apart[64];
+    uint64_t meets[64];
+    uint64_t notpart[64];
+} piecebook_grids;
+
+piecebook_grids piecebook_grid(const uint8_t *book, size_t book_length);
+
 /* A working book: records are added and withdrawn one at a time, and claims are answered, each as a fresh call on the records then standing would
    have it. The caller keeps these counts and an area of at least PIECEBOOK_AREA bytes, which holds the standing records and zeros behind them. */
 #define PIECEBOOK_AREA 49152

@@ -6,6 +6,7 @@ mod days;
 mod piecebook;
 mod reference;
 mod rules;
+mod sheets;
 
 use books::*;
 use piecebook::{Converted, Outcome, Parts};
@@ -294,6 +295,21 @@ impl Tally {
             self.count(missing.then(|| format!("number {number} never occurred on a working book")));
         }
         println!("working books: {count} days; {} failed; {:.1} s", self.failed - failed, start.elapsed().as_secs_f64());
+    }
+
+    /// The grids of books of few pieces.
+    fn grids(&mut self, count: usize) {
+        let start = Instant::now();
+        let failed = self.failed;
+        let mut numbers = [0; 20];
+        for wrong in sheets::compare_all(&mut Random(64), count, &mut numbers) {
+            self.count(wrong.map(|wrong| format!("grids, {wrong}")));
+        }
+        for number in [0, 14, 16] {
+            let missing = numbers[number] == 0;
+            self.count(missing.then(|| format!("number {number} never occurred with grids")));
+        }
+        println!("grids: {count} books, {} accepted; {} failed; {:.1} s", numbers[0], self.failed - failed, start.elapsed().as_secs_f64());
     }
 
     fn try_conversion(&mut self, group: &str, number: usize, book: &[u8], room: usize) -> Converted {
@@ -802,6 +818,7 @@ fn run(times: usize) -> bool {
     }
     if !cfg!(plain) {
         tally.days(60 * times);
+        tally.grids(600 * times);
     }
     tally.all_occurred();
     println!("{} passed, {} failed", tally.passed, tally.failed);

@@ -90,6 +90,24 @@ pub fn convert(book: &[u8], out: &mut [u8]) -> Converted {
     unsafe { piecebook_convert(book.as_ptr(), book.len(), out.as_mut_ptr(), out.len()) }
 }
 
+/// Four grids of bits, one for each kind of claim; `number` and `place` as for an index, or 16 for more than 64 pieces.
+#[repr(C)]
+#[derive(Clone, Copy, Debug, PartialEq, Eq)]
+pub struct Grids {
+    pub number: usize,
+    pub place: usize,
+    pub part: [u64; 64],
+    pub apart: [u64; 64],
+    pub meets: [u64; 64],
+    pub notpart: [u64; 64],
+}
+
+/// The grids of a book of at most 64 pieces.
+pub fn grid(book: &[u8]) -> Grids {
+    // SAFETY: as above.
+    unsafe { piecebook_grid(book.as_ptr(), book.len()) }
+}
+
 /// The least length of a working book's record area.
 pub const AREA: usize = 49152;
 
@@ -144,6 +162,8 @@ extern "C" {
     fn piecebook_withdraw(state: *mut Working, area: *mut u8, area_length: usize, record_number: usize) -> WorkingOutcome;
 
     fn piecebook_ask(state: *mut Working, area: *const u8, area_length: usize, claim: *const u8, claim_length: usize) -> WorkingOutcome;
+
+    fn piecebook_grid(book: *const u8, book_length: usize) -> Grids;
 
     fn piecebook_convert(book: *const u8, book_length: usize, out: *mut u8, out_length: usize) -> Converted;
 

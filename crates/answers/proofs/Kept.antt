@@ -53,7 +53,7 @@ module _ (s cs : List ℕ) (l : Lent) (n : ℕ) (p : Passed s cs l n) where
   counted : n ≡ pieceCount s
   counted = accepted s n (p .sound) .count
 
-  claim-in : (i : ℕ) → i < records cs → Within n (claimed cs i)
+  pub claim-in : (i : ℕ) → i < records cs → Within n (claimed cs i)
   unfolding claimed
   claim-in i h = accepted-claims n cs (p .fit) .within i h
 
@@ -65,7 +65,7 @@ module _ (s cs : List ℕ) (l : Lent) (n : ℕ) (p : Passed s cs l n) where
   clashed e = within-clashed settles (marked s) unmarked (leb-true (shortestClash (marked s) n (entries s)) (records s) e)
 
   -- the answer byte of claim i
-  answer-at : (i : ℕ) → i < records cs → getD (indexed s cs n l .answers) i 0 ≡ verdict (marked s) n (pickedFacts s cs i) (claimed cs i)
+  pub answer-at : (i : ℕ) → i < records cs → getD (indexed s cs n l .answers) i 0 ≡ verdict (marked s) n (pickedFacts s cs i) (claimed cs i)
   unfolding indexed front answersTo
   answer-at i h =
       List·getD-append (answersTo s n cs) _ 0 i (omega (arith, tab-length (λ j. verdict (marked s) n (pickedFacts s cs j) (claimed cs j)) 0 (records cs)))

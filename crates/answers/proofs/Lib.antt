@@ -6,5 +6,6 @@ pub mod Judges
 pub mod Answering
 pub mod Calls
 pub mod Empty
+pub mod Fresh
 pub mod Orders
 pub mod Steadies

@@ -1,6 +1,7 @@
 pub mod Outcome
 pub mod Lent
 pub mod Call
+pub mod Fresh
 pub mod Demands
 pub mod Agree
 pub mod Fitting

@@ -10,6 +10,7 @@ ghost use Rattle.closure.specs.Void.{voidOf};
 ghost use Rattle.closure.specs.Answers.{answerByte};
 ghost use Rattle.answers.specs.Lent.{lent};
 ghost use Rattle.answers.specs.Call.{answersTo, Determined};
+ghost use Rattle.answers.specs.Fresh.{freshCall};
 ghost use Rattle.answers.specs.Outcome.{number, place, nodeCount};
 ghost use Rattle.answers.specs.Demands.{Demand2, Demand3, Contradicted};
 ghost use Rattle.answers.specs.Fitting.{Fitting};
@@ -315,4 +316,15 @@ pub fn write_index(
         places,
         &mut answers[..0],
     )
+}
+
+// A fresh call on a run of records: rows 3 to 14.
+pub fn judge_run(run: &[u8]) -> Outcome
+    ensures { λ r. ⌜ r ≡ freshCall (now (run .entry)) [] ⌝ }
+{
+    let mut parens = [0u8; 2560];
+    let mut marks = [0u8; 1280];
+    let mut shadows = [0u16; 8192];
+    let mut places = [0u16; 2048];
+    write_index(run, &mut parens, &mut marks, &mut shadows, &mut places)
 }

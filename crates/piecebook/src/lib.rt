@@ -1,10 +1,11 @@
-// The calls of include/piecebook.h: those of `answers`, `working` and `convert`, with document 01's numbers for an outcome.
+// The calls of include/piecebook.h: those of `answers`, `grids`, `working` and `convert`, with document 01's numbers for an outcome.
 ghost use mathlib.Core.Path.{_≡_};
 ghost use mathlib.Core.List.{[]};
 ghost use Rattle.answers.specs.Lent.{lent};
 ghost use Rattle.answers.specs.Demands.{Demand2, Demand3, Contradicted};
 ghost use Rattle.answers.specs.Fitting.{Fitting};
 ghost use Rattle.piecebook.specs.Exported.{Reported, Exported};
+ghost use Rattle.piecebook.specs.Sheeted.{Sheeted};
 ghost use Rattle.piecebook.specs.OpenBook.{Started, Added, Withdrawn, Answered, Replied, stateOf};
 ghost use Rattle.convert.specs.Converted.{converted};
 ghost use Rattle.convert.specs.Same.{InForce, SameAnswers};
@@ -87,6 +88,39 @@ pub extern "C" fn piecebook_index(
 {
     let outcome = answers::write_index(book, parens, marks, shadows, places);
     result_of(outcome)
+}
+
+// The grids as include/piecebook.h has them.
+#[repr(C)]
+pub struct PiecebookGrids {
+    pub number: usize,
+    pub place: usize,
+    pub part: [u64; 64],
+    pub apart: [u64; 64],
+    pub meets: [u64; 64],
+    pub notpart: [u64; 64],
+}
+
+#[no_mangle]
+pub extern "C" fn piecebook_grid(book: &[u8]) -> PiecebookGrids
+    ensures { λ r. ⌜ Sheeted (now (book .entry)) r ⌝ }
+{
+    let sheet = grids::grid(book);
+    let outcome = sheet.outcome;
+    let grids = sheet.grids;
+    let part = grids.part;
+    let apart = grids.apart;
+    let meets = grids.meets;
+    let notpart = grids.notpart;
+    let result = result_of(outcome);
+    PiecebookGrids {
+        number: result.number,
+        place: result.place,
+        part,
+        apart,
+        meets,
+        notpart,
+    }
 }
 
 // The counts of a working book, which the caller keeps beside its record area.

@@ -39,6 +39,7 @@ pub enum Refusal {
     ClaimFormat,
     ClaimPiece,
     Contradiction,
+    TooManyPieces,
     NotStanding,
     VoidForm,
 }
@@ -89,6 +90,7 @@ pub fn refusal_number(r: Refusal) -> u8
         Refusal::ClaimFormat => 12,
         Refusal::ClaimPiece => 13,
         Refusal::Contradiction => 14,
+        Refusal::TooManyPieces => 16,
         Refusal::NotStanding => 18,
         Refusal::VoidForm => 19,
     }

@@ -13,13 +13,13 @@ use Rattle.answers.specs.declared.Outcome.{Outcome}
 use Rattle.answers.specs.declared.Outcome.the-variants.{Accepted}
 use Rattle.working.specs.declared.Working.{Working}
 use Rattle.working.specs.declared.Asked.{Asked}
-use Rattle.working.specs.Fresh.{freshCall}
+use Rattle.answers.specs.Fresh.{freshCall}
 use Rattle.working.specs.Standing.{standing}
 use Rattle.working.specs.Rows.{byOne, answerOf}
 use Rattle.working.specs.Kept.{Started, Answered}
 use Rattle.working.specs.Sequence.{Stands}
 use Rattle.working.specs.Day.{Operation, Reply, reply, after, replyTo, day, replies, Played, over, adds, withdraws, asks}
-use Rattle.working.proofs.Fresh.{long-lent, fresh-is}
+use Rattle.answers.proofs.Fresh.{long-lent, fresh-is}
 use Rattle.working.proofs.Settling.{ask-passes}
 use Rattle.working.proofs.Sequences.{added, withdrawn, started}
 

@@ -29,7 +29,7 @@ use Rattle.index.specs.Index.{visitsOf}
 use Rattle.index.specs.Parts as on
 use Rattle.answers.specs.declared.Outcome.{Outcome}
 use Rattle.answers.specs.declared.Outcome.the-variants.{Accepted, Refused}
-use Rattle.working.specs.Fresh.{freshCall}
+use Rattle.answers.specs.Fresh.{freshCall}
 use Rattle.working.specs.Standing.{standing, extended}
 use Rattle.working.specs.Rows.{refuseIf, byArea, addOutcome}
 

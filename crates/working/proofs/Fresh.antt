@@ -1,12 +1,11 @@
--- The call with buffers that are long enough is the fresh call. Assumes nothing.
-use mathlib.Core.Path.{_≡_, refl, sym, ap, subst, _∙_}
-use mathlib.Core.Bool.{Bool, true, false, _||_}
+-- The fresh call on a run that is extended or shortened, and the answer byte that the call leaves. Assumes nothing.
+use mathlib.Core.Path.{_≡_, refl, ap, _∙_}
+use mathlib.Core.Bool.{Bool, true, false}
 use mathlib.Core.List.{List, [], _∷_, _++_}
 use Prim.Native.Nat.{ℕ, _+_, _*_, _-_, _/_, _≤_, _<_}
 use native.Mathlib.Omega.{arith}
-use borrow.Author.Tests.{le-ltb}
-use lib.Dec.{ltb, eqb}
-use lib.ListN.{length, getD, take, drop, replicate, length-append, length-drop, List·getD-append}
+use lib.Dec.{eqb}
+use lib.ListN.{length, getD, take, drop, length-append, length-drop, List·getD-append}
 use lib.Seq.{length-take-le}
 use Rattle.lists.proofs.Tabs.{tab-length}
 use Rattle.records.specs.Record.{records}
@@ -14,23 +13,14 @@ use Rattle.records.specs.Refusal.{refusalNumber}
 use Rattle.records.specs.Check.{checkBy, bookCheck}
 use Rattle.records.specs.declared.Refusal.the-variants.{TooManyRecords}
 use Rattle.records.specs.declared.BookCheck.the-variants as book
-use Rattle.answers.specs.Lent.{Lent, lent, shortLent}
+use Rattle.answers.specs.Lent.{Lent}
 use Rattle.lists.specs.Front.{front}
-use Rattle.answers.specs.Call.{outcome, byBook, answersTo, indexed, cleared, left, Determined}
+use Rattle.answers.specs.Call.{byBook, answersTo, indexed, cleared, left}
 use Rattle.answers.specs.declared.Outcome.{Outcome}
 use Rattle.answers.specs.declared.Outcome.the-variants.{Accepted, Refused}
-use Rattle.working.specs.Fresh.{freshCall}
+use Rattle.answers.specs.Fresh.{freshCall}
 use Rattle.working.specs.Standing.{standing, extended, without}
 use Rattle.working.specs.Rows.{answerOf}
-
-pub long-lent : (cs a b c d e : List ℕ) → length a ≡ 2560 → length b ≡ 1280 → length c ≡ 8192 → length d ≡ 2048 → records cs ≤ length e → shortLent cs (lent a b c d e) ≡ false
-unfolding shortLent
-long-lent cs a b c d e p q r t u =
-    rw (le-ltb (length a) 2560 (omega arith), le-ltb (length b) 1280 (omega arith), le-ltb (length c) 8192 (omega arith), le-ltb (length d) 2048 (omega arith), le-ltb (length e) (records cs) u) refl
-
-pub fresh-is : (s cs : List ℕ) (l : Lent) → shortLent cs l ≡ false → outcome s cs l ≡ freshCall s cs
-unfolding outcome freshCall
-fresh-is s cs l e = rw (e, outcome) refl
 
 -- the answer byte that the call leaves
 module _ (s c : List ℕ) (l : Lent) (six : length c ≡ 6) (clear : l .answers ≡ 0 ∷ []) where

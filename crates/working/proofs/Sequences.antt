@@ -19,7 +19,7 @@ use Rattle.lists.specs.Front.{front}
 use Rattle.answers.specs.declared.Outcome.{Outcome}
 use Rattle.answers.specs.declared.Outcome.the-variants.{Accepted, Refused}
 use Rattle.working.specs.declared.Working.{Working}
-use Rattle.working.specs.Fresh.{freshCall}
+use Rattle.answers.specs.Fresh.{freshCall}
 use Rattle.working.specs.Standing.{standing, extended, without}
 use Rattle.working.specs.Rows.{refuseIf, startOutcome, addOutcome, withdrawOutcome, answerOf}
 use Rattle.working.specs.Kept.{keptState, keptArea, image, noRecords, Determined, Started, Added, Withdrawn, Answered}

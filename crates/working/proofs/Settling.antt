@@ -21,7 +21,7 @@ use Rattle.answers.specs.declared.Outcome.{Outcome}
 use Rattle.answers.specs.declared.Outcome.the-variants.{Accepted, Refused}
 use Rattle.working.specs.declared.Working.{Working}
 use Rattle.working.specs.declared.Settled.{Settled}
-use Rattle.working.specs.Fresh.{freshCall}
+use Rattle.answers.specs.Fresh.{freshCall}
 use Rattle.working.specs.Standing.{standing, extended, without}
 use Rattle.working.specs.Rows.{refuseIf, byArea, byOne, askOutcome, answerOf, startOutcome, addOutcome, withdrawOutcome}
 use Rattle.working.specs.Kept.{keptState, keptArea, image, Determined, Extended, Answered}

@@ -10,7 +10,7 @@ use Rattle.answers.specs.declared.Outcome.the-variants.{Accepted, Refused}
 use Rattle.working.specs.declared.Working.{Working}
 use Rattle.working.specs.declared.Settled.{Settled}
 use Rattle.working.specs.declared.Asked.{Asked}
-use Rattle.working.specs.Fresh.{freshCall}
+use Rattle.answers.specs.Fresh.{freshCall}
 use Rattle.working.specs.Standing.{standing, extended, without}
 use Rattle.working.specs.Rows.{startOutcome, addOutcome, withdrawOutcome, askOutcome, answerOf}
 

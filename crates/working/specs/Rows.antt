@@ -12,7 +12,7 @@ use Rattle.records.specs.declared.BookCheck.the-variants as book
 use Rattle.answers.specs.Call.{byClaims, answersTo}
 use Rattle.answers.specs.declared.Outcome.{Outcome}
 use Rattle.answers.specs.declared.Outcome.the-variants.{Accepted, Refused}
-use Rattle.working.specs.Fresh.{freshCall}
+use Rattle.answers.specs.Fresh.{freshCall}
 use Rattle.working.specs.Standing.{standing, extended, without}
 
 -- a row that refuses at place 0, or the rows below it

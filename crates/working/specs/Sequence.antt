@@ -10,7 +10,7 @@ use Rattle.records.specs.declared.Refusal.the-variants.{BookLength, NotStanding
 use Rattle.answers.specs.declared.Outcome.{Outcome}
 use Rattle.answers.specs.declared.Outcome.the-variants.{Accepted, Refused}
 use Rattle.working.specs.declared.Working.{Working}
-use Rattle.working.specs.Fresh.{freshCall}
+use Rattle.answers.specs.Fresh.{freshCall}
 use Rattle.working.specs.Standing.{standing}
 use Rattle.working.specs.Rows.{refuseIf}
 

@@ -5,7 +5,7 @@ ghost use mathlib.Core.List.{[], _++_};
 ghost use Prim.Native.Nat.{_+_, _*_, _≤_, _<_};
 ghost use lib.ListN.{length, getD, take, drop};
 ghost use Rattle.parentheses.specs.Padded.{padded};
-ghost use Rattle.working.specs.Fresh.{freshCall};
+ghost use Rattle.answers.specs.Fresh.{freshCall};
 ghost use Rattle.working.specs.Standing.{standing, extended, without};
 ghost use Rattle.records.specs.Check.{bookCheck};
 ghost use Rattle.working.specs.Rows.{byOne, answerOf};
@@ -56,17 +56,6 @@ fn write_runs(first: &[u8], second: &[u8], out: &mut [u8])
         out[j] = byte_at(first, second, j);
         j += 1;
     }
-}
-
-// A fresh call on a run of records: rows 2 to 14.
-fn judge_run(run: &[u8]) -> Outcome
-    ensures { λ r. ⌜ r ≡ freshCall (now (run .entry)) [] ⌝ }
-{
-    let mut parens = [0u8; 2560];
-    let mut marks = [0u8; 1280];
-    let mut shadows = [0u16; 8192];
-    let mut places = [0u16; 2048];
-    answers::write_index(run, &mut parens, &mut marks, &mut shadows, &mut places)
 }
 
 // A fresh call on a run of records and one claim.
@@ -136,7 +125,7 @@ pub fn start(area: &mut [u8]) -> Settled
         return refuse(none, Refusal::ShortBuffer);
     }
     let run = [0u8; 49152];
-    let outcome = judge_run(&run[..0]);
+    let outcome = answers::judge_run(&run[..0]);
     settle(none, area, &run, 0, outcome)
 }
 
@@ -149,7 +138,7 @@ fn extend(was: Working, area: &mut [u8], addition: &[u8]) -> Settled
     let end = 6 * records;
     let mut run = [0u8; 49152];
     write_runs(&area[..end], addition, &mut run);
-    let outcome = judge_run(&run[..end + 6]);
+    let outcome = answers::judge_run(&run[..end + 6]);
     settle(was, area, &run, records + 1, outcome)
 }
 
@@ -191,7 +180,7 @@ fn remove(was: Working, area: &mut [u8], number: usize) -> Settled
     let end = 6 * records;
     let mut run = [0u8; 49152];
     write_without(area, at, end, &mut run);
-    let outcome = judge_run(&run[..end - 6]);
+    let outcome = answers::judge_run(&run[..end - 6]);
     settle(was, area, &run, records - 1, outcome)
 }
 

@@ -6,7 +6,8 @@ use denote.Ref.{now}
 use Prim.Native.Nat.{ℕ}
 use lib.ListN.{getD, replicate, length-replicate}
 use Rattle.answers.specs.Lent.{Lent, lent}
-use Rattle.working.proofs.Fresh.{long-lent, fresh-is, answer-left}
+use Rattle.answers.proofs.Fresh.{long-lent, fresh-is}
+use Rattle.working.proofs.Fresh.{answer-left}
 use borrow.Author.Needs.{needs}
 use Rattle.working.proofs.answer_run.Statement.{statement}
 use Rattle.working.proofs.answer_run.Tie as tie

@@ -1,0 +1,13 @@
+-- What the proofs of several functions use.
+pub mod Rows
+pub mod Products
+pub mod Sweeps
+pub mod Rounds
+pub mod Growing
+pub mod Facts
+pub mod Agrees
+pub mod Puts
+pub mod Loads
+pub mod Starts
+pub mod Sheets
+pub mod Agreements

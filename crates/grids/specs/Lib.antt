@@ -1,0 +1,6 @@
+pub mod Grid
+pub mod Closed
+pub mod Loaded
+pub mod Answers
+pub mod Sheet
+pub mod Agree
