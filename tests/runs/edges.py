@@ -3,50 +3,50 @@ byte 1 is the origin (R-5); kind 5 is no kind (R-7); kind 6 marks a piece as voi
 
 
 def refused(number, place=0):
-    return (number, place, 0, 0, 0)
+    return [f"REFUSED {number} {place}"]
 
 
-def accepted(pieces, pairs=0):
+def accepted(pieces, pairs=0, claims=()):
     # with no PART records every piece but 0 is joined to 0: a node for each piece, and no shadow
     nodes = pieces if pairs == 0 else 1 + pairs
-    return (0, 0, pieces, nodes, nodes - pieces)
+    return [f"PIECES {pieces} NODES {nodes} SHADOWS {nodes - pieces}", *(f"{i} {claim}" for i, claim in enumerate(claims))]
 
 
-FOLLOWS, DENIED, OPEN = 1, 2, 3
+KINDS = ("PART", "APART", "MEETS", "NOTPART")
+FOLLOWS, DENIED, OPEN = "FOLLOWS", "DENIED", "OPEN"
 
 
 def restricted():
     """R-5: ten pieces; PART 2 1, APART 3 4, MEETS 5 6 and NOTPART 7 8 are the scanner's, PART 9 2 stands on a sheet. All pieces but 2 and 9 are joined to 0."""
-    book = accepted(10)
-    for name, answers in [
-        ("stored-from-all-facts", [FOLLOWS] * 4),
-        ("opposite-from-all-facts", [DENIED] * 4),
-        ("stored-from-sheets", [OPEN] * 4),
-        ("opposite-from-sheets", [OPEN] * 4),
-        ("chained-from-all-facts", [FOLLOWS, FOLLOWS, DENIED, DENIED]),
-        ("chained-from-sheets", [OPEN, FOLLOWS, OPEN, DENIED]),
+    stored = ["PART 2 1", "APART 3 4", "MEETS 5 6", "NOTPART 7 8"]
+    opposite = ["NOTPART 2 1", "MEETS 3 4", "APART 5 6", "PART 7 8"]
+    chained = ["PART 9 1", "PART 9 2", "NOTPART 9 1", "NOTPART 9 2"]
+    for name, claims, answers in [
+        ("stored-from-all-facts", stored, [FOLLOWS] * 4),
+        ("opposite-from-all-facts", opposite, [DENIED] * 4),
+        ("stored-from-sheets", stored, [OPEN] * 4),
+        ("opposite-from-sheets", opposite, [OPEN] * 4),
+        ("chained-from-all-facts", chained, [FOLLOWS, FOLLOWS, DENIED, DENIED]),
+        ("chained-from-sheets", chained, [OPEN, FOLLOWS, OPEN, DENIED]),
     ]:
-        yield name, book
-        yield name, answers
+        yield name, accepted(10, claims=[f"{claim} {answer}" for claim, answer in zip(claims, answers)])
 
 
 def void():
     """R-10: piece 1 is void by the scanner's mark, PART 2 0 stands on a sheet; the answers are the same from all facts and from the sheets."""
-    book = accepted(3)
     for asked in ("from-all-facts", "from-sheets"):
-        for name, answers in [
-            ("void-with-another", [FOLLOWS, FOLLOWS, DENIED, DENIED]),
-            ("another-with-void", [DENIED, FOLLOWS, DENIED, FOLLOWS]),
-            ("void-with-itself", [FOLLOWS, FOLLOWS, DENIED, DENIED]),
-            ("another-with-itself", [FOLLOWS, DENIED, FOLLOWS, DENIED]),
+        for name, pieces, answers in [
+            ("void-with-another", "1 2", [FOLLOWS, FOLLOWS, DENIED, DENIED]),
+            ("another-with-void", "2 1", [DENIED, FOLLOWS, DENIED, FOLLOWS]),
+            ("void-with-itself", "1 1", [FOLLOWS, FOLLOWS, DENIED, DENIED]),
+            ("another-with-itself", "2 2", [FOLLOWS, DENIED, FOLLOWS, DENIED]),
         ]:
-            yield f"{name}-{asked}", book
-            yield f"{name}-{asked}", answers
+            yield f"{name}-{asked}", accepted(3, claims=[f"{kind} {pieces} {answer}" for kind, answer in zip(KINDS, answers)])
 
 
 EDGES = [
     ("no-bytes", accepted(1)),
-    ("no-bytes-claim-piece-0", accepted(1)),
+    ("no-bytes-claim-piece-0", accepted(1, claims=["MEETS 0 0 FOLLOWS"])),
     ("no-bytes-claim-piece-1", refused(13)),
     ("ragged", refused(3)),
     ("8192-records", accepted(256)),
@@ -81,7 +81,7 @@ EDGES = [
     ("session-and-MEETS-5-3", refused(14, 9)),
     ("claim-ragged", refused(10)),
     ("claim-kind", refused(12)),
-    ("claim-origin-1", accepted(1)),
+    ("claim-origin-1", accepted(1, claims=["PART 0 0 FOLLOWS"])),
     ("claim-origin-2", refused(12)),
     ("claim-piece", refused(13)),
     *restricted(),
@@ -99,5 +99,6 @@ EDGES = [
 
 
 def lines():
-    for name, numbers in EDGES:
-        yield " ".join([name, *map(str, numbers)])
+    for name, page in EDGES:
+        yield name
+        yield from page

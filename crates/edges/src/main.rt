@@ -1,69 +1,41 @@
-// Document 01's edges through the call that answers claims: a line for each book, with number, place and the three counts.
+// Document 01's edges as printed sessions: a name for each book, then the page that `report` lays out.
 ghost use mathlib.Core.Path.{_≡_};
 ghost use lib.ListN.{length};
 use answers::Outcome;
 use libc::STDOUT_FILENO;
+use report::Laid;
 
 fn print(text: &[u8]) {
     io::write_all(STDOUT_FILENO, text);
 }
 
-// A name, the number, the place and the counts.
-fn line(name: &[u8], number: u8, place: usize, pieces: usize, nodes: usize, shadows: usize) {
-    print(name);
-    print(b" ");
-    io::print_decimal(STDOUT_FILENO, number as u64);
-    print(b" ");
-    io::print_decimal(STDOUT_FILENO, place as u64);
-    print(b" ");
-    io::print_decimal(STDOUT_FILENO, pieces as u64);
-    print(b" ");
-    io::print_decimal(STDOUT_FILENO, nodes as u64);
-    print(b" ");
-    io::print_decimal(STDOUT_FILENO, shadows as u64);
-    print(b"\n");
-}
-
-fn report(name: &[u8], outcome: Outcome) {
-    match outcome {
-        Outcome::Refused(refusal, place) => line(
-            name,
-            records::refusal_number(refusal),
-            place,
-            0,
-            0,
-            0,
-        ),
-        Outcome::Accepted(pieces, nodes, shadows) => line(name, 0, 0, pieces, nodes, shadows),
-    }
-}
-
+// The name of a book, and the page of its session.
 fn ask(name: &[u8], book: &[u8], claims: &[u8]) {
-    let mut parens = [0u8; 2560];
-    let mut marks = [0u8; 1280];
-    let mut shadows = [0u16; 8192];
-    let mut places = [0u16; 2048];
-    let mut answers = [0u8; 4097];
-    let outcome = answers::answer_claims(
-        book,
-        claims,
-        &mut parens,
-        &mut marks,
-        &mut shadows,
-        &mut places,
-        &mut answers,
-    );
-    report(name, outcome);
+    print(name);
+    print(b"\n");
+    let mut page = [0u8; 135285];
+    let Laid::Text(end) = report::ask(book, claims, &mut page) else {
+        return;
+    };
+    print(&page[..end]);
 }
 
-// A place list that is one number short.
+// A place list that is one number short, which the session never lends: the number and the place.
 fn ask_short(name: &[u8], book: &[u8]) {
     let mut parens = [0u8; 2560];
     let mut marks = [0u8; 1280];
     let mut shadows = [0u16; 8192];
     let mut places = [0u16; 2047];
     let outcome = answers::write_index(book, &mut parens, &mut marks, &mut shadows, &mut places);
-    report(name, outcome);
+    let Outcome::Refused(refusal, place) = outcome else {
+        return;
+    };
+    print(name);
+    print(b"\nREFUSED ");
+    io::print_decimal(STDOUT_FILENO, records::refusal_number(refusal) as u64);
+    print(b" ");
+    io::print_decimal(STDOUT_FILENO, place as u64);
+    print(b"\n");
 }
 
 // MEETS records of two among 256 pieces, all of which differ.
@@ -88,71 +60,37 @@ fn full() {
     ask(b"8193-records", &book, b"");
 }
 
-// A name, and four answers.
-fn four(name: &[u8], first: u8, second: u8, third: u8, fourth: u8) {
-    print(name);
-    print(b" ");
-    io::print_decimal(STDOUT_FILENO, first as u64);
-    print(b" ");
-    io::print_decimal(STDOUT_FILENO, second as u64);
-    print(b" ");
-    io::print_decimal(STDOUT_FILENO, third as u64);
-    print(b" ");
-    io::print_decimal(STDOUT_FILENO, fourth as u64);
-    print(b"\n");
-}
-
-// The line of a book, and the answers to four claims on it.
-fn ask_four(name: &[u8], book: &[u8], claims: &[u8]) {
-    let mut parens = [0u8; 2560];
-    let mut marks = [0u8; 1280];
-    let mut shadows = [0u16; 8192];
-    let mut places = [0u16; 2048];
-    let mut answers = [0u8; 4];
-    let outcome = answers::answer_claims(
-        book,
-        claims,
-        &mut parens,
-        &mut marks,
-        &mut shadows,
-        &mut places,
-        &mut answers,
-    );
-    report(name, outcome);
-    four(name, answers[0], answers[1], answers[2], answers[3]);
-}
-
 // PART 2 1, APART 3 4, MEETS 5 6 and NOTPART 7 8 from the scanner, PART 9 2 from a cutting sheet. Each of the scanner's facts and its opposite, then
 // PART 9 1, PART 9 2 and their opposites, asked of all facts and of the sheets.
 fn restricted() {
     let book =
         b"\x01\x01\x02\x00\x01\x00\x02\x01\x03\x00\x04\x00\x03\x01\x05\x00\x06\x00\x04\x01\x07\x00\x08\x00\x01\x00\x09\x00\x02\x00";
-    ask_four(
+    ask(
         b"stored-from-all-facts",
         book,
         b"\x01\x00\x02\x00\x01\x00\x02\x00\x03\x00\x04\x00\x03\x00\x05\x00\x06\x00\x04\x00\x07\x00\x08\x00",
     );
-    ask_four(
+    ask(
         b"opposite-from-all-facts",
         book,
         b"\x04\x00\x02\x00\x01\x00\x03\x00\x03\x00\x04\x00\x02\x00\x05\x00\x06\x00\x01\x00\x07\x00\x08\x00",
     );
-    ask_four(
+    ask(
         b"stored-from-sheets",
         book,
         b"\x01\x01\x02\x00\x01\x00\x02\x01\x03\x00\x04\x00\x03\x01\x05\x00\x06\x00\x04\x01\x07\x00\x08\x00",
     );
-    ask_four(
+    ask(
         b"opposite-from-sheets",
         book,
         b"\x04\x01\x02\x00\x01\x00\x03\x01\x03\x00\x04\x00\x02\x01\x05\x00\x06\x00\x01\x01\x07\x00\x08\x00",
     );
-    ask_four(
+    ask(
         b"chained-from-all-facts",
         book,
         b"\x01\x00\x09\x00\x01\x00\x01\x00\x09\x00\x02\x00\x04\x00\x09\x00\x01\x00\x04\x00\x09\x00\x02\x00",
     );
-    ask_four(
+    ask(
         b"chained-from-sheets",
         book,
         b"\x01\x01\x09\x00\x01\x00\x01\x01\x09\x00\x02\x00\x04\x01\x09\x00\x01\x00\x04\x01\x09\x00\x02\x00",
@@ -325,42 +263,42 @@ fn void_rows() {
 // Piece 1 void by the scanner's mark, and PART 2 0. The four kinds of 1 2, 2 1, 1 1 and 2 2.
 fn void_claims() {
     let book = b"\x06\x01\x01\x00\x00\x00\x01\x00\x02\x00\x00\x00";
-    ask_four(
+    ask(
         b"void-with-another-from-all-facts",
         book,
         b"\x01\x00\x01\x00\x02\x00\x02\x00\x01\x00\x02\x00\x03\x00\x01\x00\x02\x00\x04\x00\x01\x00\x02\x00",
     );
-    ask_four(
+    ask(
         b"another-with-void-from-all-facts",
         book,
         b"\x01\x00\x02\x00\x01\x00\x02\x00\x02\x00\x01\x00\x03\x00\x02\x00\x01\x00\x04\x00\x02\x00\x01\x00",
     );
-    ask_four(
+    ask(
         b"void-with-itself-from-all-facts",
         book,
         b"\x01\x00\x01\x00\x01\x00\x02\x00\x01\x00\x01\x00\x03\x00\x01\x00\x01\x00\x04\x00\x01\x00\x01\x00",
     );
-    ask_four(
+    ask(
         b"another-with-itself-from-all-facts",
         book,
         b"\x01\x00\x02\x00\x02\x00\x02\x00\x02\x00\x02\x00\x03\x00\x02\x00\x02\x00\x04\x00\x02\x00\x02\x00",
     );
-    ask_four(
+    ask(
         b"void-with-another-from-sheets",
         book,
         b"\x01\x01\x01\x00\x02\x00\x02\x01\x01\x00\x02\x00\x03\x01\x01\x00\x02\x00\x04\x01\x01\x00\x02\x00",
     );
-    ask_four(
+    ask(
         b"another-with-void-from-sheets",
         book,
         b"\x01\x01\x02\x00\x01\x00\x02\x01\x02\x00\x01\x00\x03\x01\x02\x00\x01\x00\x04\x01\x02\x00\x01\x00",
     );
-    ask_four(
+    ask(
         b"void-with-itself-from-sheets",
         book,
         b"\x01\x01\x01\x00\x01\x00\x02\x01\x01\x00\x01\x00\x03\x01\x01\x00\x01\x00\x04\x01\x01\x00\x01\x00",
     );
-    ask_four(
+    ask(
         b"another-with-itself-from-sheets",
         book,
         b"\x01\x01\x02\x00\x02\x00\x02\x01\x02\x00\x02\x00\x03\x01\x02\x00\x02\x00\x04\x01\x02\x00\x02\x00",

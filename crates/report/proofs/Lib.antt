@@ -8,3 +8,4 @@ pub mod Sessions
 pub mod Examples
 pub mod Pages
 pub mod SessionPage
+pub mod Texts

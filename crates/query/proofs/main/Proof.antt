@@ -1,18 +1,9 @@
 -- `query::main` meets its contract: what is written is text that the page holds.
 -- Assumes nothing.
-use mathlib.Core.Path.{_≡_, subst}
-use mathlib.Core.List.{List}
-use Prim.Native.Nat.{ℕ}
 use borrow.Author.Needs.{needs}
-use Rattle.io.specs.Counts.{Counts}
-use Rattle.report.specs.Asked.{Asked}
-use Rattle.report.specs.declared.Laid.{Laid}
-use Rattle.report.specs.declared.Laid.the-variants.{Text}
+use Rattle.report.proofs.Texts.{text-counts}
 use Rattle.query.proofs.main.Statement.{statement}
 use Rattle.query.proofs.main.Tie as tie
-
-text-counts : (book claims page page′ : List ℕ) (r : Laid) (end : ℕ) → r ≡ Text end → Asked book claims page page′ r → Counts end page′
-text-counts book claims page page′ r end is a = (subst (Asked book claims page page′) is a) .1 .counts
 
 slice-aggregate-read-book : tie.Need-slice-aggregate-read-book
 slice-aggregate-read-book c = search needs
