@@ -60,7 +60,7 @@ fn store_record(m: &mut [u64], r: Record, kind: u8, straight: bool, swapped: boo
 }
 
 // The stored facts of one kind as a matrix: bit b of row a where `straight`, bit a of row b where `swapped`.
-pub fn store(run: &[u8], kind: u8, straight: bool, swapped: bool, m: &mut [u64])
+fn store(run: &[u8], kind: u8, straight: bool, swapped: bool, m: &mut [u64])
     requires { ⌜ (length (now m) ≡ 65536) × (1 ≤ kind) × (kind ≤ 4) × AllWithin 2048 (facts (now run)) ⌝ }
     ensures { λ _. ⌜ Holds (now (m .exit)) (storedBit (facts (now (run .entry))) kind straight swapped) ⌝ }
 {
@@ -75,7 +75,7 @@ pub fn store(run: &[u8], kind: u8, straight: bool, swapped: bool, m: &mut [u64])
 }
 
 // Sets the first n bits of the diagonal.
-pub fn diagonal(n: usize, m: &mut [u64])
+fn diagonal(n: usize, m: &mut [u64])
     requires { ⌜ (length (now m) ≡ 65536) × (n ≤ 2048) ⌝ }
     ensures { λ _. ⌜ Grown (now (m .entry)) (now (m .exit)) (λ x y. eqb x y && ltb x n) ⌝ }
 {
@@ -111,7 +111,7 @@ fn crown(n: usize, e: &mut [u64])
 }
 
 // The steps of containment, along which rows are joined: the same as a product with D or U, at the cost of a row for each step.
-pub fn edges(run: &[u8], n: usize, e: &mut [u64])
+fn edges(run: &[u8], n: usize, e: &mut [u64])
     requires { ⌜ Bounded n (facts (now run)) × (length (now e) ≡ 65536) ⌝ }
     ensures { λ _. ⌜ Holds (now (e .exit)) (edgeBit n (facts (now (run .entry)))) ⌝ }
 {
@@ -161,7 +161,7 @@ fn join_wholes(n: usize, e: &[u64], m: &mut [u64])
 }
 
 // T = D·M.
-pub fn meeting(run: &[u8], n: usize, voids: &[u64], e: &[u64], t: &mut [u64])
+fn meeting(run: &[u8], n: usize, voids: &[u64], e: &[u64], t: &mut [u64])
     requires { ⌜ Bounded n (facts (now run)) × Voids (now voids) × Ordered (facts (now run)) × Holds (now e) (edgeBit n (facts (now run))) × (length (now t) ≡ 65536) ⌝ }
     ensures { λ _. ⌜ Holds (now (t .exit)) (towardBit (voidOf (now (voids .entry))) n (facts (now (run .entry)))) ⌝ }
 {
@@ -297,7 +297,7 @@ fn marks_tell(kind: u8, a: usize, b: usize, voids: &[u64]) -> bool
 }
 
 // Whether the fact of a kind about a and b has a derivation from the marks and the facts whose closure is lent.
-pub fn derived(
+fn derived(
     kind: u8,
     a: usize,
     b: usize,
@@ -351,7 +351,7 @@ pub fn answer_to(
 }
 
 // The index of the run's PARTs in the lent parts. x is scratch.
-pub fn index_of(
+fn index_of(
     run: &[u8],
     n: usize,
     x: &mut [u64],
@@ -368,7 +368,7 @@ pub fn index_of(
 }
 
 // The same, and D read off the index.
-pub fn contained(
+fn contained(
     run: &[u8],
     n: usize,
     x: &mut [u64],
