@@ -15,4 +15,13 @@ piecebook_result plain_index(const uint8_t *book, size_t book_length,
 
 piecebook_converted plain_convert(const uint8_t *book, size_t book_length, uint8_t *out, size_t out_length);
 
+piecebook_catalog_result plain_catalog(const uint8_t *book, size_t book_length, size_t kind, size_t piece,
+                                       uint8_t *parentheses, size_t parentheses_length, uint8_t *marks, size_t marks_length,
+                                       uint16_t *shadows, size_t shadows_length, uint16_t *places, size_t places_length,
+                                       uint16_t *list, size_t list_length, uint16_t *meets, size_t meets_length,
+                                       uint16_t *apart, size_t apart_length, uint16_t *notpart, size_t notpart_length);
+
+size_t plain_fact_between(const uint16_t *area, size_t area_length, size_t count, size_t unordered,
+                          size_t row_from, size_t row_to, size_t column_from, size_t column_to);
+
 #endif

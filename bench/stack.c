@@ -37,6 +37,14 @@ static void *conversion(void *unused)
     return unused;
 }
 
+static void *catalog(void *unused)
+{
+    static uint16_t list[PIECEBOOK_LIST], areas[3][PIECEBOOK_PAIRS];
+    piecebook_catalog(s.book, s.records * 6, APART, 2000, parentheses, sizeof parentheses, marks, sizeof marks, shadows, PIECEBOOK_SHADOWS, places,
+                      PIECEBOOK_PLACES, list, PIECEBOOK_LIST, areas[0], PIECEBOOK_PAIRS, areas[1], PIECEBOOK_PAIRS, areas[2], PIECEBOOK_PAIRS);
+    return unused;
+}
+
 /* In the new process: runs f on a stack of the given size, below which no page can be touched. */
 static void on_stack(void *f(void *), size_t size)
 {
@@ -114,6 +122,7 @@ int main(void)
     measure("deep, contradictory", whole);
     make_sample(&s, DEEP, 2048, 8192, 0);
     shuffle(&s);
+    measure("deep, catalog", catalog);
     put_on_trays(&s, 2048);
     measure("deep, converted", conversion);
     return 0;

@@ -102,6 +102,49 @@ typedef struct {
    bytes behind the new book stay as they are. The new book is accepted by the other calls and gives every claim the answer that it had. */
 piecebook_converted piecebook_convert(const uint8_t *book, size_t book_length, uint8_t *out, size_t out_length);
 
+/* The lengths below which the list of a catalog, or one of its areas, is refused by number 17. */
+#define PIECEBOOK_LIST 2048
+#define PIECEBOOK_PAIRS 16384
+
+/* number is 0 for an accepted book, or the number of the refusal, 1, 3 to 9, 12 to 14 or 17, whose record is place; the counts are 0 for a refusal.
+   listed counts pieces; meets, apart and notpart count pairs. */
+typedef struct {
+    size_t number;
+    size_t place;
+    size_t pieces;
+    size_t nodes;
+    size_t shadows;
+    size_t listed;
+    size_t meets;
+    size_t apart;
+    size_t notpart;
+} piecebook_catalog_result;
+
+/* Lists all pieces that certainly are PART of a piece (kind 1), APART from it (2) or MEET it (3), each once, in rising number; later numbers of the list
+   stay as they are. Writes the index, and into each area the stored facts of its kind as pairs of places, row then column, each once, in rising
+   order, the lower place first in MEETS and APART; the rest of its first PIECEBOOK_PAIRS numbers is zero, and later ones stay as they are. Any other
+   kind is 12, a piece that the book does not have 13. A refusal writes nothing, but that 14 zeroes the index. */
+piecebook_catalog_result piecebook_catalog(const uint8_t *book, size_t book_length, size_t kind, size_t piece,
+                                           uint8_t *parentheses, size_t parentheses_length, uint8_t *marks, size_t marks_length,
+                                           uint16_t *shadows, size_t shadows_length, uint16_t *places, size_t places_length,
+                                           uint16_t *list, size_t list_length, uint16_t *meets, size_t meets_length,
+                                           uint16_t *apart, size_t apart_length, uint16_t *notpart, size_t notpart_length);
+
+/* 1 where one of the first count pairs of an area lies in these rows and these columns, ends included, else 0; an empty range has none. unordered is 1
+   for MEETS and APART, whose pairs count in either order, and 0 for NOTPART. Of an area or a count that a catalog did not leave so the answer is free. */
+size_t piecebook_fact_between(const uint16_t *area, size_t area_length, size_t count, size_t unordered,
+                              size_t row_from, size_t row_to, size_t column_from, size_t column_to);
+
+/* A range of places, ends included; empty where from is above to. */
+typedef struct {
+    size_t from;
+    size_t to;
+} piecebook_range;
+
+/* The places of a piece's node and of all that hangs below it in the tree: rows or columns for the question above. Empty where the parts are shorter than
+   an index or have no such node. */
+piecebook_range piecebook_subtree(const uint8_t *parentheses, size_t parentheses_length, const uint16_t *places, size_t places_length, size_t piece);
+
 #ifdef __cplusplus
 }
 #endif

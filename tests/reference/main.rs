@@ -2,6 +2,7 @@
 //! values before and behind what is lent. The last line is 'N passed, M failed', where N + M are the books compared and the numbers and answers that must occur.
 
 mod books;
+mod catalogs;
 mod days;
 mod piecebook;
 mod reference;
@@ -232,6 +233,8 @@ struct Tally {
     numbers: [usize; 20],
     /// the same of conversions
     conversions: [usize; 20],
+    /// and of catalogs
+    catalog_numbers: [usize; 20],
     /// answers to claims on all facts, then to restricted ones
     answers: [[usize; 4]; 2],
 }
@@ -274,6 +277,10 @@ impl Tally {
             let missing = self.conversions[number] == 0;
             self.count(missing.then(|| format!("number {number} never occurred in a conversion")));
         }
+        for number in [0, 1, 3, 4, 5, 6, 7, 8, 9, 12, 13, 14, 17, 19] {
+            let missing = self.catalog_numbers[number] == 0;
+            self.count(missing.then(|| format!("number {number} never occurred in a catalog")));
+        }
         for (origin, answer) in [0, 1].into_iter().flat_map(|origin| (1..4).map(move |answer| (origin, answer))) {
             let missing = self.answers[origin][answer] == 0;
             self.count(missing.then(|| format!("answer {answer} to a claim of origin {origin} never occurred")));
@@ -310,6 +317,34 @@ impl Tally {
             self.count(missing.then(|| format!("number {number} never occurred with grids")));
         }
         println!("grids: {count} books, {} accepted; {} failed; {:.1} s", numbers[0], self.failed - failed, start.elapsed().as_secs_f64());
+    }
+
+    /// Catalogs of random books, and range questions on what they leave.
+    fn catalogs(&mut self, name: &str, count: usize, make: impl Fn(&mut Random, usize) -> catalogs::Case) {
+        let start = Instant::now();
+        let failed = self.failed;
+        let mut random = Random(name.bytes().fold(7, |seed, byte| seed * 31 + u64::from(byte)));
+        let (mut numbers, mut yes) = (BTreeMap::new(), [0; 2]);
+        for number in 0..count {
+            let case = make(&mut random, number);
+            let (outcome, wrong) = catalogs::compare(&mut random, &case, &mut yes);
+            *numbers.entry(outcome.number).or_insert(0) += 1;
+            self.catalog_numbers[outcome.number] += 1;
+            self.count(wrong.map(|wrong| {
+                let bytes = if case.book.len() <= 600 { format!("{:?}", case.book) } else { format!("{} bytes", case.book.len()) };
+                format!("{name}, book {number}: {wrong}; book {bytes}, kind {}, piece {}", case.kind, case.piece)
+            }));
+        }
+        let accepted = numbers.remove(&0).unwrap_or(0);
+        let refused: Vec<String> = numbers.iter().map(|(number, count)| format!("{number}: {count}")).collect();
+        println!(
+            "{name}: {count} books, {accepted} accepted, refused {{{}}}; range questions {} yes, {} no; {} failed; {:.1} s",
+            refused.join(", "),
+            yes[1],
+            yes[0],
+            self.failed - failed,
+            start.elapsed().as_secs_f64()
+        );
     }
 
     fn try_conversion(&mut self, group: &str, number: usize, book: &[u8], room: usize) -> Converted {
@@ -779,9 +814,15 @@ fn largest_contradictory(random: &mut Random, shape: Shape, place: usize) -> Cas
     case
 }
 
+/// The same book for a catalog of one of its pieces.
+fn ask(random: &mut Random, case: Case) -> catalogs::Case {
+    let pieces = case.book.chunks_exact(6).map(|r| u16::from_le_bytes([r[2], r[3]]).max(u16::from_le_bytes([r[4], r[5]]))).max();
+    catalogs::ask(random, case.book, usize::from(pieces.unwrap_or(0)) + 1, case.lengths)
+}
+
 /// Compares them all, `times` as many random books where that is more than once.
 fn run(times: usize) -> bool {
-    let mut tally = Tally { random: Random(1), passed: 0, failed: 0, numbers: [0; 20], conversions: [0; 20], answers: [[0; 4]; 2] };
+    let mut tally = Tally { random: Random(1), passed: 0, failed: 0, numbers: [0; 20], conversions: [0; 20], catalog_numbers: [0; 20], answers: [[0; 4]; 2] };
     examples(&mut tally);
     tally.group("small, from a laying", 3000 * times, |random, _| small_sound(random));
     tally.group("small, facts thrown in", 3000 * times, |random, _| small_contradictory(random));
@@ -819,6 +860,42 @@ fn run(times: usize) -> bool {
     if !cfg!(plain) {
         tally.days(60 * times);
         tally.grids(600 * times);
+        let wrong = catalogs::session(&mut tally.random);
+        tally.count(wrong);
+        let wrong = catalogs::void_piece(&mut tally.random);
+        tally.count(wrong);
+        for (name, make) in [
+            ("catalogs, small", small_sound as fn(&mut Random) -> Case),
+            ("catalogs, facts thrown in", small_contradictory),
+        ] {
+            tally.catalogs(name, 1500 * times, |random, _| {
+                let case = make(random);
+                ask(random, case)
+            });
+        }
+        tally.catalogs("catalogs, damaged", 1500 * times, |random, number| {
+            let case = damaged(random, number);
+            ask(random, case)
+        });
+        tally.catalogs("catalogs, short buffers", 300 * times, |random, number| {
+            let case = short_buffers(random, number);
+            ask(random, case)
+        });
+        for shape in SHAPES {
+            tally.catalogs(&format!("catalogs, 100 to 300 pieces, {shape:?}"), 20 * times, |random, number| {
+                let case = middle(random, shape, number);
+                ask(random, case)
+            });
+            tally.catalogs(&format!("catalogs, 2,048 pieces, 8,192 records, {shape:?}"), 3 * times, |random, number| {
+                let case = largest(random, shape, 1000 + 3000 * (number % 2), 10 * (number % 3));
+                catalogs::ask_soundly(random, case.book, 2048, 1 + number % 3, case.lengths)
+            });
+        }
+        tally.catalogs("catalogs, 8,193 records", 1, |random, _| {
+            let book: Vec<Bytes> = (0..8193).map(|i| record(MEETS, i / 2048, i % 2048)).collect();
+            let case = case(random, &book, &[]);
+            catalogs::ask_soundly(random, case.book, 2048, 1, case.lengths)
+        });
     }
     tally.all_occurred();
     println!("{} passed, {} failed", tally.passed, tally.failed);

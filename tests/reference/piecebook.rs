@@ -154,7 +154,123 @@ impl Working {
     }
 }
 
+/// The least lengths of a list of pieces and of an area of pairs; shorter ones are refused by number 17.
+pub const LIST: usize = 2048;
+pub const PAIRS: usize = 16384;
+
+/// What a catalog returns. `listed` counts pieces, `meets`, `apart` and `notpart` count pairs.
+#[repr(C)]
+#[derive(Clone, Copy, Debug, Default, PartialEq, Eq)]
+pub struct Cataloged {
+    pub number: usize,
+    pub place: usize,
+    pub pieces: usize,
+    pub nodes: usize,
+    pub shadows: usize,
+    pub listed: usize,
+    pub meets: usize,
+    pub apart: usize,
+    pub notpart: usize,
+}
+
+/// A list of pieces, and the areas of stored facts as pairs of places, row then column, as the caller lends them.
+pub struct Areas<'a> {
+    pub list: &'a mut [u16],
+    pub meets: &'a mut [u16],
+    pub apart: &'a mut [u16],
+    pub notpart: &'a mut [u16],
+}
+
+/// A range of places, ends included; empty where `from` is above `to`.
+#[repr(C)]
+#[derive(Clone, Copy, Debug, PartialEq, Eq)]
+pub struct Range {
+    pub from: usize,
+    pub to: usize,
+}
+
+/// Lists the pieces that certainly are PART of a piece (kind 1), APART from it (2) or MEET it (3), and writes the index and the areas.
+pub fn catalog(book: &[u8], kind: usize, piece: usize, index: &mut Parts, areas: &mut Areas) -> Cataloged {
+    // SAFETY: as above.
+    unsafe {
+        piecebook_catalog(
+            book.as_ptr(),
+            book.len(),
+            kind,
+            piece,
+            index.parentheses.as_mut_ptr(),
+            index.parentheses.len(),
+            index.marks.as_mut_ptr(),
+            index.marks.len(),
+            index.shadows.as_mut_ptr(),
+            index.shadows.len(),
+            index.places.as_mut_ptr(),
+            index.places.len(),
+            areas.list.as_mut_ptr(),
+            areas.list.len(),
+            areas.meets.as_mut_ptr(),
+            areas.meets.len(),
+            areas.apart.as_mut_ptr(),
+            areas.apart.len(),
+            areas.notpart.as_mut_ptr(),
+            areas.notpart.len(),
+        )
+    }
+}
+
+/// Whether an area of so many pairs has one in these rows and columns; of an unordered kind in either order.
+pub fn fact_between(area: &[u16], count: usize, unordered: bool, rows: Range, columns: Range) -> bool {
+    // SAFETY: as above.
+    let answer = unsafe {
+        piecebook_fact_between(area.as_ptr(), area.len(), count, usize::from(unordered), rows.from, rows.to, columns.from, columns.to)
+    };
+    assert!(answer <= 1);
+    answer == 1
+}
+
+/// The places of a piece's node and of what hangs below it.
+pub fn subtree(parentheses: &[u8], places: &[u16], piece: usize) -> Range {
+    // SAFETY: as above.
+    unsafe { piecebook_subtree(parentheses.as_ptr(), parentheses.len(), places.as_ptr(), places.len(), piece) }
+}
+
 extern "C" {
+    fn piecebook_catalog(
+        book: *const u8,
+        book_length: usize,
+        kind: usize,
+        piece: usize,
+        parentheses: *mut u8,
+        parentheses_length: usize,
+        marks: *mut u8,
+        marks_length: usize,
+        shadows: *mut u16,
+        shadows_length: usize,
+        places: *mut u16,
+        places_length: usize,
+        list: *mut u16,
+        list_length: usize,
+        meets: *mut u16,
+        meets_length: usize,
+        apart: *mut u16,
+        apart_length: usize,
+        notpart: *mut u16,
+        notpart_length: usize,
+    ) -> Cataloged;
+
+    fn piecebook_fact_between(
+        area: *const u16,
+        area_length: usize,
+        count: usize,
+        unordered: usize,
+        row_from: usize,
+        row_to: usize,
+        column_from: usize,
+        column_to: usize,
+    ) -> usize;
+
+    fn piecebook_subtree(parentheses: *const u8, parentheses_length: usize, places: *const u16, places_length: usize, piece: usize) -> Range;
+
     fn piecebook_start(state: *mut Working, area: *mut u8, area_length: usize) -> WorkingOutcome;
 
     fn piecebook_add(state: *mut Working, area: *mut u8, area_length: usize, record: *const u8, record_length: usize) -> WorkingOutcome;

@@ -1,7 +1,7 @@
-//! Document 01 once more, from its words, with document 02's: which input is refused, what the index is, what each claim is answered. It knows nothing of the
+//! Document 01 once more, from its words, with document 02's: which input is refused, what the index is, what each claim is answered. It knows nothing of the
 //! library's ways.
 
-use crate::piecebook::{Converted, Outcome, DENIED, FOLLOWS, MARKS, OPEN, PARENTHESES, PLACES, SHADOWS};
+use crate::piecebook::{Cataloged, Converted, Outcome, DENIED, FOLLOWS, LIST, MARKS, OPEN, PAIRS, PARENTHESES, PLACES, SHADOWS};
 use crate::rules::{has_no_laying, Derived, Fact, Facts, Kind, Rows};
 use std::collections::{BTreeSet, HashSet, VecDeque};
 
@@ -380,4 +380,76 @@ pub fn convert(book: &[u8], room: usize) -> (Converted, Vec<u8>, Option<String>)
         Err((number, place)) => (Converted { number, place, length: 0 }, vec![]),
     };
     (converted, bytes, doubt)
+}
+
+/// What a catalog writes besides the index: the list, and the areas of MEETS, APART and NOTPART over their whole lengths, what is unused being zero.
+pub struct Lists {
+    pub list: Vec<u16>,
+    pub areas: [Vec<u16>; 3],
+    /// the stored facts of these kinds, with the places of their pieces
+    pub stored: [Vec<(usize, usize)>; 3],
+}
+
+pub struct ExpectedCatalog {
+    pub outcome: Cataloged,
+    pub change: Change,
+    pub lists: Option<Lists>,
+    pub doubt: Option<String>,
+}
+
+/// The kinds of the areas, and whether they are unordered.
+pub const AREAS: [(Kind, bool); 3] = [(Kind::Meets, true), (Kind::Apart, true), (Kind::Notpart, false)];
+
+fn lists_of(book: &Book, places: &[u16], asked: impl Fn(usize) -> Fact) -> Lists {
+    let stored: Vec<Fact> = book.facts.iter().flatten().copied().collect();
+    let rows = Rows::derive(book.pieces, &stored, &book.void);
+    let list = (0..book.pieces).filter(|&x| rows.has(asked(x))).map(|x| x as u16).collect();
+    let at = |piece: usize| usize::from(places[piece]);
+    let of = |kind: Kind| stored.iter().filter(|f| f.kind == kind).map(|f| (at(f.a), at(f.b))).collect::<Vec<_>>();
+    let stored = AREAS.map(|(kind, _)| of(kind));
+    let area = |i: usize| {
+        let (_, unordered) = AREAS[i];
+        let pairs: BTreeSet<_> = stored[i].iter().map(|&(a, b)| if unordered { (a.min(b), a.max(b)) } else { (a, b) }).collect();
+        pairs.into_iter().flat_map(|(row, column)| [row as u16, column as u16]).collect()
+    };
+    Lists { list, areas: [area(0), area(1), area(2)], stored }
+}
+
+fn catalog_whole(book: &[u8], kind: usize, piece: usize, lengths: Lengths, list: usize, areas: [usize; 3], doubt: &mut Option<String>) -> Result<(Cataloged, Change, Option<Lists>), Refusal> {
+    let fits = lengths.parentheses >= 2560 && lengths.marks >= 1280 && lengths.shadows >= 8192 && lengths.places >= 2048;
+    if !fits {
+        return Err((1, 0));
+    }
+    if list < LIST || areas.iter().any(|&area| area < PAIRS) {
+        return Err((17, 0));
+    }
+    let book = read_book(book, Edition::InForce)?;
+    let kind = match kind {
+        1 => Kind::Part,
+        2 => Kind::Apart,
+        3 => Kind::Meets,
+        _ => return Err((12, 0)),
+    };
+    if piece >= book.pieces {
+        return Err((13, 0));
+    }
+    if let Some(place) = contradiction(book.pieces, &book.facts, &book.void, doubt) {
+        return Ok((Cataloged { number: 14, place, ..Cataloged::default() }, Change::Index(cleared()), None));
+    }
+    let (index, nodes, shadows) = build(book.pieces, &book.facts);
+    let mut lists = lists_of(&book, &index.places, |x| Fact { kind, a: x, b: piece });
+    let [meets, apart, notpart] = [0, 1, 2].map(|i| lists.areas[i].len() / 2);
+    let outcome = Cataloged { number: 0, place: 0, pieces: book.pieces, nodes, shadows, listed: lists.list.len(), meets, apart, notpart };
+    for area in lists.areas.iter_mut() {
+        *area = padded(std::mem::take(area), PAIRS);
+    }
+    Ok((outcome, Change::Index(index), Some(lists)))
+}
+
+/// What a catalog must return and write.
+pub fn catalog(book: &[u8], kind: usize, piece: usize, lengths: Lengths, list: usize, areas: [usize; 3]) -> ExpectedCatalog {
+    let mut doubt = None;
+    let (outcome, change, lists) = catalog_whole(book, kind, piece, lengths, list, areas, &mut doubt)
+        .unwrap_or_else(|(number, place)| (Cataloged { number, place, ..Cataloged::default() }, Change::Nothing, None));
+    ExpectedCatalog { outcome, change, lists, doubt }
 }

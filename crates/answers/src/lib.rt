@@ -164,7 +164,7 @@ fn answer_all(
 }
 
 // Zeroes the four parts of the index.
-fn clear_index(parens: &mut [u8], marks: &mut [u8], shadows: &mut [u16], places: &mut [u16])
+pub fn clear_index(parens: &mut [u8], marks: &mut [u8], shadows: &mut [u16], places: &mut [u16])
     ensures { λ _. ⌜ Cleared (length (now (parens .entry))) (length (now (marks .entry))) (length (now (shadows .entry))) (length (now (places .entry))) (now (parens .exit)) (now (marks .exit)) (now (shadows .exit)) (now (places .exit)) ⌝ }
 {
     parentheses::clear(parens);
@@ -217,7 +217,7 @@ fn judge(
 }
 
 // Row 1.
-fn short(
+pub fn short(
     parens: usize,
     marks: usize,
     shadows: usize,

@@ -94,14 +94,14 @@ module _ (void : ℕ → Bool) (k a b : ℕ) (r : Bool) where
 
 -- what the stored facts tell, where the marks do not
 module _ (void : ℕ → Bool) (n : ℕ) (fs : List Fact) where
-  unfoldable byStored : Fact → Bool
+  unfoldable pub byStored : Fact → Bool
   byStored (PART g k) = inside n fs g k
   byStored (APART g k) = storing fs 2 (turned (λ x y. inside n fs g x && inside n fs k y))
   byStored (MEETS g k) = meets (inside n fs) void n fs g k
   byStored (NOTPART g k) =
       storing fs 4 (λ x y. inside n fs x g && inside n fs k y) || storing fs 2 (turned (λ x y. inside n fs k x && meets (inside n fs) void n fs g y))
 
-  marks-first : (f : Fact) → plain void n fs f ≡ (byMarks void f || byStored f)
+  pub marks-first : (f : Fact) → plain void n fs f ≡ (byMarks void f || byStored f)
   unfolding plain byMarks byStored
   marks-first (PART g k) = refl
   marks-first (APART g k) = sym (or-assoc (void g) (void k) _)
@@ -111,14 +111,14 @@ module _ (void : ℕ → Bool) (n : ℕ) (fs : List Fact) where
 -- ---- the tests
 
 module _ {n : ℕ} {fs : List Fact} (B : Bounded n fs) {a b : ℕ} (la : a < n) (lb : b < n) where
-  part-told : {d : List ℕ} → Holds d (partBit n fs) → bitOf d b a ≡ inside n fs a b
+  pub part-told : {d : List ℕ} → Holds d (partBit n fs) → bitOf d b a ≡ inside n fs a b
   part-told D = let h = B .fits in D .bits b a (omega arith) (omega arith) ∙ part-inside n fs (B .within) (B .some) (B .fits) a b la lb
 
   apart-told : {u p : List ℕ} → Holds u (wholeBit n fs) → Holds p (awayBit n fs) → common p a u b ≡ storing fs 2 (turned (λ x y. inside n fs a x && inside n fs b y))
   apart-told U P = let h = B .fits in common-holds P U a b (omega arith) (omega arith) ∙ apart-is n fs (B .within) (B .some) (B .fits) a b la lb
 
   module _ (void : ℕ → Bool) where
-    meets-told : {d t : List ℕ} → Holds d (partBit n fs) → Holds t (towardBit void n fs) → common t a d b ≡ meets (inside n fs) void n fs a b
+    pub meets-told : {d t : List ℕ} → Holds d (partBit n fs) → Holds t (towardBit void n fs) → common t a d b ≡ meets (inside n fs) void n fs a b
     meets-told D T = let h = B .fits in common-holds T D a b (omega arith) (omega arith) ∙ meets-is n fs (B .within) (B .some) (B .fits) void a b la lb
 
     notpart-told : {u q : List ℕ} → Holds u (wholeBit n fs) → Holds q (outBit void n fs) → common q a u b ≡ byStored void n fs (NOTPART a b)

@@ -280,7 +280,7 @@ fn clashes(run: &[u8], voids: &[u64], d: &[u64], t: &[u64]) -> bool
 }
 
 // Whether the marks alone tell the fact of a kind about a and b.
-fn marks_tell(kind: u8, a: usize, b: usize, voids: &[u64]) -> bool
+pub fn marks_tell(kind: u8, a: usize, b: usize, voids: &[u64]) -> bool
     requires { ⌜ (length (now voids) ≡ 32) × (a < 2048) × (b < 2048) ⌝ }
     ensures { λ r. ⌜ r ≡ byMarks (voidOf (now (voids .entry))) (factOf kind a b) ⌝ }
 {

@@ -1,4 +1,6 @@
-// The calls of include/piecebook.h: those of `answers`, `grids`, `working` and `convert`, with document 01's numbers for an outcome.
+// The calls of include/piecebook.h: those of `answers`, `grids`, `working`, `convert` and `catalog`, with document 01's numbers for an outcome.
+pub mod catalogs;
+
 ghost use mathlib.Core.Path.{_≡_};
 ghost use mathlib.Core.List.{[]};
 ghost use Rattle.answers.specs.Lent.{lent};

@@ -40,6 +40,7 @@ pub enum Refusal {
     ClaimPiece,
     Contradiction,
     TooManyPieces,
+    ShortCatalog,
     NotStanding,
     VoidForm,
 }
@@ -91,6 +92,7 @@ pub fn refusal_number(r: Refusal) -> u8
         Refusal::ClaimPiece => 13,
         Refusal::Contradiction => 14,
         Refusal::TooManyPieces => 16,
+        Refusal::ShortCatalog => 17,
         Refusal::NotStanding => 18,
         Refusal::VoidForm => 19,
     }

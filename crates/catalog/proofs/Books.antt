@@ -1,0 +1,89 @@
+-- What an accepted book gives its list and its areas. Assumes nothing.
+use mathlib.Core.Path.{_≡_, sym, ap, _∙_, subst}
+use mathlib.Core.List.{List}
+use Prim.Native.Nat.{ℕ, _≤_, _<_}
+use native.Mathlib.Omega.{arith}
+use lib.ListN.{length, getD}
+use mathlib.Core.Bool.{Bool, false}
+use Rattle.lists.specs.Tab.{tab}
+use Rattle.lists.specs.Front.{front}
+use Rattle.lists.proofs.Tabs.{tab-at, tab-length}
+use Rattle.rules.specs.Fact.{factOf}
+use Rattle.rules.specs.Follows.{follows}
+use Rattle.records.specs.Record.{records}
+use Rattle.records.specs.Facts.{facts}
+use Rattle.records.specs.Marked.{marked}
+use Rattle.records.specs.Check.{bookCheck}
+use Rattle.records.specs.declared.BookCheck.the-variants as book
+use Rattle.records.proofs.Accepted.{accepted}
+use Rattle.parentheses.specs.Padded.{padded}
+use Rattle.parentheses.proofs.Paddeds.{padded-length}
+use Rattle.index.specs.Index.{visitsOf}
+use Rattle.index.specs.Pairs.{joined}
+use Rattle.index.specs.Tree.{visits, whole}
+use Rattle.index.specs.Parts as on
+use Rattle.index.proofs.Packing.{padded-at}
+use Rattle.index.proofs.Standing.{place-small}
+use Rattle.closure.specs.Bounded.{Bounded}
+use Rattle.closure.specs.Opened.{Opened}
+use Rattle.closure.specs.PartIn.{partIn}
+use Rattle.closure.proofs.FactIndex as pairs-of
+use Rattle.closure.proofs.Settling.{settleable, settled-room}
+use Rattle.answers.specs.Call.{edges}
+use Rattle.catalog.specs.Passing.{passing}
+use Rattle.catalog.specs.Area.{pairs, filled}
+use Rattle.catalog.specs.Call.{listOf, placesOf, areaOf, countsOf}
+use Rattle.catalog.specs.Filling.{Filled}
+use Rattle.catalog.specs.declared.Counts.{Counts}
+
+module _ (s : List ℕ) (n : ℕ) (sound : bookCheck s ≡ book.Accepted n) where
+  pub book-bounded : Bounded n (facts s)
+  book-bounded = settleable s n sound .bounded
+
+  pub book-few : records s ≤ 8192
+  book-few = accepted s n sound .few
+
+  -- the place list has 2,048 numbers
+  pub places-long : length (placesOf s n) ≡ 2048
+  unfolding placesOf on.placeList
+  places-long = padded-length 0 2048 (on.placeList n (visitsOf n (edges n s))) (omega (arith, book-bounded .fits, tab-length (on.place (visitsOf n (edges n s))) 0 n))
+
+  -- and those of pieces are below 10,240
+  pub places-small : (x : ℕ) → x < n → getD (placesOf s n) x 0 < 10240
+  unfolding placesOf on.placeList visitsOf edges
+  places-small x l =
+      let S = settleable s n sound in
+      let edge = joined n (partIn (facts s)) in
+      let P = on.place (visits (whole n edge)) in
+      let b = pairs-of.book n (facts s) (S .bounded .some) (S .bounded .within) (S .ordered .lower) in
+      let e = padded-at 0 2048 (tab P 0 n) x (omega (arith, S .bounded .fits)) ∙ tab-at P n x 0 l in
+      omega (arith, e, place-small n edge b x l, settled-room S .marks)
+
+  pub places-fit : (places : List ℕ) → places ≡ placesOf s n → (n ≤ length places) × ((x : ℕ) → x < n → getD places x 0 < 10240)
+  places-fit places e = rw e (omega (arith, book-bounded .fits, places-long), places-small)
+
+  -- the place list of a free book as it stands in its index
+  pub places-are :
+      {parens marks shadows places e d t : List ℕ} {nodes shadowed : ℕ} {void : ℕ → Bool} → Opened void n (facts s) parens marks shadows places nodes shadowed e d t false → length places ≡ 2048
+      → places ≡ placesOf s n
+  unfolding placesOf edges
+  places-are O l = O .index .places-are ∙ ap (λ (k : ℕ). padded 0 k (on.placeList n (visitsOf n (joined n (partIn (facts s)))))) l
+
+-- the list, the areas and the counts
+pub filled-all :
+    (s : List ℕ) (k g n nodes shadows : ℕ) (places : List ℕ) → places ≡ placesOf s n → (void : ℕ → Bool) → void ≡ marked s
+    → (list list′ meets meets′ apart apart′ notpart notpart′ : List ℕ) (a b c d : ℕ)
+    → (list′ ≡ front (passing (λ x. follows void n (facts s) (factOf k x g)) n) list) × (a ≡ length (passing (λ x. follows void n (facts s) (factOf k x g)) n))
+    → (meets′ ≡ filled (pairs (facts s) 3 places) meets) × (b ≡ length (pairs (facts s) 3 places))
+    → (apart′ ≡ filled (pairs (facts s) 2 places) apart) × (c ≡ length (pairs (facts s) 2 places))
+    → (notpart′ ≡ filled (pairs (facts s) 4 places) notpart) × (d ≡ length (pairs (facts s) 4 places))
+    → Filled s k g n nodes shadows list meets apart notpart (record { pieces = n; nodes = nodes; shadows = shadows; listed = a; meets = b; apart = c; notpart = d }) list′ meets′ apart′ notpart′
+unfolding listOf areaOf countsOf
+filled-all s k g n nodes shadows places e void v list list′ meets meets′ apart apart′ notpart notpart′ a b c d L M A N =
+    record {
+      counts-are = rw (L .1, M .1, A .1, N .1, e, v);
+      list-is = rw v at (L .0);
+      meets-are = rw e at (M .0);
+      apart-are = rw e at (A .0);
+      notpart-are = rw e at (N .0);
+    }

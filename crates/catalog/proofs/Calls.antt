@@ -1,0 +1,169 @@
+-- What a catalog comes to and leaves, row by row. Assumes nothing.
+use Prim.Native.Nat.{ℕ, _≤_, _<_}
+use mathlib.Core.Path.{_≡_, refl, sym, ap, _∙_}
+use mathlib.Core.Bool.{Bool, true, false, not, _&&_, _||_, false≢true, and-false}
+use mathlib.Core.List.{List, [], _++_}
+use native.Mathlib.Omega.{arith}
+use borrow.Author.Tests.{ltb-false, ne-eqb, le-leb, lt-leb}
+use lib.Dec.{ltb, leb}
+use lib.ListN.{length, take, drop}
+use Rattle.lists.proofs.Bools.{Known, is-true, is-false, known}
+use Rattle.records.specs.Record.{records}
+use Rattle.records.specs.Refusal.{refusalNumber, scan}
+use Rattle.records.specs.Check.{bookCheck, claimsCheck}
+use Rattle.records.specs.declared.Refusal.{Refusal}
+use Rattle.records.specs.declared.Refusal.the-variants.{ShortBuffer, ShortCatalog, ClaimFormat, ClaimPiece, Contradiction}
+use Rattle.records.specs.declared.BookCheck.the-variants as book
+use Rattle.records.specs.declared.ClaimsCheck.the-variants as claims
+use Rattle.answers.specs.Lent.{shortLent}
+use Rattle.answers.specs.Lent as lending
+use Rattle.answers.specs.Call.{byRuns, Passed, answersTo}
+use Rattle.answers.specs.Call as call
+use Rattle.answers.specs.Judging as judging
+use Rattle.answers.specs.declared.Outcome.{Outcome}
+use Rattle.answers.specs.declared.Outcome.the-variants.{Accepted, Refused}
+use Rattle.answers.proofs.Outcomes.{Other, book-other, runs-told}
+use Rattle.answers.proofs.Buffers.{cut, put-back, left-back, Fitted}
+use Rattle.answers.proofs.Kept.{fitted}
+use Rattle.answers.proofs.Calls.{long}
+use Rattle.answers.proofs.Calls as calls
+use Rattle.catalog.specs.Lent.{Lent, lent, shortCatalog}
+use Rattle.catalog.specs.Call.{countsOf, refuseIf, byIndex, byAsked, byBook, outcome, left, Determined}
+use Rattle.catalog.specs.Filling.{Roomy, Asked, Filled, Ready, Judged, Answered}
+use Rattle.catalog.specs.declared.Counts.{Counts}
+use Rattle.catalog.specs.declared.Listing.{Listing}
+use Rattle.catalog.specs.declared.Listing.the-variants as listing
+
+-- two lendings with the same parts
+same : {i i′ : lending.Lent} {a a′ b b′ c c′ d d′ : List ℕ} → i ≡ i′ → a ≡ a′ → b ≡ b′ → c ≡ c′ → d ≡ d′
+    → _≡_ {A = Lent} (record { index = i; list = a; meets = b; apart = c; notpart = d }) (record { index = i′; list = a′; meets = b′; apart = c′; notpart = d′ })
+same p q r s t = rw (p, q, r, s, t)
+
+-- no claims pass their rows
+no-claims : (n : ℕ) → claimsCheck n [] ≡ claims.Accepted
+unfolding claimsCheck scan
+no-claims n = refl
+
+-- ---- row 14
+
+module _ (s : List ℕ) (k g n : ℕ) (l : Lent) where
+  -- a contradictory book
+  pub judged-refused :
+      {place : ℕ} {i : lending.Lent} → judging.Judged s n [] (l .index) (Refused Contradiction place) i
+      → Judged s k g n l (listing.Refused Contradiction place) (record { index = i; list = l .list; meets = l .meets; apart = l .apart; notpart = l .notpart })
+  unfolding byIndex left
+  judged-refused J = record { outcome-is = ap (byIndex s k g) (J .outcome-is); left-is = same (J .left-is) refl refl refl refl }
+
+  -- any other
+  pub judged-written :
+      {nodes shadows : ℕ} {i : lending.Lent} {list meets apart notpart : List ℕ} {c : Counts} → judging.Judged s n [] (l .index) (Accepted n nodes shadows) i
+      → Filled s k g n nodes shadows (l .list) (l .meets) (l .apart) (l .notpart) c list meets apart notpart
+      → Judged s k g n l (listing.Written c) (record { index = i; list = list; meets = meets; apart = apart; notpart = notpart })
+  unfolding byIndex left countsOf
+  judged-written J F =
+      record {
+        outcome-is = ap listing.Written (F .counts-are) ∙ ap (byIndex s k g) (J .outcome-is);
+        left-is = rw (F .counts-are) (same (J .left-is) (F .list-is) (F .meets-are) (F .apart-are) (F .notpart-are));
+      }
+
+  -- ---- rows that leave everything
+
+  untouched : (r : Refusal) (i : ℕ) → Other r → l ≡ left s k g l (listing.Refused r i)
+  unfolding left call.left
+  untouched r i o = rw (ne-eqb (refusalNumber r) 14 o, call.left)
+
+  -- rows 12 and 13
+  pub kind-refused : (leb 1 k && leb k 3) ≡ false → Answered s k g n l (listing.Refused ClaimFormat 0) l
+  unfolding byAsked refuseIf
+  kind-refused e = record { outcome-is = rw (e, refuseIf); left-is = untouched ClaimFormat 0 (omega arith) }
+
+  pub piece-refused : (leb 1 k && leb k 3) ≡ true → n ≤ g → Answered s k g n l (listing.Refused ClaimPiece 0) l
+  unfolding byAsked refuseIf
+  piece-refused e h = record { outcome-is = rw (e, refuseIf, le-leb n g h, refuseIf); left-is = untouched ClaimPiece 0 (omega arith) }
+
+  pub answered : {r : Listing} {l′ : Lent} → (leb 1 k && leb k 3) ≡ true → g < n → Judged s k g n l r l′ → Answered s k g n l r l′
+  unfolding byAsked refuseIf
+  answered e h J = record { outcome-is = J .outcome-is ∙ rw (e, refuseIf, lt-leb n g h, refuseIf); left-is = J .left-is }
+
+-- kinds 1 to 3
+pub low-kind : (k : ℕ) → k < 1 → (leb 1 k && leb k 3) ≡ false
+low-kind k h = rw (lt-leb 1 k h)
+
+pub high-kind : (k : ℕ) → 3 < k → (leb 1 k && leb k 3) ≡ false
+high-kind k h = rw (lt-leb k 3 h) (and-false (leb 1 k))
+
+pub fit-kind : (k : ℕ) → 1 ≤ k → k ≤ 3 → (leb 1 k && leb k 3) ≡ true
+fit-kind k h h′ = rw (le-leb 1 k h, le-leb k 3 h′)
+
+-- ---- the whole call
+
+neither : (a b : Bool) → (a || b) ≡ false → (a ≡ false) × (b ≡ false)
+neither true b e = absurd (false≢true (sym e))
+neither false b e = (refl, e)
+
+abbrev indexOutcome : Listing → Outcome
+indexOutcome (listing.Written c) = Accepted (c .pieces) (c .nodes) (c .shadows)
+indexOutcome (listing.Refused r i) = Refused r i
+
+module _ (s : List ℕ) (k g : ℕ) (l : Lent) where
+  pub short-refused : shortLent [] (l .index) ≡ true → Determined s k g l (listing.Refused ShortBuffer 0) l
+  unfolding outcome refuseIf
+  short-refused e = (rw (e, refuseIf), untouched s k g 0 l ShortBuffer 0 (omega arith))
+
+  module _ (ok : shortLent [] (l .index) ≡ false) where
+    pub catalog-refused : shortCatalog l ≡ true → Determined s k g l (listing.Refused ShortCatalog 0) l
+    unfolding outcome refuseIf
+    catalog-refused e = (rw (ok, refuseIf, e, refuseIf), untouched s k g 0 l ShortCatalog 0 (omega arith))
+
+    module _ (fit : shortCatalog l ≡ false) where
+      pub book-refused : {r : Refusal} {i : ℕ} → bookCheck s ≡ book.Refused r i → Determined s k g l (listing.Refused r i) l
+      unfolding outcome refuseIf byBook
+      book-refused {r} {i} q = (rw (ok, refuseIf, fit, refuseIf, q, byBook), untouched s k g 0 l r i (rw q at (book-other s)))
+
+      pub roomy : Roomy (length (l .list)) (length (l .meets)) (length (l .apart)) (length (l .notpart))
+      unfolding shortCatalog
+      roomy =
+          let a = neither (ltb (length (l .list)) 2048) _ fit in
+          let b = neither (ltb (length (l .meets)) 16384) _ (a .1) in
+          let c = neither (ltb (length (l .apart)) 16384) _ (b .1) in
+          record { list-long = ltb-false _ _ (a .0); meets-long = ltb-false _ _ (b .0); apart-long = ltb-false _ _ (c .0); notpart-long = ltb-false _ _ (c .1) }
+
+      module _ {n : ℕ} (sound : bookCheck s ≡ book.Accepted n) where
+        -- the parts that are written
+        abbrev parts : Lent
+        parts = record { index = cut 0 (l .index); list = l .list; meets = l .meets; apart = l .apart; notpart = l .notpart }
+
+        abbrev back : Lent → Lent
+        back x = record { index = put-back 0 (l .index) (x .index); list = x .list; meets = x .meets; apart = x .apart; notpart = x .notpart }
+
+        pub ready : Ready s n parts
+        ready = record { exact = calls.exact s [] (l .index) ok sound (no-claims n); roomy = roomy }
+
+        -- what is written of the index fits
+        same-fit : (o : Outcome) → Fitted s o → Fitted s (indexOutcome (byIndex s k g o))
+        unfolding byIndex countsOf
+        same-fit (Accepted m nodes shadows) F = F
+        same-fit (Refused r i) F = F
+
+        runs-fit : Fitted s (indexOutcome (byIndex s k g (byRuns s n)))
+        runs-fit = same-fit (byRuns s n) (fitted s [] (l .index) (byRuns s n) (runs-told s [] (l .index) n (record { lent = ok; sound = sound; fit = no-claims n })))
+
+        asked-fit : Fitted s (indexOutcome (byAsked s k g n))
+        unfolding byAsked refuseIf
+        asked-fit = pick (not (leb 1 k && leb k 3)) (leb n g)
+          where
+            pick : (a b : Bool) → Fitted s (indexOutcome (refuseIf a ClaimFormat (refuseIf b ClaimPiece (byIndex s k g (byRuns s n)))))
+            pick true b = tt
+            pick false true = tt
+            pick false false = runs-fit
+
+        left-is : (r : Listing) → Fitted s (indexOutcome r) → back (left s k g parts r) ≡ left s k g l r
+        unfolding left
+        left-is (listing.Refused r i) F = same (left-back s [] (l .index) (Refused r i) (long [] (l .index) ok) F) refl refl refl refl
+        left-is (listing.Written c) F = same (left-back s [] (l .index) (Accepted (c .pieces) (c .nodes) (c .shadows)) (long [] (l .index) ok) F) refl refl refl refl
+
+        pub determined : (r : Listing) (x : Lent) → Answered s k g n parts r x → Determined s k g l r (back x)
+        unfolding outcome refuseIf byBook
+        determined r x A =
+            let f : Fitted s (indexOutcome r) = rw (A .outcome-is) asked-fit in
+            (A .outcome-is ∙ rw (ok, refuseIf, fit, refuseIf, sound, byBook), ap back (A .left-is) ∙ left-is r f)

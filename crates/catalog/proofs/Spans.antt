@@ -1,0 +1,92 @@
+-- The range of a piece in the index of an accepted book. Assumes nothing.
+use mathlib.Core.Path.{_≡_, refl, sym, ap, ap₂, _∙_}
+use mathlib.Core.Bool.{Bool, false}
+use mathlib.Core.List.{List, _++_}
+use Prim.Native.Nat.{ℕ, suc, _+_, _-_, _*_, _≤_, _<_}
+use native.Mathlib.Omega.{arith}
+use lib.ListN.{length, getD, take, drop, replicate, length-append, length-drop, List·getD-append}
+use Rattle.lists.specs.Tab.{tab}
+use Rattle.lists.specs.Front.{front}
+use Rattle.lists.proofs.Fronts.{front-taken}
+use Rattle.lists.proofs.Tabs.{tab-at}
+use Rattle.records.specs.Facts.{facts}
+use Rattle.records.specs.Check.{bookCheck}
+use Rattle.records.specs.declared.BookCheck.the-variants as book
+use Rattle.parentheses.specs.Bits.{bits}
+use Rattle.parentheses.specs.Padded.{padded}
+use Rattle.parentheses.specs.Forest.{size, children}
+use Rattle.parentheses.specs.Subtree.{after}
+use Rattle.parentheses.proofs.Trees.{after-enc, ones-enc}
+use Rattle.index.specs.Pairs.{joined}
+use Rattle.index.specs.Tree.{whole, visits}
+use Rattle.index.specs.Index.{parenthesesOf, visitsOf}
+use Rattle.index.specs.Parts as on
+use Rattle.index.proofs.Packing.{packed-is, padded-at}
+use Rattle.index.proofs.Ranges.{ones-parens}
+use Rattle.index.proofs.Standing.{place-small}
+use Rattle.closure.specs.PartIn.{partIn}
+use Rattle.closure.proofs.FactIndex as pairs-of
+use Rattle.closure.proofs.Settling.{settleable, settled-room}
+use Rattle.answers.specs.Call.{edges}
+use Rattle.answers.proofs.Buffers.{packed-long}
+use Rattle.catalog.specs.Call.{placesOf}
+use Rattle.catalog.specs.Subtree.{endOf, rangeFrom, rangeTo, Spanned}
+use Rattle.catalog.proofs.Books.{places-long}
+use Rattle.catalog.proofs.Subtrees.{end-there, range-some}
+
+-- what is written at the front of a buffer
+front-long : (k : ℕ) (xs old : List ℕ) → length xs ≡ k → k ≤ length (front xs old)
+unfolding front
+front-long k xs old e = omega (arith, length-append xs (drop (length xs) old))
+
+front-at : (xs old : List ℕ) (i : ℕ) → i < length xs → getD (front xs old) i 0 ≡ getD xs i 0
+unfolding front
+front-at xs old i l = List·getD-append xs (drop (length xs) old) 0 i l
+
+module _ (s : List ℕ) (n : ℕ) (sound : bookCheck s ≡ book.Accepted n) (old old′ : List ℕ) (h : ℕ) (l : h < n) where
+  abbrev parens : List ℕ
+  parens = front (on.packed 2560 (parenthesesOf n (edges n s))) old
+
+  abbrev places : List ℕ
+  places = front (placesOf s n) old′
+
+  P : ℕ
+  P = on.place (visitsOf n (edges n s)) h
+
+  placed : getD places h 0 ≡ P
+  unfolding placesOf on.placeList P
+  placed =
+      let f = settleable s n sound .bounded .fits in
+      front-at (placesOf s n) old′ h (omega (arith, places-long s n sound)) ∙ padded-at 0 2048 (tab (on.place (visitsOf n (edges n s))) 0 n) h (omega arith)
+      ∙ tab-at (on.place (visitsOf n (edges n s))) n h 0 l
+
+  small : P < size (on.shape (whole n (edges n s)))
+  unfolding P visitsOf edges on.parens
+  small =
+      let S = settleable s n sound in
+      let edge = joined n (partIn (facts s)) in
+      let b = pairs-of.book n (facts s) (S .bounded .some) (S .bounded .within) (S .ordered .lower) in
+      omega (arith, place-small n edge b h l, ones-enc (on.shape (whole n edge)), ones-parens (whole n edge))
+
+  ends : suc (P + size (children (on.shape (whole n (edges n s))) P)) ≡ after (bits (take 2560 parens)) P
+  unfolding parenthesesOf on.parens padded edges
+  ends =
+      let S = settleable s n sound in
+      let edge = joined n (partIn (facts s)) in
+      let w = on.parens (whole n edge) in
+      let r = settled-room S .parens in
+      let t : take 2560 (front (on.packed 2560 w) old) ≡ on.packed 2560 w =
+      ap (λ (k : ℕ). take k (front (on.packed 2560 w) old)) (sym (packed-long 2560 w)) ∙ front-taken (on.packed 2560 w) old in
+      sym (ap (λ (bs : List Bool). after bs P) (ap bits t ∙ packed-is 2560 w r)
+      ∙ after-enc (on.shape (whole n edge)) (replicate (20480 - length w) false) P small ∙ omega arith)
+
+  -- THE THEOREM: the range in what a catalog leaves
+  pub spanned : Spanned n (edges n s) h (rangeFrom parens places h) (rangeTo parens places h)
+  unfolding P
+  spanned =
+      let long = front-long 2560 (on.packed 2560 (parenthesesOf n (edges n s))) old (packed-long 2560 _) in
+      let f = settleable s n sound .bounded .fits in
+      let wide = front-long 2048 (placesOf s n) old′ (places-long s n sound) in
+      let e = end-there parens places h P (suc (P + size (children (on.shape (whole n (edges n s))) P))) long (omega arith) (sym placed) ends in
+      let r = range-some parens places h (suc (P + size (children (on.shape (whole n (edges n s))) P))) P e (λ z. omega arith) (sym placed) in
+      record { from-is = sym (r .0); to-is = omega (arith, r .1) }

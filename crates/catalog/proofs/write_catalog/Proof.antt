@@ -1,0 +1,172 @@
+-- `catalog::write_catalog` meets its contract. Assumes nothing.
+use mathlib.Core.Path.{sym, _∙_}
+use mathlib.Core.List.{[]}
+use borrow.Author.Needs.{needs}
+use lib.Seq.{length-take-le}
+use Rattle.answers.specs.Lent.{shortLent}
+use Rattle.answers.proofs.Calls.{long}
+use Rattle.catalog.specs.Lent.{Lent, lent, shortCatalog}
+use Rattle.catalog.proofs.Calls.{short-refused, catalog-refused, book-refused, ready, determined}
+use Rattle.catalog.proofs.write_catalog.Statement.{statement}
+use Rattle.catalog.proofs.write_catalog.Tie as tie
+
+short-requires : tie.Need-short-requires
+short-requires c κs = search needs
+
+returns : tie.Need-returns
+unfolding shortLent
+returns c =
+    let A = c .before .before .before .before .before .before .before .before .before .before .before .args in
+    let l = lent (A .parens .now) (A .marks .now) (A .shadows .now) (A .places .now) (A .list .now) (A .meets .now) (A .apart .now) (A .notpart .now) in
+    short-refused _ _ _ l (sym (c .before .short .ensures) ∙ c .if1 .taken)
+
+short-requires-2 : tie.Need-short-requires-2
+short-requires-2 c κs = search needs
+
+returns-2 : tie.Need-returns-2
+unfolding shortLent shortCatalog
+returns-2 c =
+    let A = c .before .before .before .before .before .before .before .before .before .before .before .before .before .args in
+    let l = lent (A .parens .now) (A .marks .now) (A .shadows .now) (A .places .now) (A .list .now) (A .meets .now) (A .apart .now) (A .notpart .now) in
+    catalog-refused _ _ _ l (sym (c .before .before .before .short .ensures) ∙ c .before .before .if1 .left) (sym (c .before .short2 .ensures) ∙ c .if2 .taken)
+
+check-book-requires : tie.Need-check-book-requires
+check-book-requires c κs = search needs
+
+enum-known-checked : tie.Need-enum-known-checked
+enum-known-checked c = search needs
+
+enum-known-checked-2 : tie.Need-enum-known-checked-2
+enum-known-checked-2 c = search needs
+
+slice-relend-prefix-ask : tie.Need-slice-relend-prefix-ask
+unfolding shortLent
+slice-relend-prefix-ask c =
+    let A = c .before .before .before .before .before .before .before .before .before .before .before .before .before .before .before .before .before .args in
+    let l = lent (A .parens .now) (A .marks .now) (A .shadows .now) (A .places .now) (A .list .now) (A .meets .now) (A .apart .now) (A .notpart .now) in
+    long [] (l .index) (sym (c .before .before .before .before .before .before .before .short .ensures) ∙ c .before .before .before .before .before .before .if1 .left) .parens
+
+slice-aggregate-ask : tie.Need-slice-aggregate-ask
+unfolding shortLent
+slice-aggregate-ask c =
+    let A = c .before .before .before .before .before .before .before .before .before .before .before .before .before .before .before .before .before .before .args in
+    let l = lent (A .parens .now) (A .marks .now) (A .shadows .now) (A .places .now) (A .list .now) (A .meets .now) (A .apart .now) (A .notpart .now) in
+    sym (length-take-le 2560 (A .parens .now) (long [] (l .index) (sym (c .before .before .before .before .before .before .before .before .short .ensures) ∙ c .before .before .before .before .before .before .before .if1 .left) .parens))
+
+slice-relend-prefix-ask-2 : tie.Need-slice-relend-prefix-ask-2
+unfolding shortLent
+slice-relend-prefix-ask-2 c =
+    let A = c .before .before .before .before .before .before .before .before .before .before .before .before .before .before .before .before .before .before .args in
+    let l = lent (A .parens .now) (A .marks .now) (A .shadows .now) (A .places .now) (A .list .now) (A .meets .now) (A .apart .now) (A .notpart .now) in
+    long [] (l .index) (sym (c .before .before .before .before .before .before .before .before .short .ensures) ∙ c .before .before .before .before .before .before .before .if1 .left) .marks
+
+slice-aggregate-ask-2 : tie.Need-slice-aggregate-ask-2
+unfolding shortLent
+slice-aggregate-ask-2 c =
+    let A = c .before .before .before .before .before .before .before .before .before .before .before .before .before .before .before .before .before .before .before .args in
+    let l = lent (A .parens .now) (A .marks .now) (A .shadows .now) (A .places .now) (A .list .now) (A .meets .now) (A .apart .now) (A .notpart .now) in
+    sym (length-take-le 1280 (A .marks .now) (long [] (l .index) (sym (c .before .before .before .before .before .before .before .before .before .short .ensures) ∙ c .before .before .before .before .before .before .before .before .if1 .left) .marks))
+
+slice-relend-prefix-ask-3 : tie.Need-slice-relend-prefix-ask-3
+unfolding shortLent
+slice-relend-prefix-ask-3 c =
+    let A = c .before .before .before .before .before .before .before .before .before .before .before .before .before .before .before .before .before .before .before .args in
+    let l = lent (A .parens .now) (A .marks .now) (A .shadows .now) (A .places .now) (A .list .now) (A .meets .now) (A .apart .now) (A .notpart .now) in
+    long [] (l .index) (sym (c .before .before .before .before .before .before .before .before .before .short .ensures) ∙ c .before .before .before .before .before .before .before .before .if1 .left) .shadows
+
+slice-aggregate-ask-3 : tie.Need-slice-aggregate-ask-3
+unfolding shortLent
+slice-aggregate-ask-3 c =
+    let A = c .before .before .before .before .before .before .before .before .before .before .before .before .before .before .before .before .before .before .before .before .args in
+    let l = lent (A .parens .now) (A .marks .now) (A .shadows .now) (A .places .now) (A .list .now) (A .meets .now) (A .apart .now) (A .notpart .now) in
+    sym (length-take-le 8192 (A .shadows .now) (long [] (l .index) (sym (c .before .before .before .before .before .before .before .before .before .before .short .ensures) ∙ c .before .before .before .before .before .before .before .before .before .if1 .left) .shadows))
+
+slice-relend-prefix-ask-4 : tie.Need-slice-relend-prefix-ask-4
+unfolding shortLent
+slice-relend-prefix-ask-4 c =
+    let A = c .before .before .before .before .before .before .before .before .before .before .before .before .before .before .before .before .before .before .before .before .args in
+    let l = lent (A .parens .now) (A .marks .now) (A .shadows .now) (A .places .now) (A .list .now) (A .meets .now) (A .apart .now) (A .notpart .now) in
+    long [] (l .index) (sym (c .before .before .before .before .before .before .before .before .before .before .short .ensures) ∙ c .before .before .before .before .before .before .before .before .before .if1 .left) .places
+
+slice-aggregate-ask-4 : tie.Need-slice-aggregate-ask-4
+unfolding shortLent
+slice-aggregate-ask-4 c =
+    let A = c .before .before .before .before .before .before .before .before .before .before .before .before .before .before .before .before .before .before .before .before .before .args in
+    let l = lent (A .parens .now) (A .marks .now) (A .shadows .now) (A .places .now) (A .list .now) (A .meets .now) (A .apart .now) (A .notpart .now) in
+    sym (length-take-le 2048 (A .places .now) (long [] (l .index) (sym (c .before .before .before .before .before .before .before .before .before .before .before .short .ensures) ∙ c .before .before .before .before .before .before .before .before .before .before .if1 .left) .places))
+
+ask-requires : tie.Need-ask-requires
+unfolding shortLent shortCatalog
+ask-requires c κs =
+    let A = c .before .before .before .before .before .before .before .before .before .before .before .before .before .before .before .before .before .before .before .before .before .before .before .before .before .args in
+    let l = lent (A .parens .now) (A .marks .now) (A .shadows .now) (A .places .now) (A .list .now) (A .meets .now) (A .apart .now) (A .notpart .now) in
+    ready _ (A .kind) (A .g) l (sym (c .before .before .before .before .before .before .before .before .before .before .before .before .before .before .before .short .ensures) ∙ c .before .before .before .before .before .before .before .before .before .before .before .before .before .before .if1 .left) (sym (c .before .before .before .before .before .before .before .before .before .before .before .before .before .short2 .ensures) ∙ c .before .before .before .before .before .before .before .before .before .before .before .before .if2 .left) (sym (c .before .before .before .before .before .before .before .before .before .before .before .check-book .ensures) ∙ c .before .before .before .before .before .before .before .before .before .checked2 .given .1)
+
+returns-3 : tie.Need-returns-3
+unfolding shortLent shortCatalog
+returns-3 c =
+    let A = c .before .before .before .before .before .before .before .before .before .before .before .before .before .before .before .before .before .args in
+    let l = lent (A .parens .now) (A .marks .now) (A .shadows .now) (A .places .now) (A .list .now) (A .meets .now) (A .apart .now) (A .notpart .now) in
+    book-refused _ _ _ l (sym (c .before .before .before .before .before .before .before .short .ensures) ∙ c .before .before .before .before .before .before .if1 .left) (sym (c .before .before .before .before .before .short2 .ensures) ∙ c .before .before .before .before .if2 .left) (sym (c .before .before .before .check-book .ensures) ∙ c .before .checked .given .1)
+
+same-length : tie.Need-same-length
+same-length c = search needs
+
+same-length-2 : tie.Need-same-length-2
+same-length-2 c = search needs
+
+same-length-3 : tie.Need-same-length-3
+same-length-3 c = search needs
+
+same-length-4 : tie.Need-same-length-4
+same-length-4 c = search needs
+
+same-length-5 : tie.Need-same-length-5
+same-length-5 c = search needs
+
+same-length-6 : tie.Need-same-length-6
+same-length-6 c = search needs
+
+same-length-7 : tie.Need-same-length-7
+same-length-7 c = search needs
+
+same-length-8 : tie.Need-same-length-8
+same-length-8 c = search needs
+
+returns-4 : tie.Need-returns-4
+unfolding shortLent shortCatalog
+returns-4 c =
+    let A = c .before .before .before .before .before .before .before .before .before .before .before .before .before .before .before .before .before .before .before .before .before .before .before .before .before .before .before .before .before .before .before .before .before .before .before .before .before .before .before .before .before .before .args in
+    let l = lent (A .parens .now) (A .marks .now) (A .shadows .now) (A .places .now) (A .list .now) (A .meets .now) (A .apart .now) (A .notpart .now) in
+    determined _ _ _ l (sym (c .before .before .before .before .before .before .before .before .before .before .before .before .before .before .before .before .before .before .before .before .before .before .before .before .before .before .before .before .before .before .before .before .short .ensures) ∙ c .before .before .before .before .before .before .before .before .before .before .before .before .before .before .before .before .before .before .before .before .before .before .before .before .before .before .before .before .before .before .before .if1 .left) (sym (c .before .before .before .before .before .before .before .before .before .before .before .before .before .before .before .before .before .before .before .before .before .before .before .before .before .before .before .before .before .before .short2 .ensures) ∙ c .before .before .before .before .before .before .before .before .before .before .before .before .before .before .before .before .before .before .before .before .before .before .before .before .before .before .before .before .before .if2 .left) (sym (c .before .before .before .before .before .before .before .before .before .before .before .before .before .before .before .before .before .before .before .before .before .before .before .before .before .before .before .before .check-book .ensures) ∙ c .before .before .before .before .before .before .before .before .before .before .before .before .before .before .before .before .before .before .before .before .before .before .before .before .before .before .checked2 .given .1) _ _ (c .before .before .before .before .before .before .before .before .before .before .before .before .before .before .before .before .ask .ensures)
+
+pub write-catalog-spec : {M : Type 1} → statement M
+write-catalog-spec =
+    tie.close
+    (tie.spec
+    short-requires
+    returns
+    short-requires-2
+    returns-2
+    check-book-requires
+    enum-known-checked
+    enum-known-checked-2
+    slice-relend-prefix-ask
+    slice-aggregate-ask
+    slice-relend-prefix-ask-2
+    slice-aggregate-ask-2
+    slice-relend-prefix-ask-3
+    slice-aggregate-ask-3
+    slice-relend-prefix-ask-4
+    slice-aggregate-ask-4
+    ask-requires
+    returns-3
+    same-length
+    same-length-2
+    same-length-3
+    same-length-4
+    same-length-5
+    same-length-6
+    same-length-7
+    same-length-8
+    returns-4)

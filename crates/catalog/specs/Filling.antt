@@ -1,0 +1,66 @@
+-- What the steps of a catalog promise each other. Assumes nothing.
+use mathlib.Core.Path.{_≡_}
+use mathlib.Core.Bool.{false}
+use mathlib.Core.List.{List, []}
+use Prim.Native.Nat.{ℕ, _≤_, _<_}
+use lib.ListN.{length}
+use Rattle.lists.specs.Front.{front}
+use Rattle.rules.specs.Follows.{clash}
+use Rattle.records.specs.Facts.{facts}
+use Rattle.records.specs.Check.{bookCheck}
+use Rattle.records.specs.declared.BookCheck.the-variants as book
+use Rattle.closure.specs.Void.{voidOf}
+use Rattle.closure.specs.Closed.{Holds, partBit, towardBit}
+use Rattle.answers.specs.Call.{byRuns}
+use Rattle.answers.specs.Judging.{MarksOf, Exact}
+use Rattle.catalog.specs.Area.{filled}
+use Rattle.catalog.specs.Lent.{Lent}
+use Rattle.catalog.specs.Call.{listOf, placesOf, areaOf, countsOf, byIndex, byAsked, left}
+use Rattle.catalog.specs.declared.Counts.{Counts}
+use Rattle.catalog.specs.declared.Listing.{Listing}
+
+-- a list and areas of these lengths have room for what is written
+pub record Roomy (list meets apart notpart : ℕ) : Type 0 where
+  pub list-long : 2048 ≤ list
+  pub meets-long : 16384 ≤ meets
+  pub apart-long : 16384 ≤ apart
+  pub notpart-long : 16384 ≤ notpart
+
+-- a kind and a piece that pass rows 12 and 13
+pub record Asked (n k g : ℕ) : Type 0 where
+  pub least : 1 ≤ k
+  pub most : k ≤ 3
+  pub piece : g < n
+
+-- a book that is not contradictory, its marks, its D and T, the place list of its index, and a matrix to work in
+pub record Settled (s : List ℕ) (n : ℕ) (voids m d t places : List ℕ) : Type 0 where
+  pub sound : bookCheck s ≡ book.Accepted n
+  pub void : MarksOf s voids
+  pub free : false ≡ clash (voidOf voids) n (facts s)
+  pub sized : length m ≡ 65536
+  pub parts : Holds d (partBit n (facts s))
+  pub toward : Holds t (towardBit (voidOf voids) n (facts s))
+  pub placed : places ≡ placesOf s n
+
+-- the list, the areas and the counts of a book
+pub record Filled (s : List ℕ) (k g n nodes shadows : ℕ) (list meets apart notpart : List ℕ) (c : Counts) (list′ meets′ apart′ notpart′ : List ℕ) : Type 0 where
+  pub counts-are : c ≡ countsOf s k g n nodes shadows
+  pub list-is : list′ ≡ front (listOf s n k g) list
+  pub meets-are : meets′ ≡ filled (areaOf s n 3) meets
+  pub apart-are : apart′ ≡ filled (areaOf s n 2) apart
+  pub notpart-are : notpart′ ≡ filled (areaOf s n 4) notpart
+
+-- a book that passes the rows before 12, index parts of exactly the lengths that are written, and a list and areas with room
+pub record Ready (s : List ℕ) (n : ℕ) (l : Lent) : Type 0 where
+  pub exact : Exact s n [] (l .index)
+  pub roomy : Roomy (length (l .list)) (length (l .meets)) (length (l .apart)) (length (l .notpart))
+
+-- row 14's outcome, and what it leaves in them
+pub record Judged (s : List ℕ) (k g n : ℕ) (l : Lent) (r : Listing) (l′ : Lent) : Type 0 where
+  pub outcome-is : r ≡ byIndex s k g (byRuns s n)
+  pub left-is : l′ ≡ left s k g l r
+
+-- the same behind rows 12 and 13
+pub record Answered (s : List ℕ) (k g n : ℕ) (l : Lent) (r : Listing) (l′ : Lent) : Type 0 where
+  pub outcome-is : r ≡ byAsked s k g n
+  pub left-is : l′ ≡ left s k g l r

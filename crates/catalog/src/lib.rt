@@ -1,0 +1,241 @@
+// The catalog of a piece: all pieces that certainly are PART of it, or MEET it, or are APART from it; and beside the index the stored facts, sorted
+// by places.
+pub mod areas;
+pub mod pieces;
+pub mod ranges;
+pub mod subtree;
+
+ghost use mathlib.Core.Path.{_≡_};
+ghost use mathlib.Core.Bool.{_||_};
+ghost use Prim.Native.Nat.{_<_};
+ghost use lib.Dec.{ltb};
+ghost use lib.ListN.{length};
+ghost use Rattle.catalog.specs.Lent.{lent};
+ghost use Rattle.catalog.specs.Call.{Determined};
+ghost use Rattle.catalog.specs.Filling.{Roomy, Asked, Settled, Filled, Ready, Judged, Answered};
+use records::BookCheck;
+use records::Refusal;
+
+// The counts of pieces, nodes, shadows and listed pieces, and of the pairs of each area.
+pub struct Counts {
+    pub pieces: usize,
+    pub nodes: usize,
+    pub shadows: usize,
+    pub listed: usize,
+    pub meets: usize,
+    pub apart: usize,
+    pub notpart: usize,
+}
+
+// What a catalog comes to: the counts of what was written, or the refusal and its place.
+pub enum Listing {
+    Written(Counts),
+    Refused(Refusal, usize),
+}
+
+// A number of a lent list as an index.
+fn wide(x: u16) -> usize
+    ensures { λ r. ⌜ (r ≡ x) × (r < 65536) ⌝ }
+{
+    x as usize
+}
+
+// The list and the areas of a book that is not contradictory: d and t are its first two matrices, m is scratch. Marks count in the list alone.
+fn fill(
+    book: &[u8],
+    n: usize,
+    kind: usize,
+    g: usize,
+    nodes: usize,
+    shadowed: usize,
+    voids: &[u64],
+    m: &mut [u64],
+    d: &[u64],
+    t: &[u64],
+    places: &[u16],
+    list: &mut [u16],
+    meets: &mut [u16],
+    apart: &mut [u16],
+    notpart: &mut [u16],
+) -> Counts
+    requires { ⌜ Asked n kind g × Settled (now book) n (now voids) (now m) (now d) (now t) (now places) × Roomy (length (now list)) (length (now meets)) (length (now apart)) (length (now notpart)) ⌝ }
+    ensures { λ r. ⌜ Filled (now (book .entry)) kind g n nodes shadowed (now (list .entry)) (now (meets .entry)) (now (apart .entry)) (now (notpart .entry)) r (now (list .exit)) (now (meets .exit)) (now (apart .exit)) (now (notpart .exit)) ⌝ }
+{
+    let listed = pieces::list_pieces(book, n, kind, g, voids, d, t, m, list);
+    let in_meets = areas::fill_area(book, n, 3, places, m, meets);
+    let in_apart = areas::fill_area(book, n, 2, places, m, apart);
+    let in_notpart = areas::fill_area(book, n, 4, places, m, notpart);
+    Counts {
+        pieces: n,
+        nodes,
+        shadows: shadowed,
+        listed,
+        meets: in_meets,
+        apart: in_apart,
+        notpart: in_notpart,
+    }
+}
+
+// The marks of the book, then row 14, the index, the list and the areas.
+fn judge(
+    book: &[u8],
+    n: usize,
+    kind: usize,
+    g: usize,
+    parens: &mut [u8],
+    marks: &mut [u8],
+    shadows: &mut [u16],
+    places: &mut [u16],
+    list: &mut [u16],
+    meets: &mut [u16],
+    apart: &mut [u16],
+    notpart: &mut [u16],
+) -> Listing
+    requires { ⌜ Asked n kind g × Ready (now book) n (lent (now parens) (now marks) (now shadows) (now places) (now list) (now meets) (now apart) (now notpart)) ⌝ }
+    ensures { λ r. ⌜ Judged (now (book .entry)) kind g n (lent (now (parens .entry)) (now (marks .entry)) (now (shadows .entry)) (now (places .entry)) (now (list .entry)) (now (meets .entry)) (now (apart .entry)) (now (notpart .entry))) r (lent (now (parens .exit)) (now (marks .exit)) (now (shadows .exit)) (now (places .exit)) (now (list .exit)) (now (meets .exit)) (now (apart .exit)) (now (notpart .exit))) ⌝ }
+{
+    let mut voids = [0u64; 32];
+    closure::marking::mark_voids(book, &mut voids);
+    let mut e = [0u64; 65536];
+    let mut d = [0u64; 65536];
+    let mut t = [0u64; 65536];
+    let settled = closure::settle(
+        book,
+        n,
+        &voids,
+        &mut e,
+        &mut d,
+        &mut t,
+        parens,
+        marks,
+        shadows,
+        places,
+    );
+    match settled {
+        closure::Settled::Clash(place) => {
+            answers::clear_index(parens, marks, shadows, places);
+            Listing::Refused(Refusal::Contradiction, place)
+        }
+        closure::Settled::Free(nodes, shadowed) => {
+            let counts = fill(
+                book,
+                n,
+                kind,
+                g,
+                nodes,
+                shadowed,
+                &voids,
+                &mut e,
+                &d,
+                &t,
+                places,
+                list,
+                meets,
+                apart,
+                notpart,
+            );
+            Listing::Written(counts)
+        }
+    }
+}
+
+// Rows 12 and 13 for the kind and the piece that are asked for, then the others.
+fn ask(
+    book: &[u8],
+    n: usize,
+    kind: usize,
+    g: usize,
+    parens: &mut [u8],
+    marks: &mut [u8],
+    shadows: &mut [u16],
+    places: &mut [u16],
+    list: &mut [u16],
+    meets: &mut [u16],
+    apart: &mut [u16],
+    notpart: &mut [u16],
+) -> Listing
+    requires { ⌜ Ready (now book) n (lent (now parens) (now marks) (now shadows) (now places) (now list) (now meets) (now apart) (now notpart)) ⌝ }
+    ensures { λ r. ⌜ Answered (now (book .entry)) kind g n (lent (now (parens .entry)) (now (marks .entry)) (now (shadows .entry)) (now (places .entry)) (now (list .entry)) (now (meets .entry)) (now (apart .entry)) (now (notpart .entry))) r (lent (now (parens .exit)) (now (marks .exit)) (now (shadows .exit)) (now (places .exit)) (now (list .exit)) (now (meets .exit)) (now (apart .exit)) (now (notpart .exit))) ⌝ }
+{
+    if kind < 1 {
+        return Listing::Refused(Refusal::ClaimFormat, 0);
+    }
+    if 3 < kind {
+        return Listing::Refused(Refusal::ClaimFormat, 0);
+    }
+    if n <= g {
+        return Listing::Refused(Refusal::ClaimPiece, 0);
+    }
+    judge(
+        book,
+        n,
+        kind,
+        g,
+        parens,
+        marks,
+        shadows,
+        places,
+        list,
+        meets,
+        apart,
+        notpart,
+    )
+}
+
+// Row 17.
+fn short(list: usize, meets: usize, apart: usize, notpart: usize) -> bool
+    ensures { λ r. ⌜ r ≡ (ltb list 2048 || (ltb meets 16384 || (ltb apart 16384 || ltb notpart 16384))) ⌝ }
+{
+    if list < 2048 {
+        return true;
+    }
+    if meets < 16384 {
+        return true;
+    }
+    if apart < 16384 {
+        return true;
+    }
+    notpart < 16384
+}
+
+// Lists the pieces x of which the claim of a kind 1 to 3 about x and g follows, writes the index, and beside it the stored facts as pairs of places.
+pub fn write_catalog(
+    book: &[u8],
+    kind: usize,
+    g: usize,
+    parens: &mut [u8],
+    marks: &mut [u8],
+    shadows: &mut [u16],
+    places: &mut [u16],
+    list: &mut [u16],
+    meets: &mut [u16],
+    apart: &mut [u16],
+    notpart: &mut [u16],
+) -> Listing
+    ensures { λ r. ⌜ Determined (now (book .entry)) kind g (lent (now (parens .entry)) (now (marks .entry)) (now (shadows .entry)) (now (places .entry)) (now (list .entry)) (now (meets .entry)) (now (apart .entry)) (now (notpart .entry))) r (lent (now (parens .exit)) (now (marks .exit)) (now (shadows .exit)) (now (places .exit)) (now (list .exit)) (now (meets .exit)) (now (apart .exit)) (now (notpart .exit))) ⌝ }
+{
+    if answers::short(parens.len(), marks.len(), shadows.len(), places.len(), 0, 0) {
+        return Listing::Refused(Refusal::ShortBuffer, 0);
+    }
+    if short(list.len(), meets.len(), apart.len(), notpart.len()) {
+        return Listing::Refused(Refusal::ShortCatalog, 0);
+    }
+    let checked = records::check_book(book);
+    match checked {
+        BookCheck::Refused(refusal, place) => Listing::Refused(refusal, place),
+        BookCheck::Accepted(n) => ask(
+            book,
+            n,
+            kind,
+            g,
+            &mut parens[..2560],
+            &mut marks[..1280],
+            &mut shadows[..8192],
+            &mut places[..2048],
+            list,
+            meets,
+            apart,
+            notpart,
+        ),
+    }
+}

@@ -1,0 +1,53 @@
+use borrow.Author.Needs.{needs}
+use Rattle.piecebook.proofs.Listings.{cataloged}
+use Rattle.piecebook.proofs.catalogs.piecebook_catalog.Statement.{statement}
+use Rattle.piecebook.proofs.catalogs.piecebook_catalog.Tie as tie
+
+write-catalog-requires : tie.Need-write-catalog-requires
+write-catalog-requires c κs = search needs
+
+counted-of-requires : tie.Need-counted-of-requires
+counted-of-requires c κs = search needs
+
+same-length : tie.Need-same-length
+same-length c = search needs
+
+same-length-2 : tie.Need-same-length-2
+same-length-2 c = search needs
+
+same-length-3 : tie.Need-same-length-3
+same-length-3 c = search needs
+
+same-length-4 : tie.Need-same-length-4
+same-length-4 c = search needs
+
+same-length-5 : tie.Need-same-length-5
+same-length-5 c = search needs
+
+same-length-6 : tie.Need-same-length-6
+same-length-6 c = search needs
+
+same-length-7 : tie.Need-same-length-7
+same-length-7 c = search needs
+
+same-length-8 : tie.Need-same-length-8
+same-length-8 c = search needs
+
+returns : tie.Need-returns
+returns c = cataloged _ _ _ _ _ _ _ (c .before .before .before .before .before .before .before .before .before .before .before .before .before .before .before .before .before .write-catalog .ensures) (c .counted-of .ensures)
+
+pub piecebook-catalog-spec : {M : Type 1} → statement M
+piecebook-catalog-spec =
+    tie.close
+    (tie.spec
+    write-catalog-requires
+    counted-of-requires
+    same-length
+    same-length-2
+    same-length-3
+    same-length-4
+    same-length-5
+    same-length-6
+    same-length-7
+    same-length-8
+    returns)
