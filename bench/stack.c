@@ -45,6 +45,13 @@ static void *catalog(void *unused)
     return unused;
 }
 
+static void *replicates(void *unused)
+{
+    static uint8_t log[2 * 32768], out[2 * 32768];
+    piecebook_replicates(s.book, s.records * 6, (piecebook_window){{0}, 0}, log, sizeof log, out, sizeof out);
+    return unused;
+}
+
 /* In the new process: runs f on a stack of the given size, below which no page can be touched. */
 static void on_stack(void *f(void *), size_t size)
 {
@@ -123,6 +130,9 @@ int main(void)
     make_sample(&s, DEEP, 2048, 8192, 0);
     shuffle(&s);
     measure("deep, catalog", catalog);
+    measure("deep, a log", replicates);
+    make_sample(&s, DEEP, 2048, 8192, 0);
+    shuffle(&s);
     put_on_trays(&s, 2048);
     measure("deep, converted", conversion);
     return 0;

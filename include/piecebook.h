@@ -145,6 +145,27 @@ typedef struct {
    an index or have no such node. */
 piecebook_range piecebook_subtree(const uint8_t *parentheses, size_t parentheses_length, const uint16_t *places, size_t places_length, size_t piece);
 
+/* The up to 31 entries before a part of the measurement log, oldest first, and how many they are; count 0 at first. */
+typedef struct {
+    uint16_t pieces[31];
+    size_t count;
+} piecebook_window;
+
+/* number is 0 for an accepted part, or the number of the refusal: 1 for an out below two bytes a whole entry, then the book's own, then 20 for a part
+   of odd length or above 32,768 entries, 21 with place 0 for a window of more than 31 pieces or with one beyond the book's, 21 with the entry's
+   number as place for such an entry. window is the one to hand to the next part, zero behind its count; for a refusal it is the one that came. */
+typedef struct {
+    size_t number;
+    size_t place;
+    piecebook_window window;
+} piecebook_replicates_result;
+
+/* Writes two bytes for each entry of a part of the log, a run of 16-bit piece numbers, low byte first: how many of the up to 31 entries before it are
+   certainly APART from it, then 1 if every two of these and it are, else 0. A log sent in parts, none refused, with one book and the window handed
+   from call to call, gives the bytes of the whole log. A refusal writes nothing; bytes behind the last entry's stay as they are. */
+piecebook_replicates_result piecebook_replicates(const uint8_t *book, size_t book_length, piecebook_window window,
+                                                 const uint8_t *log, size_t log_length, uint8_t *out, size_t out_length);
+
 #ifdef __cplusplus
 }
 #endif

@@ -6,6 +6,7 @@ mod catalogs;
 mod days;
 mod piecebook;
 mod reference;
+mod replicates;
 mod rules;
 mod sheets;
 
@@ -345,6 +346,29 @@ impl Tally {
             self.failed - failed,
             start.elapsed().as_secs_f64()
         );
+    }
+
+    /// Measurement logs, whole and in parts.
+    fn logs(&mut self, count: usize) {
+        let start = Instant::now();
+        let failed = self.failed;
+        let mut random = Random(11);
+        let mut met = replicates::Met::default();
+        for number in 0..count {
+            let wrong = replicates::play(&mut random, number, &mut met);
+            self.count(wrong.map(|wrong| format!("replicates, book {number}, {wrong}")));
+        }
+        let wrong = replicates::longest(&mut random, &mut met);
+        self.count(wrong.map(|wrong| format!("replicates, {wrong}")));
+        for number in [0, 1, 3, 4, 5, 6, 7, 8, 9, 14, 19, 20, 21] {
+            let missing = met.numbers[number] == 0;
+            self.count(missing.then(|| format!("number {number} never occurred with a log")));
+        }
+        for (what, count) in [("later entry refused", met.later_entries), ("full window APART", met.full_apart), ("full window not APART", met.full_other)] {
+            self.count((count == 0).then(|| format!("no {what} occurred")));
+        }
+        let parts: usize = met.numbers.iter().sum();
+        println!("replicates: {count} books, {parts} parts of logs, {} full windows APART; {} failed; {:.1} s", met.full_apart, self.failed - failed, start.elapsed().as_secs_f64());
     }
 
     fn try_conversion(&mut self, group: &str, number: usize, book: &[u8], room: usize) -> Converted {
@@ -897,6 +921,7 @@ fn run(times: usize) -> bool {
             catalogs::ask_soundly(random, case.book, 2048, 1, case.lengths)
         });
     }
+    tally.logs(800 * times);
     tally.all_occurred();
     println!("{} passed, {} failed", tally.passed, tally.failed);
     tally.failed == 0

@@ -234,6 +234,29 @@ pub fn subtree(parentheses: &[u8], places: &[u16], piece: usize) -> Range {
     unsafe { piecebook_subtree(parentheses.as_ptr(), parentheses.len(), places.as_ptr(), places.len(), piece) }
 }
 
+/// The up to 31 entries before a part of the measurement log, oldest first; `count` is 0 at first.
+#[repr(C)]
+#[derive(Clone, Copy, Debug, PartialEq, Eq)]
+pub struct Window {
+    pub pieces: [u16; 31],
+    pub count: usize,
+}
+
+/// What a part of the log comes to, and the window to hand to the next.
+#[repr(C)]
+#[derive(Clone, Copy, Debug, PartialEq, Eq)]
+pub struct Replicated {
+    pub number: usize,
+    pub place: usize,
+    pub window: Window,
+}
+
+/// Writes two bytes for each entry of a part of the log: how many of the up to 31 before it are certainly APART from it, and whether every two are.
+pub fn replicates(book: &[u8], window: Window, log: &[u8], out: &mut [u8]) -> Replicated {
+    // SAFETY: as above.
+    unsafe { piecebook_replicates(book.as_ptr(), book.len(), window, log.as_ptr(), log.len(), out.as_mut_ptr(), out.len()) }
+}
+
 extern "C" {
     fn piecebook_catalog(
         book: *const u8,
@@ -270,6 +293,16 @@ extern "C" {
     ) -> usize;
 
     fn piecebook_subtree(parentheses: *const u8, parentheses_length: usize, places: *const u16, places_length: usize, piece: usize) -> Range;
+
+    fn piecebook_replicates(
+        book: *const u8,
+        book_length: usize,
+        window: Window,
+        log: *const u8,
+        log_length: usize,
+        out: *mut u8,
+        out_length: usize,
+    ) -> Replicated;
 
     fn piecebook_start(state: *mut Working, area: *mut u8, area_length: usize) -> WorkingOutcome;
 

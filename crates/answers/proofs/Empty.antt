@@ -21,7 +21,7 @@ use Rattle.records.specs.Facts.{entryOf, entries}
 use Rattle.records.specs.Kept.{picked}
 use Rattle.records.specs.Marked.{marked}
 use Rattle.records.specs.declared.Refusal.{Refusal}
-use Rattle.records.specs.declared.Refusal.the-variants.{ShortBuffer, BookLength, TooManyRecords, Kind, Origin, PieceNumber, Order, Repeat, ClaimsLength, TooManyClaims, ClaimFormat, ClaimPiece, Contradiction, TooManyPieces, ShortCatalog, NotStanding, VoidForm}
+use Rattle.records.specs.declared.Refusal.the-variants.{ShortBuffer, BookLength, TooManyRecords, Kind, Origin, PieceNumber, Order, Repeat, ClaimsLength, TooManyClaims, ClaimFormat, ClaimPiece, Contradiction, TooManyPieces, ShortCatalog, NotStanding, VoidForm, LogLength, ReplicatePiece}
 use Rattle.records.specs.declared.ClaimsCheck.the-variants as claims
 use Rattle.records.proofs.Examples.{bytes}
 use Rattle.lists.specs.Numbers.{range, keep, find}
@@ -87,6 +87,8 @@ other TooManyPieces e = omega arith
 other ShortCatalog e = omega arith
 other NotStanding e = omega arith
 other VoidForm e = omega arith
+other LogLength e = omega arith
+other ReplicatePiece e = omega arith
 
 pub never-two : (o : Outcome) → number o ≡ 2 → ⊥
 never-two (Accepted pieces nodes shadows) e = omega arith

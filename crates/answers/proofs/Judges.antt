@@ -28,14 +28,14 @@ use Rattle.answers.specs.declared.Outcome.the-variants.{Accepted, Refuse
 use Rattle.answers.proofs.Buffers.{front-whole, packed-long, answers-long, same-lent}
 
 module _ (s : List ℕ) (n : ℕ) (sound : bookCheck s ≡ book.Accepted n) where
-  refuses : (place : ℕ) → Clashed (marked s) n s place → Refused Contradiction place ≡ byRuns s n
+  pub refuses : (place : ℕ) → Clashed (marked s) n s place → Refused Contradiction place ≡ byRuns s n
   unfolding byRuns
   refuses place C =
       let q = C .last in
       let k : place ≡ shortestClash (marked s) n (entries s) - 1 = omega arith in
       rw (le-leb (shortestClash (marked s) n (entries s)) (records s) (clashed-within (settleable s n sound) (marked s) (whole-unmarked s n sound) C), byRuns) (ap (Refused Contradiction) k)
 
-  accepts :
+  pub accepts :
       (nodes shadows : ℕ) → false ≡ clash (marked s) n (facts s) → nodes ≡ length (visitsOf n (edges n s)) → shadows ≡ length (on.shadows (visitsOf n (edges n s)))
       → Accepted n nodes shadows ≡ byRuns s n
   unfolding byRuns

@@ -179,7 +179,7 @@ module _ (n : ℕ) (fs : List Fact) where
             one x y lx ly (no l) =
                 X .other x y (omega arith) ly ∙ Q .bits x y lx ly ∙ stored-row w 4 true false x y (omega arith) ∙ sym (none x y (omega arith))
 
-  whole-column : (g y : ℕ) → wholeBit n fs g y ≡ true → ltb y n ≡ true
+  pub whole-column : (g y : ℕ) → wholeBit n fs g y ≡ true → ltb y n ≡ true
   unfolding wholeBit partBit
   whole-column g y q = and-both (ltb g n) (ltb y n) (and-both (ltb g n && ltb y n) (follows unmarked n fs (PART g y)) q .0) .1
 

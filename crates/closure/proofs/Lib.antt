@@ -13,3 +13,4 @@ pub mod FactIndex
 pub mod Loads
 pub mod Settling
 pub mod VoidRows
+pub mod Aparts

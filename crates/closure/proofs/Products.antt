@@ -28,10 +28,10 @@ prod a b r y = anyBelow (λ x. a r x && b x y) 2048
 abbrev pub both : (ℕ → ℕ → Bool) → (ℕ → ℕ → Bool) → ℕ → ℕ → Bool
 both a b r s = anyBelow (λ j. a r j && b s j) 2048
 
-prod-find : (a b : ℕ → ℕ → Bool) (r y : ℕ) → prod a b r y ≡ true → (x : ℕ) × (x < 2048) × (a r x ≡ true) × (b x y ≡ true)
+pub prod-find : (a b : ℕ → ℕ → Bool) (r y : ℕ) → prod a b r y ≡ true → (x : ℕ) × (x < 2048) × (a r x ≡ true) × (b x y ≡ true)
 prod-find a b r y e = let s = below-find (λ x. a r x && b x y) 2048 e in let t = and-both _ _ (s .2) in (s .0, s .1, t .0, t .1)
 
-prod-hit : (a b : ℕ → ℕ → Bool) (r y x : ℕ) → x < 2048 → a r x ≡ true → b x y ≡ true → prod a b r y ≡ true
+pub prod-hit : (a b : ℕ → ℕ → Bool) (r y x : ℕ) → x < 2048 → a r x ≡ true → b x y ≡ true → prod a b r y ≡ true
 prod-hit a b r y x l h k = below-hit (λ x. a r x && b x y) 2048 x l (both-and h k)
 
 both-find : (a b : ℕ → ℕ → Bool) (r s : ℕ) → both a b r s ≡ true → (j : ℕ) × (j < 2048) × (a r j ≡ true) × (b s j ≡ true)

@@ -13,3 +13,4 @@ pub mod Answers
 pub mod Order
 pub mod PartIn
 pub mod Loaded
+pub mod Apart

@@ -27,6 +27,7 @@ ghost use Rattle.closure.specs.Tells.{Derived, Answered, Clashing};
 ghost use Rattle.closure.specs.Answers.{answerByte};
 use records::Record;
 
+pub mod apart;
 pub mod marking;
 
 // What a book says of a claim.

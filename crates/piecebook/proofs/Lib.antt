@@ -1,3 +1,4 @@
 pub mod Results
 pub mod OpenBooks
 pub mod Listings
+pub mod Replicating

@@ -1,4 +1,4 @@
-// The calls of include/piecebook.h: those of `answers`, `grids`, `working`, `convert` and `catalog`, with document 01's numbers for an outcome.
+// The calls of include/piecebook.h: those of `answers`, `grids`, `working`, `convert`, `catalog` and `replicates`, with document 01's numbers for an outcome.
 pub mod catalogs;
 
 ghost use mathlib.Core.Path.{_≡_};
@@ -12,8 +12,10 @@ ghost use Rattle.piecebook.specs.OpenBook.{Started, Added, Withdrawn, An
 ghost use Rattle.convert.specs.Converted.{converted};
 ghost use Rattle.convert.specs.Same.{InForce, SameAnswers};
 ghost use Rattle.piecebook.specs.Converts.{Told, Converts};
+ghost use Rattle.piecebook.specs.Replicates.{Replicates};
 use answers::Outcome;
 use convert::Conversion;
+use replicates::Window;
 use working::Settled;
 use working::Working;
 
@@ -298,4 +300,32 @@ pub extern "C" fn piecebook_convert(book: &[u8], out: &mut [u8]) -> PiecebookCon
 {
     let conversion = convert::convert(book, out);
     converted_of(conversion)
+}
+
+// What a part of the measurement log comes to, as include/piecebook.h has it, and the window to hand to the next.
+#[repr(C)]
+pub struct PiecebookReplicatesResult {
+    pub number: usize,
+    pub place: usize,
+    pub window: Window,
+}
+
+#[no_mangle]
+pub extern "C" fn piecebook_replicates(
+    book: &[u8],
+    window: Window,
+    log: &[u8],
+    out: &mut [u8],
+) -> PiecebookReplicatesResult
+    ensures { λ r. ⌜ Replicates (now (book .entry)) window (now (log .entry)) (now (out .entry)) r (now (out .exit)) ⌝ }
+{
+    let done = replicates::replicates(book, window, log, out);
+    let outcome = done.outcome;
+    let next = done.window;
+    let reply = told(outcome, 0);
+    PiecebookReplicatesResult {
+        number: reply.number,
+        place: reply.place,
+        window: next,
+    }
 }

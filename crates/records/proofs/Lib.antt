@@ -3,7 +3,7 @@ pub mod Runs
 pub mod Accepted
 pub mod Examples
 mod Records
-mod Scans
+pub mod Scans
 mod Keys
 mod Filters
 mod Books

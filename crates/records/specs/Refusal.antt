@@ -4,7 +4,7 @@
 use Prim.Native.Nat.{ℕ, zero, suc}
 use mathlib.Core.Bool.{Bool, true, false}
 use Rattle.records.specs.declared.Refusal.{Refusal}
-use Rattle.records.specs.declared.Refusal.the-variants.{ShortBuffer, BookLength, TooManyRecords, Kind, Origin, PieceNumber, Order, Repeat, ClaimsLength, TooManyClaims, ClaimFormat, ClaimPiece, Contradiction, TooManyPieces, ShortCatalog, NotStanding, VoidForm}
+use Rattle.records.specs.declared.Refusal.the-variants.{ShortBuffer, BookLength, TooManyRecords, Kind, Origin, PieceNumber, Order, Repeat, ClaimsLength, TooManyClaims, ClaimFormat, ClaimPiece, Contradiction, TooManyPieces, ShortCatalog, NotStanding, VoidForm, LogLength, ReplicatePiece}
 use Rattle.records.specs.declared.Finding.{Finding}
 use Rattle.records.specs.declared.Finding.the-variants.{Fit, Unfit}
 
@@ -26,6 +26,8 @@ refusalNumber TooManyPieces = 16
 refusalNumber ShortCatalog = 17
 refusalNumber NotStanding = 18
 refusalNumber VoidForm = 19
+refusalNumber LogLength = 20
+refusalNumber ReplicatePiece = 21
 
 -- a row that refuses, or the rows below it
 abbrev pub row : Bool → Refusal → Finding → Finding

@@ -43,6 +43,8 @@ pub enum Refusal {
     ShortCatalog,
     NotStanding,
     VoidForm,
+    LogLength,
+    ReplicatePiece,
 }
 
 // An edition of the format. The former one is what the converter takes: it has TRAY records, and later changes leave it alone.
@@ -95,6 +97,8 @@ pub fn refusal_number(r: Refusal) -> u8
         Refusal::ShortCatalog => 17,
         Refusal::NotStanding => 18,
         Refusal::VoidForm => 19,
+        Refusal::LogLength => 20,
+        Refusal::ReplicatePiece => 21,
     }
 }
 

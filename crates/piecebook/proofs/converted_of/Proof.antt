@@ -1,7 +1,7 @@
 -- `piecebook::converted_of` meets its contract: the result of a conversion by its two cases. Assumes nothing.
-use borrow.Author.Needs.{needs}
 use mathlib.Core.Path.{_∙_}
 use Rattle.piecebook.proofs.Results.{told-refused}
+use borrow.Author.Needs.{needs}
 use Rattle.piecebook.proofs.converted_of.Statement.{statement}
 use Rattle.piecebook.proofs.converted_of.Tie as tie
 
@@ -26,4 +26,10 @@ returns-2 c = told-refused _ _ _ _ (c .before .before .before .conversion2 .give
 pub converted-of-spec : {M : Type 1} → statement M
 converted-of-spec =
     tie.close
-    (tie.spec enum-known-conversion enum-known-conversion-2 refusal-number-requires wide-requires returns returns-2)
+    (tie.spec
+    enum-known-conversion
+    enum-known-conversion-2
+    refusal-number-requires
+    wide-requires
+    returns
+    returns-2)

@@ -1,0 +1,43 @@
+-- `closure::apart::apart_rows` meets its contract: rows joined against the steps are a product with U. Assumes nothing.
+use Rattle.closure.proofs.Steps.{edges-rise, wholes-reached}
+use Rattle.closure.proofs.Aparts.{apart-holds}
+use lib.ListN.{length}
+use borrow.Author.Needs.{needs}
+use Rattle.closure.proofs.apart.apart_rows.Statement.{statement}
+use Rattle.closure.proofs.apart.apart_rows.Tie as tie
+
+apart-told-requires : tie.Need-apart-told-requires
+apart-told-requires c κs = search needs
+
+clear-requires : tie.Need-clear-requires
+clear-requires c κs = search needs
+
+product-requires : tie.Need-product-requires
+product-requires c κs = search needs
+
+join-wholes-requires : tie.Need-join-wholes-requires
+join-wholes-requires c κs = (search needs, search needs, search needs, edges-rise _ _ (c .before .before .before .before .before .before .before .before .before .before .before .before .before .before .before .before .before .before .before .before .pre .0) _ (c .before .before .before .before .before .before .before .before .before .before .before .before .before .before .before .before .before .before .before .before .pre .3) (c .before .before .before .before .before .before .before .before .before .before .before .before .before .before .before .before .before .before .before .before .pre .2))
+
+same-length : tie.Need-same-length
+same-length c = search needs
+
+same-length-2 : tie.Need-same-length-2
+same-length-2 c = search needs
+
+returns : tie.Need-returns
+returns c =
+    let P = c .before .before .before .before .before .before .before .before .before .before .before .before .before .before .before .before .before .before .before .before .before .before .before .pre in
+    apart-holds _ _ _ (P .0) (P .1 .whole) (P .7) (length (c .before .before .before .before .before .before .before .before .before .before .before .before .before .before .before .before .before .before .before .before .before .before .before .args .a .now)) (c .before .before .before .before .before .before .before .before .before .before .before .before .before .before .before .apart-told .ensures) (P .4) (c .before .before .before .before .before .before .before .before .before .before .before .clear .ensures) (c .before .before .before .before .before .before .product .ensures)
+    (c .before .before .join-wholes .ensures _ (wholes-reached _ _ (P .0) _ (P .3))) (search needs)
+
+pub apart-rows-spec : {M : Type 1} → statement M
+apart-rows-spec =
+    tie.close
+    (tie.spec
+    apart-told-requires
+    clear-requires
+    product-requires
+    join-wholes-requires
+    same-length
+    same-length-2
+    returns)

@@ -1,0 +1,55 @@
+// Which two pieces are certainly APART, one bit for each pair.
+ghost use mathlib.Core.Path.{_≡_};
+ghost use mathlib.Core.Bool.{false};
+ghost use Prim.Native.Nat.{_<_, _≤_};
+ghost use lib.ListN.{length};
+ghost use Rattle.rules.specs.Follows.{clash};
+ghost use Rattle.records.specs.Facts.{facts};
+ghost use Rattle.closure.specs.Void.{voidOf, Voids};
+ghost use Rattle.closure.specs.Bounded.{Bounded};
+ghost use Rattle.closure.specs.Ordered.{Ordered};
+ghost use Rattle.closure.specs.Stored.{edgeBit};
+ghost use Rattle.closure.specs.Closed.{Grown, Holds, partBit};
+ghost use Rattle.closure.specs.Apart.{markedApart, apartBit, Aparts};
+
+// Each marked piece as apart from piece 0, in both orders.
+fn part_marked(n: usize, voids: &[u64], m: &mut [u64])
+    requires { ⌜ (length (now voids) ≡ 32) × (length (now m) ≡ 65536) × (n ≤ 2048) ⌝ }
+    ensures { λ _. ⌜ Grown (now (m .entry)) (now (m .exit)) (markedApart (voidOf (now (voids .entry))) n) ⌝ }
+{
+    let mut i: usize = 0;
+    while i < n {
+        let on = relation::has(voids, i);
+        crate::insert_where(on, m, 0, i);
+        crate::insert_where(on, m, i, 0);
+        i += 1;
+    }
+}
+
+// A: the stored APARTs, and the marks as such.
+fn apart_told(run: &[u8], n: usize, voids: &[u64], m: &mut [u64])
+    requires { ⌜ Bounded n (facts (now run)) × Voids (now voids) × (length (now m) ≡ 65536) ⌝ }
+    ensures { λ _. ⌜ Holds (now (m .exit)) (apartBit (voidOf (now (voids .entry))) n (facts (now (run .entry)))) ⌝ }
+{
+    crate::store(run, 2, true, true, m);
+    part_marked(n, voids, m);
+}
+
+// U·A·D in a, of a run that is not contradictory: every APART that follows. A has few bits, so A·D is a row for each of them. m is scratch.
+pub fn apart_rows(
+    run: &[u8],
+    n: usize,
+    voids: &[u64],
+    e: &[u64],
+    d: &[u64],
+    m: &mut [u64],
+    a: &mut [u64],
+)
+    requires { ⌜ Bounded n (facts (now run)) × Voids (now voids) × Ordered (facts (now run)) × Holds (now e) (edgeBit n (facts (now run))) × Holds (now d) (partBit n (facts (now run))) × (length (now m) ≡ 65536) × (length (now a) ≡ 65536) × (clash (voidOf (now voids)) n (facts (now run)) ≡ false) ⌝ }
+    ensures { λ _. ⌜ Aparts (voidOf (now (voids .entry))) n (facts (now (run .entry))) (now (a .exit)) ⌝ }
+{
+    apart_told(run, n, voids, m);
+    relation::clear(a);
+    relation::product(a, m, d, n);
+    crate::join_wholes(n, e, a);
+}

@@ -1,0 +1,21 @@
+-- `piecebook::piecebook_replicates` meets its contract. Assumes nothing.
+use Rattle.piecebook.proofs.Replicating.{replicated}
+use borrow.Author.Needs.{needs}
+use Rattle.piecebook.proofs.piecebook_replicates.Statement.{statement}
+use Rattle.piecebook.proofs.piecebook_replicates.Tie as tie
+
+replicates-requires : tie.Need-replicates-requires
+replicates-requires c κs = search needs
+
+told-requires : tie.Need-told-requires
+told-requires c κs = search needs
+
+same-length : tie.Need-same-length
+same-length c = search needs
+
+returns : tie.Need-returns
+returns c = replicated _ _ _ _ _ _ _ (c .before .before .before .before .replicates .ensures) (c .told .ensures)
+
+pub piecebook-replicates-spec : {M : Type 1} → statement M
+piecebook-replicates-spec =
+    tie.close (tie.spec replicates-requires told-requires same-length returns)

@@ -1,0 +1,10 @@
+-- What the proofs of several functions use.
+pub mod Looks
+pub mod Reaches
+pub mod Same
+pub mod Sequences
+pub mod Rows
+pub mod Shift
+pub mod Calls
+pub mod Joins
+mod Examples

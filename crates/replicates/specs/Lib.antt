@@ -1,0 +1,6 @@
+pub mod Before
+pub mod Looking
+pub mod Log
+pub mod Call
+pub mod Writing
+pub mod Join

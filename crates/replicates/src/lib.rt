@@ -1,0 +1,336 @@
+// Replicates in the measurement log: for each entry how many of the up to 31 before it are certainly APART from it, and whether every two of these are.
+ghost use mathlib.Core.Path.{_≡_};
+ghost use lib.ListN.{length, getD};
+ghost use Prim.Native.Nat.{ℕ, max, _+_, _*_, _-_, _<_, _≤_};
+ghost use Rattle.lists.specs.Front.{front};
+ghost use Rattle.lists.specs.Tally.{num};
+ghost use Rattle.relation.specs.Matrix.{bitOf};
+ghost use Rattle.replicates.specs.Before.{oldest, bytesFrom};
+ghost use Rattle.replicates.specs.Looking.{Sequence, seeing, Looked, Reach};
+ghost use Rattle.records.specs.Check.{bookCheck};
+ghost use Rattle.records.specs.Refusal.{scan};
+ghost use Rattle.records.specs.declared.BookCheck.the-variants as on;
+ghost use Rattle.answers.specs.declared.Outcome.the-variants.{Accepted, Refused};
+ghost use Rattle.replicates.specs.Log.{entryCount, entryAt, sequence, windowOf};
+ghost use Rattle.replicates.specs.Call.{badWindow, entryFinding, byPart, bytesIn, Determined};
+ghost use Rattle.replicates.specs.Writing.{Writable, Begun, Followed, Judged};
+use answers::Outcome;
+use closure::Settled;
+use records::BookCheck;
+use records::Refusal;
+
+// The up to 31 entries before a part of the log, oldest first, and how many they are; laid out as C does.
+#[repr(C)]
+pub struct Window {
+    pub pieces: [u16; 31],
+    pub count: usize,
+}
+
+// What a part of the log comes to, and the window to hand to the next.
+pub struct Replicated {
+    pub outcome: Outcome,
+    pub window: Window,
+}
+
+// How many of the entries looked at are apart, and the number from which on all are.
+pub struct Seen {
+    pub apart: u8,
+    pub from: usize,
+}
+
+// The number of the oldest of the up to 31 entries before entry q.
+fn oldest_of(q: usize) -> usize
+    ensures { λ r. ⌜ r ≡ oldest q ⌝ }
+{
+    if q < 31 {
+        return 0;
+    }
+    q - 31
+}
+
+// One entry more, number j, that is apart or not.
+fn see(seen: Seen, j: usize, apart: bool) -> Seen
+    requires { ⌜ (seen .apart < 255) × (j < 100000) ⌝ }
+    ensures { λ r. ⌜ r ≡ seeing seen j apart ⌝ }
+{
+    if apart {
+        return Seen {
+            apart: seen.apart + 1,
+            from: seen.from,
+        };
+    }
+    Seen {
+        apart: seen.apart,
+        from: j + 1,
+    }
+}
+
+// Entry q against the up to 31 entries before it.
+fn look(xs: &[u16], q: usize, a: &[u64]) -> Seen
+    requires { ⌜ Sequence (now xs) (now a) × (q < length (now xs)) × (q < 100000) ⌝ }
+    ensures { λ r. ⌜ Looked (bitOf (now (a .entry))) (now (xs .entry)) q r ⌝ }
+{
+    let oldest = oldest_of(q);
+    let piece = xs[q] as usize;
+    let mut seen = Seen {
+        apart: 0,
+        from: oldest,
+    };
+    let mut j = oldest;
+    while j < q {
+        seen = see(seen, j, relation::test(a, xs[j] as usize, piece));
+        j += 1;
+    }
+    seen
+}
+
+// The larger of two numbers.
+fn larger(x: usize, y: usize) -> usize
+    ensures { λ r. ⌜ r ≡ max x y ⌝ }
+{
+    if x < y {
+        return y;
+    }
+    x
+}
+
+// From where on every two of the first c entries are apart, as far back as anyone looks.
+fn reach(xs: &[u16], c: usize, a: &[u64]) -> usize
+    requires { ⌜ Sequence (now xs) (now a) × (c ≤ length (now xs)) × (length (now xs) < 100000) ⌝ }
+    ensures { λ r. ⌜ Reach (bitOf (now (a .entry))) (now (xs .entry)) c r ⌝ }
+{
+    let mut start: usize = 0;
+    let mut q: usize = 0;
+    while q < c {
+        let seen = look(xs, q, a);
+        start = larger(start, seen.from);
+        q += 1;
+    }
+    start
+}
+
+fn flag(b: bool) -> u8
+    ensures { λ r. ⌜ r ≡ num b ⌝ }
+{
+    if b {
+        return 1;
+    }
+    0
+}
+
+// The two bytes of each entry from number c on.
+fn write_bytes(xs: &[u16], c: usize, a: &[u64], out: &mut [u8])
+    requires { ⌜ Sequence (now xs) (now a) × (c ≤ length (now xs)) × (length (now xs) < 100000) × (2 * length (now xs) ≤ 2 * c + length (now out)) ⌝ }
+    ensures { λ _. ⌜ now (out .exit) ≡ front (bytesFrom (bitOf (now (a .entry))) (now (xs .entry)) c (length (now (xs .entry)) - c)) (now (out .entry)) ⌝ }
+{
+    let mut start = reach(xs, c, a);
+    let mut q = c;
+    while q < xs.len() {
+        let seen = look(xs, q, a);
+        start = larger(start, seen.from);
+        let at = 2 * (q - c);
+        out[at] = seen.apart;
+        out[at + 1] = flag(start <= oldest_of(q));
+        q += 1;
+    }
+}
+
+fn wide(x: u8) -> u16
+    ensures { λ r. ⌜ (r ≡ x) × (r < 256) ⌝ }
+{
+    x as u16
+}
+
+// Entry i of a part of the log.
+fn entry_at(log: &[u8], i: usize) -> u16
+    requires { ⌜ 2 * i + 2 ≤ length (now log) ⌝ }
+    ensures { λ r. ⌜ r ≡ entryAt (now (log .entry)) i ⌝ }
+{
+    wide(log[2 * i]) + 256 * wide(log[2 * i + 1])
+}
+
+// Row 21 of the window.
+fn bad_window(n: usize, window: Window) -> bool
+    ensures { λ r. ⌜ r ≡ badWindow n window ⌝ }
+{
+    let count = window.count;
+    let pieces = window.pieces;
+    if 31 < count {
+        return true;
+    }
+    let mut j: usize = 0;
+    while j < count {
+        if n <= pieces[j] as usize {
+            return true;
+        }
+        j += 1;
+    }
+    false
+}
+
+// Row 21 of the entries, for a book with these counts.
+fn check_entries(n: usize, nodes: usize, shadows: usize, log: &[u8]) -> Outcome
+    ensures { λ r. ⌜ r ≡ scan Refused (Accepted n nodes shadows) (entryFinding n (now (log .entry))) 0 (entryCount (now (log .entry))) ⌝ }
+{
+    let count = log.len() / 2;
+    let mut i: usize = 0;
+    while i < count {
+        if n <= entry_at(log, i) as usize {
+            return Outcome::Refused(Refusal::ReplicatePiece, i);
+        }
+        i += 1;
+    }
+    Outcome::Accepted(n, nodes, shadows)
+}
+
+// Rows 20 and 21, for a book with these counts.
+fn check_part(n: usize, nodes: usize, shadows: usize, window: Window, log: &[u8]) -> Outcome
+    ensures { λ r. ⌜ r ≡ byPart window (now (log .entry)) (Accepted n nodes shadows) ⌝ }
+{
+    if log.len() % 2 != 0 {
+        return Outcome::Refused(Refusal::LogLength, 0);
+    }
+    if 32768 < log.len() / 2 {
+        return Outcome::Refused(Refusal::LogLength, 0);
+    }
+    if bad_window(n, window) {
+        return Outcome::Refused(Refusal::ReplicatePiece, 0);
+    }
+    check_entries(n, nodes, shadows, log)
+}
+
+// Puts the window in front.
+fn put_window(window: Window, xs: &mut [u16])
+    requires { ⌜ (window .count ≤ 31) × (31 ≤ length (now xs)) ⌝ }
+    ensures { λ _. ⌜ Begun window (now (xs .exit)) ⌝ }
+{
+    let count = window.count;
+    let pieces = window.pieces;
+    let mut j: usize = 0;
+    while j < count {
+        xs[j] = pieces[j];
+        j += 1;
+    }
+}
+
+// Puts the entries of a part behind the first c places.
+fn put_entries(log: &[u8], c: usize, xs: &mut [u16])
+    requires { ⌜ (c + entryCount (now log) ≤ length (now xs)) × (c ≤ 31) ⌝ }
+    ensures { λ _. ⌜ Followed (now (log .entry)) c (now (xs .entry)) (now (xs .exit)) ⌝ }
+{
+    let count = log.len() / 2;
+    let mut i: usize = 0;
+    while i < count {
+        xs[c + i] = entry_at(log, i);
+        i += 1;
+    }
+}
+
+// The last up to 31 entries.
+fn last_window(xs: &[u16]) -> Window
+    ensures { λ r. ⌜ r ≡ windowOf (now (xs .entry)) ⌝ }
+{
+    let from = oldest_of(xs.len());
+    let count = xs.len() - from;
+    let mut pieces = [0u16; 31];
+    let mut i: usize = 0;
+    while i < count {
+        pieces[i] = xs[from + i];
+        i += 1;
+    }
+    Window { pieces, count }
+}
+
+// The bytes of a part that fits, and the window behind it. t is scratch.
+fn write_part(
+    book: &[u8],
+    n: usize,
+    voids: &[u64],
+    e: &[u64],
+    d: &[u64],
+    t: &mut [u64],
+    window: Window,
+    log: &[u8],
+    out: &mut [u8],
+) -> Window
+    requires { ⌜ Writable (now book) n (now voids) (now e) (now d) (now t) window (now log) (length (now out)) ⌝ }
+    ensures { λ r. ⌜ (r ≡ windowOf (sequence window (now (log .entry)))) × (now (out .exit) ≡ front (bytesIn (now (book .entry)) n window (now (log .entry))) (now (out .entry))) ⌝ }
+{
+    let mut a = [0u64; 65536];
+    closure::apart::apart_rows(book, n, voids, e, d, t, &mut a);
+    let mut xs = [0u16; 32799];
+    let count = window.count;
+    put_window(window, &mut xs);
+    put_entries(log, count, &mut xs);
+    let end = count + log.len() / 2;
+    let seq = &xs[..end];
+    write_bytes(seq, count, &a, out);
+    last_window(seq)
+}
+
+// A refused part hands back the window that came.
+fn refuse(refusal: Refusal, place: usize, window: Window) -> Replicated
+    ensures { λ r. ⌜ r ≡ record { outcome = Refused refusal place; window = window } ⌝ }
+{
+    Replicated {
+        outcome: Outcome::Refused(refusal, place),
+        window,
+    }
+}
+
+// Row 14, rows 20 and 21, and the bytes, for a book that passes the rows before.
+fn judge(book: &[u8], n: usize, window: Window, log: &[u8], out: &mut [u8]) -> Replicated
+    requires { ⌜ (bookCheck (now book) ≡ on.Accepted n) × (2 * entryCount (now log) ≤ length (now out)) ⌝ }
+    ensures { λ r. ⌜ Judged (now (book .entry)) n window (now (log .entry)) (now (out .entry)) r (now (out .exit)) ⌝ }
+{
+    let mut voids = [0u64; 32];
+    closure::marking::mark_voids(book, &mut voids);
+    let mut e = [0u64; 65536];
+    let mut d = [0u64; 65536];
+    let mut t = [0u64; 65536];
+    let mut parens = [0u8; 2560];
+    let mut marks = [0u8; 1280];
+    let mut shadows = [0u16; 8192];
+    let mut places = [0u16; 2048];
+    let settled = closure::settle(
+        book,
+        n,
+        &voids,
+        &mut e,
+        &mut d,
+        &mut t,
+        &mut parens,
+        &mut marks,
+        &mut shadows,
+        &mut places,
+    );
+    match settled {
+        Settled::Clash(place) => refuse(Refusal::Contradiction, place, window),
+        Settled::Free(nodes, shadowed) => {
+            let fit = check_part(n, nodes, shadowed, window, log);
+            match fit {
+                Outcome::Refused(refusal, place) => refuse(refusal, place, window),
+                Outcome::Accepted(pieces, all, hidden) => Replicated {
+                    outcome: Outcome::Accepted(pieces, all, hidden),
+                    window: write_part(book, n, &voids, &e, &d, &mut t, window, log, out),
+                },
+            }
+        }
+    }
+}
+
+// For each entry of a part of the log two bytes: how many of the up to 31 entries before it are certainly APART from it, then 1 if every two of these
+// and it are, else 0. The entries before the part are in the window; the window handed back is for the next part.
+pub fn replicates(book: &[u8], window: Window, log: &[u8], out: &mut [u8]) -> Replicated
+    ensures { λ r. ⌜ Determined (now (book .entry)) window (now (log .entry)) (now (out .entry)) r (now (out .exit)) ⌝ }
+{
+    let count = log.len() / 2;
+    if out.len() < 2 * count {
+        return refuse(Refusal::ShortBuffer, 0, window);
+    }
+    let checked = records::check_book(book);
+    match checked {
+        BookCheck::Refused(refusal, place) => refuse(refusal, place, window),
+        BookCheck::Accepted(n) => judge(book, n, window, log, out),
+    }
+}
