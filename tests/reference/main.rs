@@ -278,8 +278,9 @@ impl Tally {
             let missing = self.conversions[number] == 0;
             self.count(missing.then(|| format!("number {number} never occurred in a conversion")));
         }
+        // plain C has its catalog measured, not tried
         for number in [0, 1, 3, 4, 5, 6, 7, 8, 9, 12, 13, 14, 17, 19] {
-            let missing = self.catalog_numbers[number] == 0;
+            let missing = !cfg!(plain) && self.catalog_numbers[number] == 0;
             self.count(missing.then(|| format!("number {number} never occurred in a catalog")));
         }
         for (origin, answer) in [0, 1].into_iter().flat_map(|origin| (1..4).map(move |answer| (origin, answer))) {
