@@ -1,7 +1,7 @@
 -- What tests and meetings of the closure's rows say of a claim, and of a run of records. Assumes nothing.
 use Prim.Native.Nat.{ℕ, zero, suc, _+_, _-_, _<_, _≤_}
 use mathlib.Core.Path.{_≡_, refl, sym, ap, ap₂, _∙_}
-use mathlib.Core.Bool.{Bool, true, false, not, _&&_, _||_, or-false, or-assoc, or-comm}
+use mathlib.Core.Bool.{Bool, true, false, not, _&&_, _||_, or-false, or-assoc, or-comm, false≢true}
 use mathlib.Core.List.{List}
 use native.Mathlib.Decide.{ℕ-discrete}
 use native.Mathlib.Numerals.{add-one}
@@ -12,10 +12,14 @@ use Rattle.lists.specs.Any.{anyBelow}
 use Rattle.lists.proofs.Bools.{left-or}
 use Rattle.lists.proofs.Anys.{below-hit}
 use Rattle.relation.specs.Matrix.{bitOf, common}
-use Rattle.rules.specs.Fact.{Fact, PART, APART, MEETS, NOTPART, factOf, opposite, Within, AllWithin}
+use Rattle.rules.specs.Fact.{Fact, PART, APART, MEETS, NOTPART, factOf, left, right, opposite, Within, AllWithin}
 use Rattle.rules.specs.Follows.{storing, turned, meets, follows, clash}
 use Rattle.rules.specs.Verdict.{judge, verdict}
+use Rattle.rules.proofs.Facts.{opposite-within}
 use Rattle.rules.proofs.Marks.{stray}
+use Rattle.rules.proofs.Decides.{follows-iff}
+use Rattle.rules.proofs.Models.{clash-iff}
+use Rattle.rules.proofs.Verdicts.{verdict-denied}
 use Rattle.rules.proofs.Plain.{inside, plain, plainClash, clash-plain, follows-plain}
 use Rattle.records.specs.Record.{recordAt, records}
 use Rattle.records.specs.declared.Record.{Record}
@@ -92,6 +96,29 @@ module _ (void : ℕ → Bool) (k a b : ℕ) (r : Bool) where
   unfolding byMarks
   tells-notpart x y z is = is ∙ sym (ap (byMarks void) (notpart-of k a b x y z))
 
+-- of two pieces not marked the marks tell nothing; of others, a fact or its opposite
+neither : (x y : Bool) → (x || y) ≡ false → (x ≡ false) × (y ≡ false)
+neither true y e = absurd (false≢true (sym e))
+neither false y e = (refl, e)
+
+marks-silent : (void : ℕ → Bool) (f : Fact) → (void (left f) || void (right f)) ≡ false → byMarks void f ≡ false
+unfolding byMarks
+marks-silent void (PART a b) e = neither (void a) (void b) e .0
+marks-silent void (APART a b) e = e
+marks-silent void (MEETS a b) e = refl
+marks-silent void (NOTPART a b) e = let h = neither (void a) (void b) e in rw (h .0, h .1)
+
+marks-decide : (void : ℕ → Bool) (f : Fact) → (void (left f) || void (right f)) ≡ true → byMarks void f ≡ false → byMarks void (opposite f) ≡ true
+unfolding byMarks
+marks-decide void (PART a b) e m = rw m (sym (ap (λ (v : Bool). v || void b) m) ∙ e)
+marks-decide void (APART a b) e m = absurd (false≢true (sym m ∙ e))
+marks-decide void (MEETS a b) e m = e
+marks-decide void (NOTPART a b) e m = inner (void a) (void b) e m
+  where
+    inner : (x y : Bool) → (x || y) ≡ true → (not x && y) ≡ false → x ≡ true
+    inner true y e m = refl
+    inner false y e m = absurd (false≢true (sym m ∙ e))
+
 -- what the stored facts tell, where the marks do not
 module _ (void : ℕ → Bool) (n : ℕ) (fs : List Fact) where
   unfoldable pub byStored : Fact → Bool
@@ -125,6 +152,12 @@ module _ {n : ℕ} {fs : List Fact} (B : Bounded n fs) {a b : ℕ} (la : a < n) 
     unfolding byStored
     notpart-told U Q = let h = B .fits in common-holds Q U a b (omega arith) (omega arith) ∙ notpart-is n fs (B .within) (B .some) (B .fits) void a b la lb
 
+-- the pieces of the fact of a kind
+either-of : (void : ℕ → Bool) (k a b : ℕ) → (void (left (factOf k a b)) || void (right (factOf k a b))) ≡ (void a || void b)
+either-of void k a b =
+    let r : Record = record { kind = k; origin = 0; a = a; b = b } in
+    ap₂ _||_ (ap void (says-left r)) (ap void (says-right r))
+
 module _ (void : ℕ → Bool) (d u p t q : List ℕ) (k a b : ℕ) where
   fact-within : {n : ℕ} → a < n → b < n → Within n (factOf k a b)
   fact-within la lb =
@@ -139,41 +172,60 @@ module _ (void : ℕ → Bool) (d u p t q : List ℕ) (k a b : ℕ) where
     stored-told : byMarks void (factOf k a b) ≡ false → (f : Fact) → factOf k a b ≡ f → byStored void n fs f ≡ follows void n fs (factOf k a b)
     stored-told off f e = sym (follows-told ∙ ap₂ _||_ off (ap (byStored void n fs) e))
 
-  pub derived-marks : (r : Bool) → r ≡ true → r ≡ byMarks void (factOf k a b) → Derived void d u p t q k a b true
-  derived-marks r e is = record { is = λ n fs B C la lb. sym (follows-told n fs B C la lb ∙ left-or _ (sym is ∙ e)) }
+  -- one of the two pieces is marked: the marks tell the claim or its opposite, and the book derives not both
+  module _ (m : Bool) (tells : m ≡ byMarks void (factOf k a b)) where
+    pub marked-follows : m ≡ true → Answered void d u p t q k a b 1
+    unfolding verdict judge
+    marked-follows e = record { is = λ n fs B C la lb. rw (follows-told n fs B C la lb ∙ left-or _ (sym tells ∙ e), judge) }
 
-  module _ (m : Bool) (off : m ≡ false) (marks : m ≡ byMarks void (factOf k a b)) (r : Bool) where
-    silent : byMarks void (factOf k a b) ≡ false
-    silent = sym marks ∙ off
+    pub marked-denied : (void a || void b) ≡ true → m ≡ false → Answered void d u p t q k a b 2
+    marked-denied on e = record { is = λ n fs B C la lb. sym (denied n fs B C la lb) }
+      where
+        denied : (n : ℕ) (fs : List Fact) → Bounded n fs → Closed void n fs d u p t q → a < n → b < n → verdict void n fs (factOf k a b) ≡ 2
+        denied n fs B C la lb =
+            let w : Within n (factOf k a b) = fact-within la lb in
+            verdict-denied void n fs (B .within) (B .some) (C .whole) (λ x. false≢true (C .free ∙ clash-iff void n fs (B .within) (B .some) (C .whole) .1 x)) (factOf k a b) w .1
+            (follows-iff void n fs (B .within) (B .some) (opposite (factOf k a b)) (opposite-within n (factOf k a b) w) .0
+            (follows-plain void n fs (B .within) (B .some) (C .whole) (sym (C .free)) (opposite (factOf k a b)) (opposite-within n (factOf k a b) w) ∙ marks-first void n fs (opposite (factOf k a b)) ∙ left-or _ (marks-decide void (factOf k a b) (either-of void k a b ∙ on) (sym tells ∙ e))))
 
-    pub derived-part : k ≡ 1 → r ≡ bitOf d b a → Derived void d u p t q k a b r
+-- neither is marked: the stored facts tell
+module _ (d u p t q : List ℕ) (k a b : ℕ) (r : Bool) where
+  silent : (void : ℕ → Bool) → (void a || void b) ≡ false → byMarks void (factOf k a b) ≡ false
+  silent void off = marks-silent void (factOf k a b) (either-of void k a b ∙ off)
+
+  module _ (e : k ≡ 1) (is : r ≡ bitOf d b a) where
+    pub derived-part : Derived d u p t q k a b r
     unfolding byStored
-    derived-part e is = record { is = λ n fs B C la lb. is ∙ part-told B la lb (C .parts) ∙ stored-told n fs B C la lb silent (PART a b) (part-of k a b e) }
+    derived-part = record { is = λ void n fs B C la lb off. is ∙ part-told B la lb (C .parts) ∙ stored-told void d u p t q k a b n fs B C la lb (silent void off) (PART a b) (part-of k a b e) }
 
-    pub derived-apart : k ≡ 2 → r ≡ common p a u b → Derived void d u p t q k a b r
-    unfolding byStored
-    derived-apart e is = record { is = λ n fs B C la lb. is ∙ apart-told B la lb (C .wholes) (C .away) ∙ stored-told n fs B C la lb silent (APART a b) (apart-of k a b e) }
+  pub derived-apart : k ≡ 2 → r ≡ common p a u b → Derived d u p t q k a b r
+  unfolding byStored
+  derived-apart e is = record { is = λ void n fs B C la lb off. is ∙ apart-told B la lb (C .wholes) (C .away) ∙ stored-told void d u p t q k a b n fs B C la lb (silent void off) (APART a b) (apart-of k a b e) }
 
-    pub derived-meets : k ≡ 3 → r ≡ common t a d b → Derived void d u p t q k a b r
-    unfolding byStored
-    derived-meets e is = record { is = λ n fs B C la lb. is ∙ meets-told B la lb void (C .parts) (C .toward) ∙ stored-told n fs B C la lb silent (MEETS a b) (meets-of k a b e) }
+  pub derived-meets : k ≡ 3 → r ≡ common t a d b → Derived d u p t q k a b r
+  unfolding byStored
+  derived-meets e is =
+      record { is = λ void n fs B C la lb off. is ∙ meets-told B la lb void (C .parts) (C .toward) ∙ stored-told void d u p t q k a b n fs B C la lb (silent void off) (MEETS a b) (meets-of k a b e) }
 
-    pub derived-notpart : (k ≡ 1 → ⊥) → (k ≡ 2 → ⊥) → (k ≡ 3 → ⊥) → r ≡ common q a u b → Derived void d u p t q k a b r
-    derived-notpart x y z is =
-        record { is = λ n fs B C la lb. is ∙ notpart-told B la lb void (C .wholes) (C .outside) ∙ stored-told n fs B C la lb silent (NOTPART a b) (notpart-of k a b x y z) }
+  pub derived-notpart : (k ≡ 1 → ⊥) → (k ≡ 2 → ⊥) → (k ≡ 3 → ⊥) → r ≡ common q a u b → Derived d u p t q k a b r
+  derived-notpart x y z is =
+      record { is = λ void n fs B C la lb off. is ∙ notpart-told B la lb void (C .wholes) (C .outside) ∙ stored-told void d u p t q k a b n fs B C la lb (silent void off) (NOTPART a b) (notpart-of k a b x y z) }
 
--- ---- the answer, by whether the claim follows and whether its opposite does
+-- ---- the answer about pieces not marked, by whether the claim follows and whether its opposite does
 
-module _ (void : ℕ → Bool) (d u p t q : List ℕ) (k a b : ℕ) where
-  pub answered-follows : (r : Bool) → r ≡ true → Derived void d u p t q k a b r → Answered void d u p t q k a b 1
+module _ (void : ℕ → Bool) (d u p t q : List ℕ) (k a b : ℕ) (v : Bool) (off : v ≡ false) (either : v ≡ (void a || void b)) where
+  unmarked : (void a || void b) ≡ false
+  unmarked = sym either ∙ off
+
+  pub answered-follows : (r : Bool) → r ≡ true → Derived d u p t q k a b r → Answered void d u p t q k a b 1
   unfolding verdict judge
-  answered-follows r e D = record { is = λ n fs B C la lb. rw (sym (D .is n fs B C la lb) ∙ e, judge) }
+  answered-follows r e D = record { is = λ n fs B C la lb. rw (sym (D .is void n fs B C la lb unmarked) ∙ e, judge) }
 
-  module _ (l : 1 ≤ k) (h : k ≤ 4) (r s : Bool) (e : r ≡ false) (D : Derived void d u p t q k a b r) (O : Derived void d u p t q (5 - k) a b s) where
+  module _ (l : 1 ≤ k) (h : k ≤ 4) (r s : Bool) (e : r ≡ false) (D : Derived d u p t q k a b r) (O : Derived d u p t q (5 - k) a b s) where
     told : (n : ℕ) (fs : List Fact) → Bounded n fs → Closed void n fs d u p t q → a < n → b < n → verdict void n fs (factOf k a b) ≡ judge false s
     unfolding verdict
     told n fs B C la lb =
-        ap₂ judge (sym (D .is n fs B C la lb) ∙ e) (ap (follows void n fs) (opposite-of k a b l h) ∙ sym (O .is n fs B C la lb))
+        ap₂ judge (sym (D .is void n fs B C la lb unmarked) ∙ e) (ap (follows void n fs) (opposite-of k a b l h) ∙ sym (O .is void n fs B C la lb unmarked))
 
     pub answered-denied : s ≡ true → Answered void d u p t q k a b 2
     unfolding judge

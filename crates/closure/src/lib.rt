@@ -1,6 +1,7 @@
 // Every answer from one closure: containment and the stored facts as bit matrices, their products, and what those say of claims.
 ghost use mathlib.Core.Path.{_≡_};
 ghost use mathlib.Core.Bool.{Bool, true, not, _&&_, _||_};
+ghost use mathlib.Core.List.{List};
 ghost use Prim.Native.Nat.{ℕ, _+_, _/_, _<_, _≤_};
 ghost use lib.Dec.{eqb, ltb};
 ghost use lib.ListN.{length};
@@ -297,24 +298,20 @@ pub fn marks_tell(kind: u8, a: usize, b: usize, voids: &[u64]) -> bool
     second_marked(voids, a, b)
 }
 
-// Whether the fact of a kind about a and b has a derivation from the marks and the facts whose closure is lent.
+// Whether the fact of a kind about two pieces that are not marked has a derivation from the facts whose closure is lent.
 fn derived(
     kind: u8,
     a: usize,
     b: usize,
-    voids: &[u64],
     d: &[u64],
     u: &[u64],
     p: &[u64],
     t: &[u64],
     q: &[u64],
 ) -> bool
-    requires { ⌜ (a < 2048) × (b < 2048) × (length (now voids) ≡ 32) × (length (now d) ≡ 65536) × (length (now u) ≡ 65536) × (length (now p) ≡ 65536) × (length (now t) ≡ 65536) × (length (now q) ≡ 65536) ⌝ }
-    ensures { λ r. ⌜ Derived (voidOf (now (voids .entry))) (now (d .entry)) (now (u .entry)) (now (p .entry)) (now (t .entry)) (now (q .entry)) kind a b r ⌝ }
+    requires { ⌜ (a < 2048) × (b < 2048) × (length (now d) ≡ 65536) × (length (now u) ≡ 65536) × (length (now p) ≡ 65536) × (length (now t) ≡ 65536) × (length (now q) ≡ 65536) ⌝ }
+    ensures { λ r. ⌜ Derived (now (d .entry)) (now (u .entry)) (now (p .entry)) (now (t .entry)) (now (q .entry)) kind a b r ⌝ }
 {
-    if marks_tell(kind, a, b, voids) {
-        return true;
-    }
     if kind == 1 {
         return relation::test(d, b, a);
     }
@@ -325,6 +322,17 @@ fn derived(
         return relation::meet(t, a, d, b);
     }
     relation::meet(q, a, u, b)
+}
+
+// The answer to a claim of a kind 1 to 4 about two pieces of which one is marked: the marks decide it.
+fn answer_marked(kind: u8, a: usize, b: usize, voids: &[u64]) -> Answer
+    requires { ⌜ (1 ≤ kind) × (kind ≤ 4) × (a < 2048) × (b < 2048) × (length (now voids) ≡ 32) × ((voidOf (now voids) a || voidOf (now voids) b) ≡ true) ⌝ }
+    ensures { λ r. ⌜ ((d u p t q : List ℕ) → Answered (voidOf (now (voids .entry))) d u p t q kind a b (answerByte r)) ⌝ }
+{
+    if marks_tell(kind, a, b, voids) {
+        return Answer::Follows;
+    }
+    Answer::Denied
 }
 
 // The answer to a claim of a kind 1 to 4. The kinds of opposite claims add up to 5.
@@ -342,10 +350,13 @@ pub fn answer_to(
     requires { ⌜ (1 ≤ kind) × (kind ≤ 4) × (a < 2048) × (b < 2048) × (length (now voids) ≡ 32) × (length (now d) ≡ 65536) × (length (now u) ≡ 65536) × (length (now p) ≡ 65536) × (length (now t) ≡ 65536) × (length (now q) ≡ 65536) ⌝ }
     ensures { λ r. ⌜ Answered (voidOf (now (voids .entry))) (now (d .entry)) (now (u .entry)) (now (p .entry)) (now (t .entry)) (now (q .entry)) kind a b (answerByte r) ⌝ }
 {
-    if derived(kind, a, b, voids, d, u, p, t, q) {
+    if either_marked(voids, a, b) {
+        return answer_marked(kind, a, b, voids);
+    }
+    if derived(kind, a, b, d, u, p, t, q) {
         return Answer::Follows;
     }
-    if derived(5 - kind, a, b, voids, d, u, p, t, q) {
+    if derived(5 - kind, a, b, d, u, p, t, q) {
         return Answer::Denied;
     }
     Answer::Open
