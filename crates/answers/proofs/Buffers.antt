@@ -14,7 +14,8 @@ use Rattle.index.specs.Parts as on
 use Rattle.parentheses.proofs.Paddeds.{padded-length}
 use Rattle.answers.specs.Lent.{Lent, lent}
 use Rattle.answers.specs.Fitting.{Fits}
-use Rattle.answers.specs.Call.{answersTo, indexed, cleared, left}
+use Rattle.answering.specs.Claimed.{answersTo}
+use Rattle.answers.specs.Call.{indexed, cleared, left}
 use Rattle.answers.specs.declared.Outcome.{Outcome}
 use Rattle.answers.specs.declared.Outcome.the-variants.{Accepted, Refused}
 

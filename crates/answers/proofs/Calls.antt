@@ -24,6 +24,7 @@ use Rattle.answers.specs.Judging.{Exact, Judged}
 use Rattle.answers.specs.declared.Outcome.{Outcome}
 use Rattle.answers.specs.declared.Outcome.the-variants.{Refused}
 use Rattle.answers.proofs.Outcomes.{Other, book-other, claims-other, Told, runs-told, passed-outcome}
+use Rattle.answering.proofs.Counts.{own-count}
 use Rattle.answers.proofs.Kept.{fitted, kept2, kept3, kept-place, kept-size}
 use Rattle.answers.proofs.Buffers.{cut, put-back, Long, left-back}
 
@@ -82,7 +83,7 @@ module _ (s cs : List ℕ) (l : Lent) where
       exact fit =
           let L = long cs l ok in
           record {
-            sound = sound;
+            sound = own-count sound;
             fit = fit;
             parens-long = length-take-le 2560 (l .parens) (L .parens);
             marks-long = length-take-le 1280 (l .marks) (L .marks);

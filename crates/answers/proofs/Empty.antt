@@ -30,11 +30,12 @@ use Rattle.index.specs.Breadth.{breadth, order, parent}
 use Rattle.index.specs.Tree.{hang, under, whole, visits}
 use Rattle.index.specs.Parts.{shape, parens, isNode, isShadow, place, marks, shadows, shadowList, placeList, value, packed}
 use Rattle.index.specs.Index.{parenthesesOf, visitsOf}
-use Rattle.closure.specs.PartIn.{partIn}
+use Rattle.settling.specs.PartIn.{partIn}
 use Rattle.parentheses.specs.Forest.{enc}
 use Rattle.parentheses.specs.Padded.{padded}
 use Rattle.answers.specs.Lent.{Lent, lent, shortLent}
-use Rattle.answers.specs.Call.{edges, byRuns, byClaims, byBook, outcome, claimed, answersTo, indexed, left}
+use Rattle.answering.specs.Claimed.{claimed, answersTo}
+use Rattle.answers.specs.Call.{edges, byRuns, byClaims, byBook, outcome, indexed, left}
 use Rattle.answers.specs.Outcome.{number}
 use Rattle.answers.specs.declared.Outcome.{Outcome}
 use Rattle.answers.specs.declared.Outcome.the-variants.{Accepted, Refused}

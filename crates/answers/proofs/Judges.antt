@@ -12,34 +12,35 @@ use Rattle.rules.specs.Entries.{shortestClash}
 use Rattle.records.specs.Record.{records}
 use Rattle.records.specs.Facts.{entries, facts}
 use Rattle.records.specs.Marked.{marked}
-use Rattle.records.specs.Check.{bookCheck}
-use Rattle.records.specs.declared.BookCheck.the-variants as book
 use Rattle.records.specs.declared.Refusal.the-variants.{Contradiction}
 use Rattle.index.specs.Index.{visitsOf, parenthesesOf}
 use Rattle.parentheses.specs.Padded.{padded}
 use Rattle.index.specs.Parts as on
-use Rattle.closure.specs.Opened.{Opened}
-use Rattle.closure.specs.Settled.{Settleable, Clashed}
-use Rattle.closure.proofs.Settling.{settleable, whole-unmarked, settleable-in, free-beyond, clashed-within}
+use Rattle.settling.specs.Opened.{Opened}
+use Rattle.settling.specs.Settled.{Settleable, Clashed}
+use Rattle.settling.proofs.Settling.{settleable-in, free-beyond, clashed-within}
 use Rattle.answers.specs.Lent.{Lent, lent}
-use Rattle.answers.specs.Call.{edges, byRuns, answersTo, indexed, cleared, left}
+use Rattle.answering.specs.Claimed.{answersTo}
+use Rattle.answers.specs.Call.{edges, byRuns, indexed, cleared, left}
+use Rattle.answering.specs.Counted.{Counted}
 use Rattle.answers.specs.Judging.{Cleared, Exact, Judged}
 use Rattle.answers.specs.declared.Outcome.the-variants.{Accepted, Refused}
+use Rattle.answering.proofs.Counts.{counted-settleable, counted-unmarked}
 use Rattle.answers.proofs.Buffers.{front-whole, packed-long, answers-long, same-lent}
 
-module _ (s : List ℕ) (n : ℕ) (sound : bookCheck s ≡ book.Accepted n) where
+module _ (s : List ℕ) (n : ℕ) (sound : Counted s n) where
   pub refuses : (place : ℕ) → Clashed (marked s) n s place → Refused Contradiction place ≡ byRuns s n
   unfolding byRuns
   refuses place C =
       let q = C .last in
       let k : place ≡ shortestClash (marked s) n (entries s) - 1 = omega arith in
-      rw (le-leb (shortestClash (marked s) n (entries s)) (records s) (clashed-within (settleable s n sound) (marked s) (whole-unmarked s n sound) C), byRuns) (ap (Refused Contradiction) k)
+      rw (le-leb (shortestClash (marked s) n (entries s)) (records s) (clashed-within (counted-settleable s sound) (marked s) (counted-unmarked s sound) C), byRuns) (ap (Refused Contradiction) k)
 
   pub accepts :
       (nodes shadows : ℕ) → false ≡ clash (marked s) n (facts s) → nodes ≡ length (visitsOf n (edges n s)) → shadows ≡ length (on.shadows (visitsOf n (edges n s)))
       → Accepted n nodes shadows ≡ byRuns s n
   unfolding byRuns
-  accepts nodes shadows c e f = rw (lt-leb (shortestClash (marked s) n (entries s)) (records s) (free-beyond (settleable s n sound) (marked s) (whole-unmarked s n sound) c), byRuns, e, f)
+  accepts nodes shadows c e f = rw (lt-leb (shortestClash (marked s) n (entries s)) (records s) (free-beyond (counted-settleable s sound) (marked s) (counted-unmarked s sound) c), byRuns, e, f)
 
 pub cleared-at :
     {w x y z : ℕ} {a b c d : List ℕ} → w ≡ 2560 → x ≡ 1280 → y ≡ 8192 → z ≡ 2048 → Cleared w x y z a b c d → Cleared 2560 1280 8192 2048 a b c d
@@ -48,7 +49,7 @@ cleared-at p q r t C = rw (p, q, r, t) at C
 module _ (s : List ℕ) (n : ℕ) (cs : List ℕ) (l : Lent) (X : Exact s n cs l) where
   pub settleable-at : Settleable n s (length (l .parens)) (length (l .marks)) (length (l .shadows)) (length (l .places))
   settleable-at =
-      settleable-in (settleable s n (X .sound)) (omega (arith, X .parens-long)) (omega (arith, X .marks-long)) (omega (arith, X .shadows-long)) (omega (arith, X .places-long))
+      settleable-in (counted-settleable s (X .sound)) (omega (arith, X .parens-long)) (omega (arith, X .marks-long)) (omega (arith, X .shadows-long)) (omega (arith, X .places-long))
 
   zeroed : (k : ℕ) (x : List ℕ) → length x ≡ k → front (replicate k 0) x ≡ replicate k 0
   zeroed k x e = front-whole (replicate k 0) x (length-replicate {A = ℕ} k 0 ∙ sym e)

@@ -1,39 +1,36 @@
 -- A determined call keeps demands 2 and 3, names the place of a contradiction, and fits. Assumes nothing.
 use Prim.Native.Nat.{ℕ, _-_, _<_}
 use mathlib.Core.Path.{_≡_, refl, subst, _∙_}
-use mathlib.Core.Logic.{_↔_}
 use mathlib.Core.Bool.{true, false}
 use mathlib.Core.List.{List}
 use native.Mathlib.Omega.{arith}
-use borrow.Author.Tests.{leb-true, leb-false}
 use lib.Dec.{leb}
 use lib.ListN.{length, getD, length-map, List·getD-append}
 use Rattle.lists.specs.Front.{front}
 use Rattle.lists.proofs.Tabs.{tab-at, tab-length}
-use Rattle.lists.proofs.Bools.{Known, is-true, is-false, known}
-use Rattle.rules.specs.Fact.{Fact, Within, AllWithin}
+use Rattle.rules.specs.Fact.{Fact, Within}
 use Rattle.rules.specs.Derives.{Contradictory}
 use Rattle.rules.specs.Model.{Model, keepsAll}
 use Rattle.rules.specs.Follows.{clash}
 use Rattle.rules.specs.Verdict.{verdict}
 use Rattle.rules.specs.Entries.{shortestClash}
-use Rattle.rules.proofs.Verdicts.{verdict-follows, verdict-denied, verdict-open, verdict-follows-everywhere, verdict-denied-everywhere, verdict-open-iff}
 use Rattle.records.specs.Record.{recordAt, records}
 use Rattle.records.specs.Facts.{entries, facts}
 use Rattle.records.specs.Pieces.{pieceCount}
 use Rattle.records.specs.Kept.{sheets}
 use Rattle.records.specs.Marked.{marked}
 use Rattle.records.proofs.Rows.{refused-positive}
-use Rattle.records.proofs.Keeps.{sheets-among, picked-among}
-use Rattle.records.proofs.Accepted.{accepted, accepted-claims}
+use Rattle.records.proofs.Keeps.{sheets-among}
+use Rattle.records.proofs.Accepted.{accepted}
 use Rattle.index.specs.Index.{visitsOf}
 use Rattle.index.specs.Parts as on
-use Rattle.closure.specs.Contradiction.{Contradiction}
-use Rattle.closure.specs.Settled.{Settleable, Clashed}
-use Rattle.closure.proofs.Settling.{settleable, whole-unmarked, settled-room, beyond-free, free-consistent, free-model, within-clashed, clashed-no-model, clashed-first}
+use Rattle.settling.specs.Contradiction.{Contradiction}
+use Rattle.settling.specs.Settled.{Settleable}
+use Rattle.settling.proofs.Settling.{settled-room, free-consistent, free-model, clashed-first}
 use Rattle.answers.specs.Lent.{Lent}
 use Rattle.answers.specs.Outcome as of
-use Rattle.answers.specs.Call.{edges, byRuns, outcome, Passed, claimed, pickedFacts, answersTo, indexed, left, Determined}
+use Rattle.answering.specs.Claimed.{claimed, pickedFacts, answersTo}
+use Rattle.answers.specs.Call.{edges, outcome, Passed, indexed, left, Determined}
 use Rattle.answers.specs.Demands.{Derived, Entailed, Demand2, Demand3, Contradicted}
 use Rattle.answers.specs.Agree.{Agree, SheetsAgree}
 use Rattle.answers.specs.Fitting.{Fits, Fitting}
@@ -41,28 +38,25 @@ use Rattle.answers.specs.declared.Outcome.{Outcome}
 use Rattle.answers.specs.declared.Outcome.the-variants.{Accepted, Refused}
 use Rattle.answers.proofs.Outcomes.{Told, told, passed-outcome}
 use Rattle.answers.proofs.Buffers.{Fitted}
-use Rattle.answers.proofs.Sheets.{fewer-within, fewer-consistent, fewer-follows, fewer-denied}
+use Rattle.answering.proofs.Fewer.{fewer-follows, fewer-denied}
+use Rattle.answering.proofs.Counts.{own-count, counted-settleable, counted-unmarked, counted-free, counted-clashed}
+use Rattle.answers.proofs.Counts.{runs-refused, claim-within, derived, entailed}
 
 module _ (s cs : List ℕ) (l : Lent) (n : ℕ) (p : Passed s cs l n) where
   settles : Settleable n s 2560 1280 8192 2048
-  settles = settleable s n (p .sound)
+  settles = counted-settleable s (own-count (p .sound))
 
   unmarked : marked s 0 ≡ false
-  unmarked = whole-unmarked s n (p .sound)
+  unmarked = counted-unmarked s (own-count (p .sound))
 
   counted : n ≡ pieceCount s
   counted = accepted s n (p .sound) .count
 
   pub claim-in : (i : ℕ) → i < records cs → Within n (claimed cs i)
-  unfolding claimed
-  claim-in i h = accepted-claims n cs (p .fit) .within i h
+  claim-in i h = claim-within s (own-count (p .sound)) cs (p .fit) i h
 
-  -- row 14, by the shortest contradictory run
   free : leb (shortestClash (marked s) n (entries s)) (records s) ≡ false → false ≡ clash (marked s) n (facts s)
-  free e = beyond-free settles (marked s) unmarked (leb-false (shortestClash (marked s) n (entries s)) (records s) e)
-
-  clashed : leb (shortestClash (marked s) n (entries s)) (records s) ≡ true → Clashed (marked s) n s (shortestClash (marked s) n (entries s) - 1)
-  clashed e = within-clashed settles (marked s) unmarked (leb-true (shortestClash (marked s) n (entries s)) (records s) e)
+  free e = counted-free s (own-count (p .sound)) e
 
   -- the answer byte of claim i
   pub answer-at : (i : ℕ) → i < records cs → getD (indexed s cs n l .answers) i 0 ≡ verdict (marked s) n (pickedFacts s cs i) (claimed cs i)
@@ -71,32 +65,6 @@ module _ (s cs : List ℕ) (l : Lent) (n : ℕ) (p : Passed s cs l n) where
       List·getD-append (answersTo s n cs) _ 0 i (omega (arith, tab-length (λ j. verdict (marked s) n (pickedFacts s cs j) (claimed cs j)) 0 (records cs)))
       ∙ tab-at (λ j. verdict (marked s) n (pickedFacts s cs j) (claimed cs j)) (records cs) i 0 h
 
-  module _ (ok : Contradictory (marked s) n (facts s) → ⊥) (i : ℕ) (h : i < records cs) where
-    -- the facts that the claim picks are among the book's
-    within : AllWithin n (pickedFacts s cs i)
-    within = fewer-within (marked s) n (pickedFacts s cs i) (facts s) (settles .bounded .within) (settles .bounded .some) unmarked ok (picked-among s (recordAt cs i))
-
-    consistent : Contradictory (marked s) n (pickedFacts s cs i) → ⊥
-    consistent = fewer-consistent (marked s) n (pickedFacts s cs i) (facts s) (settles .bounded .within) (settles .bounded .some) unmarked ok (picked-among s (recordAt cs i))
-
-    derived : Derived (marked s) n (pickedFacts s cs i) (claimed cs i) (verdict (marked s) n (pickedFacts s cs i) (claimed cs i))
-    derived =
-        let some = settles .bounded .some in
-        record {
-          follows = verdict-follows (marked s) n (pickedFacts s cs i) within some unmarked consistent (claimed cs i) (claim-in i h);
-          denied = verdict-denied (marked s) n (pickedFacts s cs i) within some unmarked consistent (claimed cs i) (claim-in i h);
-          undecided = verdict-open (marked s) n (pickedFacts s cs i) within some unmarked consistent (claimed cs i) (claim-in i h);
-        }
-
-    entailed : Entailed (marked s) n (pickedFacts s cs i) (claimed cs i) (verdict (marked s) n (pickedFacts s cs i) (claimed cs i))
-    entailed =
-        let some = settles .bounded .some in
-        record {
-          follows = verdict-follows-everywhere (marked s) n (pickedFacts s cs i) within some unmarked consistent (claimed cs i) (claim-in i h);
-          denied = verdict-denied-everywhere (marked s) n (pickedFacts s cs i) within some unmarked consistent (claimed cs i) (claim-in i h);
-          undecided = verdict-open-iff (marked s) n (pickedFacts s cs i) within some unmarked consistent (claimed cs i) (claim-in i h);
-        }
-
   agree : (Contradictory (marked s) n (facts s) → ⊥) → (f : Fact) → Within n f → Agree n s f
   agree ok f c =
       let B = settles .bounded in
@@ -104,15 +72,6 @@ module _ (s cs : List ℕ) (l : Lent) (n : ℕ) (p : Passed s cs l n) where
         follows = fewer-follows (marked s) n (facts (sheets s)) (facts s) (B .within) (B .some) unmarked ok (sheets-among s) f c;
         denied = fewer-denied (marked s) n (facts (sheets s)) (facts s) (B .within) (B .some) unmarked ok (sheets-among s) f c;
       }
-
-  -- refused as contradictory exactly when there is no model
-  runs-refused : (of.number (byRuns s n) ≡ 14) ↔ ((M : Model (marked s) n) → keepsAll M (facts s) → ⊥)
-  unfolding byRuns
-  runs-refused = pick (known (leb (shortestClash (marked s) n (entries s)) (records s)))
-    where
-      pick : Known (leb (shortestClash (marked s) n (entries s)) (records s)) → (of.number (byRuns s n) ≡ 14) ↔ ((M : Model (marked s) n) → keepsAll M (facts s) → ⊥)
-      pick (is-true e) = rw (e, byRuns) (λ q. clashed-no-model settles (marked s) unmarked (clashed e), λ q. refl)
-      pick (is-false e) = rw (e, byRuns) (λ q. absurd (omega arith), λ none. let m = free-model settles (marked s) unmarked (free e) in absurd (none (m .0) (m .1)))
 
   -- the index fits
   fits : (nodes : ℕ) → nodes ≡ length (visitsOf n (edges n s)) → Fits n s nodes
@@ -136,14 +95,14 @@ module _ (s cs : List ℕ) (l : Lent) where
   unfolding left
   two (Accepted n nodes shadows) t q i h =
       let ok = free-consistent (settles s cs l n (t .0)) (marked s) (unmarked s cs l n (t .0)) (free s cs l n (t .0) (t .1)) in
-      rw (← counted s cs l n (t .0), answer-at s cs l n (t .0) i h) (derived s cs l n (t .0) ok i h)
+      rw (← counted s cs l n (t .0), answer-at s cs l n (t .0) i h) (derived s (own-count (t .0 .sound)) cs (t .0 .fit) i h ok)
   two (Refused r i) t q j h = absurd (refused-positive r q)
 
   three : (r : Outcome) → Told s cs l r → of.number r ≡ 0 → (i : ℕ) → i < records cs → Entailed (marked s) (pieceCount s) (pickedFacts s cs i) (claimed cs i) (getD (left s cs l r .answers) i 0)
   unfolding left
   three (Accepted n nodes shadows) t q i h =
       let ok = free-consistent (settles s cs l n (t .0)) (marked s) (unmarked s cs l n (t .0)) (free s cs l n (t .0) (t .1)) in
-      rw (← counted s cs l n (t .0), answer-at s cs l n (t .0) i h) (entailed s cs l n (t .0) ok i h)
+      rw (← counted s cs l n (t .0), answer-at s cs l n (t .0) i h) (entailed s (own-count (t .0 .sound)) cs (t .0 .fit) i h ok)
   three (Refused r i) t q j h = absurd (refused-positive r q)
 
   laid : (r : Outcome) → Told s cs l r → of.number r ≡ 0 → (M : Model (marked s) (pieceCount s)) × keepsAll M (facts s)
@@ -158,7 +117,7 @@ module _ (s cs : List ℕ) (l : Lent) where
       pick :
           (n : ℕ) × Passed s cs l n × (leb (shortestClash (marked s) n (entries s)) (records s) ≡ true) × (i ≡ shortestClash (marked s) n (entries s) - 1)
           → Contradiction (marked s) (pieceCount s) s i
-      pick (n, p, e, k) = rw (← counted s cs l n p, k) (clashed-first (settles s cs l n p) (marked s) (unmarked s cs l n p) (clashed s cs l n p e))
+      pick (n, p, e, k) = rw (← counted s cs l n p, k) (clashed-first (settles s cs l n p) (marked s) (unmarked s cs l n p) (counted-clashed s (own-count (p .sound)) e))
 
   sized : (r : Outcome) → Told s cs l r → Fitting s (of.number r) (of.nodeCount r)
   sized (Accepted n nodes shadows) t q = rw (← counted s cs l n (t .0)) (fits s cs l n (t .0) nodes (t .2))
@@ -176,7 +135,7 @@ module _ (s cs : List ℕ) (l : Lent) where
     kept3 =
         record {
           answered = rw (d .1) (three r telling);
-          refused = λ n p. rw (d .0 ∙ passed-outcome s cs l n p) (runs-refused s cs l n p);
+          refused = λ n p. rw (d .0 ∙ passed-outcome s cs l n p) (runs-refused s (own-count (p .sound)));
           laid = laid r telling;
         }
 

@@ -1,9 +1,8 @@
 pub mod Outcomes
 pub mod Buffers
-pub mod Sheets
+pub mod Counts
 pub mod Kept
 pub mod Judges
-pub mod Answering
 pub mod Calls
 pub mod Empty
 pub mod Fresh

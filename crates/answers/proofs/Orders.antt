@@ -30,12 +30,13 @@ use Rattle.records.proofs.Orders.{facts-found, picked-found, found-moved, found
 use Rattle.index.specs.Pairs.{joined}
 use Rattle.index.specs.Index.{visitsOf}
 use Rattle.index.specs.Parts as on
-use Rattle.closure.specs.PartIn.{partIn}
-use Rattle.closure.proofs.FactIndex.{part-stored, stored-part}
-use Rattle.closure.proofs.Settling.{settleable, whole-unmarked, free-beyond, beyond-free}
+use Rattle.settling.specs.PartIn.{partIn}
+use Rattle.settling.proofs.FactIndex.{part-stored, stored-part}
+use Rattle.settling.proofs.Settling.{settleable, whole-unmarked, free-beyond, beyond-free}
 use Rattle.answers.specs.Lent.{Lent, shortLent}
 use Rattle.answers.specs.Outcome.{number}
-use Rattle.answers.specs.Call.{edges, byRuns, byClaims, byBook, outcome, claimed, pickedFacts, answersTo, indexed, left}
+use Rattle.answering.specs.Claimed.{claimed, pickedFacts, answersTo}
+use Rattle.answers.specs.Call.{edges, byRuns, byClaims, byBook, outcome, indexed, left}
 use Rattle.answers.specs.Order.{OrderFree}
 use Rattle.answers.specs.declared.Outcome.{Outcome}
 use Rattle.answers.specs.declared.Outcome.the-variants.{Accepted, Refused}

@@ -15,7 +15,7 @@ use Rattle.index.specs.Breadth.{breadth, order, parent}
 use Rattle.index.specs.Tree.{hang, under, whole, visits}
 use Rattle.index.specs.Parts.{isShadow, shadows}
 use Rattle.index.specs.Index.{visitsOf}
-use Rattle.closure.specs.PartIn.{partIn}
+use Rattle.settling.specs.PartIn.{partIn}
 use Rattle.rules.specs.Fact.{factOf}
 use Rattle.rules.specs.Follows.{storing, turned, parting, table, entry, step, rounds, containment, apart, meets, notpart, derived, follows, clash}
 use Rattle.rules.specs.Verdict.{judge, verdict}
@@ -40,7 +40,8 @@ use Rattle.records.proofs.Marks.{marked-moved, marked-added}
 use Rattle.records.proofs.Orders.{Found, picked-found, count-found, found-before, found-through, found-moved}
 use Rattle.answers.specs.Lent.{Lent}
 use Rattle.answers.specs.Outcome.{number}
-use Rattle.answers.specs.Call.{edges, byRuns, outcome, claimed, answersTo, indexed, left}
+use Rattle.answering.specs.Claimed.{claimed, answersTo}
+use Rattle.answers.specs.Call.{edges, byRuns, outcome, indexed, left}
 use Rattle.answers.specs.Order.{PlaceDiffers, Steady, MarksTurn}
 use Rattle.answers.specs.declared.Outcome.{Outcome}
 use Rattle.answers.specs.declared.Outcome.the-variants.{Accepted, Refused}

@@ -6,16 +6,12 @@ use mathlib.Core.Bool.{Bool, true, false}
 use mathlib.Core.List.{List}
 use lib.Dec.{eqb, leb}
 use lib.ListN.{length, replicate}
-use Rattle.lists.specs.Tab.{tab}
 use Rattle.lists.specs.Front.{front}
-use Rattle.rules.specs.Verdict.{verdict}
 use Rattle.rules.specs.Entries.{shortestClash}
-use Rattle.rules.specs.Fact.{Fact}
-use Rattle.records.specs.Record.{recordAt, records}
+use Rattle.records.specs.Record.{records}
 use Rattle.records.specs.Refusal.{refusalNumber}
 use Rattle.records.specs.Check.{bookCheck, claimsCheck}
-use Rattle.records.specs.Facts.{saying, entries, facts}
-use Rattle.records.specs.Kept.{picked}
+use Rattle.records.specs.Facts.{entries, facts}
 use Rattle.records.specs.Marked.{marked}
 use Rattle.records.specs.declared.Refusal.the-variants.{ShortBuffer, Contradiction}
 use Rattle.records.specs.declared.BookCheck.{BookCheck}
@@ -23,10 +19,11 @@ use Rattle.records.specs.declared.BookCheck.the-variants as book
 use Rattle.records.specs.declared.ClaimsCheck.{ClaimsCheck}
 use Rattle.records.specs.declared.ClaimsCheck.the-variants as claims
 use Rattle.index.specs.Pairs.{joined}
-use Rattle.closure.specs.PartIn.{partIn}
+use Rattle.settling.specs.PartIn.{partIn}
 use Rattle.index.specs.Index.{parenthesesOf, visitsOf}
 use Rattle.parentheses.specs.Padded.{padded}
 use Rattle.index.specs.Parts as on
+use Rattle.answering.specs.Claimed.{answersTo}
 use Rattle.answers.specs.Lent.{Lent, shortLent}
 use Rattle.answers.specs.declared.Outcome.{Outcome}
 use Rattle.answers.specs.declared.Outcome.the-variants.{Accepted, Refused}
@@ -63,18 +60,6 @@ pub record Passed (s cs : List ℕ) (l : Lent) (n : ℕ) : Type 0 where
   pub fit : claimsCheck n cs ≡ claims.Accepted
 
 -- ---- the buffers at exit
-
--- claim i as a fact
-unfoldable pub claimed : List ℕ → ℕ → Fact
-claimed cs i = saying (recordAt cs i)
-
--- the facts that claim i picks by its byte 1: all, or those of cutting sheets
-abbrev pub pickedFacts : List ℕ → List ℕ → ℕ → List Fact
-pickedFacts s cs i = facts (picked s (recordAt cs i))
-
--- the answers to all claims: the whole book's marks count in each
-unfoldable pub answersTo : List ℕ → ℕ → List ℕ → List ℕ
-answersTo s n cs = tab (λ i. verdict (marked s) n (pickedFacts s cs i) (claimed cs i)) 0 (records cs)
 
 unfoldable pub indexed : List ℕ → List ℕ → ℕ → Lent → Lent
 indexed s cs n l = record {

@@ -12,9 +12,10 @@ use Rattle.records.specs.Record.{records}
 use Rattle.records.specs.Facts.{facts}
 use Rattle.records.specs.Pieces.{pieceCount}
 use Rattle.records.specs.Marked.{marked}
-use Rattle.closure.specs.Contradiction.{Contradiction}
+use Rattle.settling.specs.Contradiction.{Contradiction}
 use Rattle.answers.specs.Lent.{Lent}
-use Rattle.answers.specs.Call.{claimed, pickedFacts, Passed}
+use Rattle.answering.specs.Claimed.{claimed, pickedFacts}
+use Rattle.answers.specs.Call.{Passed}
 
 -- demand 2, of one claim: FOLLOWS exactly when it has a derivation, DENIED exactly when its opposite has one, OPEN exactly when neither has
 pub record Derived (void : ℕ → Bool) (n : ℕ) (fs : List Fact) (f : Fact) (answer : ℕ) : Type 0 where

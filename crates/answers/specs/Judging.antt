@@ -1,83 +1,15 @@
 -- What the steps of a call promise each other. Assumes nothing.
-use Prim.Native.Nat.{ℕ, _≤_, _<_}
+use Prim.Native.Nat.{ℕ}
 use mathlib.Core.Path.{_≡_}
-use mathlib.Core.Bool.{Bool, false}
 use mathlib.Core.List.{List}
-use lib.Dec.{ltb}
-use lib.ListN.{length, getD, replicate}
-use Rattle.lists.specs.Any.{anyBelow}
-use Rattle.rules.specs.Fact.{Fact}
-use Rattle.rules.specs.Follows.{clash}
-use Rattle.rules.specs.Verdict.{verdict}
-use Rattle.records.specs.Record.{recordAt, records}
-use Rattle.records.specs.Facts.{facts}
-use Rattle.records.specs.Marked.{marked}
-use Rattle.records.specs.Check.{bookCheck, claimsCheck}
-use Rattle.records.specs.declared.BookCheck.the-variants as book
+use lib.ListN.{length, replicate}
+use Rattle.records.specs.Record.{records}
+use Rattle.records.specs.Check.{claimsCheck}
 use Rattle.records.specs.declared.ClaimsCheck.the-variants as claims
-use Rattle.closure.specs.Void.{voidOf, Voids}
-use Rattle.closure.specs.Bounded.{Bounded}
-use Rattle.closure.specs.Stored.{edgeBit}
-use Rattle.closure.specs.Closed.{Holds, Closed, partBit, towardBit}
+use Rattle.answering.specs.Counted.{Counted}
 use Rattle.answers.specs.Lent.{Lent}
-use Rattle.answers.specs.Call.{claimed, byRuns, left}
+use Rattle.answers.specs.Call.{byRuns, left}
 use Rattle.answers.specs.declared.Outcome.{Outcome}
-
--- the marks of a book as a row of bits
-abbrev pub MarksOf : List ℕ → List ℕ → Type 0
-MarksOf s voids = Voids voids × (voidOf voids ≡ marked s)
-
--- marks, five matrices, claims on n pieces, and room for their answers
-pub record Closing (cs voids d u p t q : List ℕ) (room : ℕ) : Type 0 where
-  pub n : ℕ
-  pub small : n ≤ 2048
-  pub fit : claimsCheck n cs ≡ claims.Accepted
-  pub rooms : room ≡ records cs
-  pub voids-sized : length voids ≡ 32
-  pub d-sized : length d ≡ 65536
-  pub u-sized : length u ≡ 65536
-  pub p-sized : length p ≡ 65536
-  pub t-sized : length t ≡ 65536
-  pub q-sized : length q ≡ 65536
-
--- the claims of one origin are answered from these facts and marks, and the other answers are as they were
-pub record AnsweredFrom (void : ℕ → Bool) (origin n : ℕ) (fs : List Fact) (cs before answers : List ℕ) : Type 0 where
-  pub are : (i : ℕ) → i < records cs → recordAt cs i .origin ≡ origin → getD answers i 0 ≡ verdict void n fs (claimed cs i)
-  pub others : (i : ℕ) → (recordAt cs i .origin ≡ origin → ⊥) → getD answers i 0 ≡ getD before i 0
-
--- and so from every list of facts whose closure the matrices are
-pub record Answers (void : ℕ → Bool) (origin : ℕ) (cs d u p t q before answers : List ℕ) : Type 0 where
-  pub are :
-      (n : ℕ) (fs : List Fact) → Bounded n fs → Closed void n fs d u p t q → claimsCheck n cs ≡ claims.Accepted → AnsweredFrom void origin n fs cs before answers
-
--- some claim is to be answered from the cutting sheets alone
-unfoldable pub restricted : List ℕ → Bool
-restricted cs = anyBelow (λ i. ltb 0 (recordAt cs i .origin)) (records cs)
-
--- a book that is not contradictory, its marks, claims, six matrices, and room for the answers
-pub record Restrictable (s : List ℕ) (n : ℕ) (voids cs e d t u p q : List ℕ) (room : ℕ) : Type 0 where
-  pub sound : bookCheck s ≡ book.Accepted n
-  pub void : Voids voids
-  pub free : false ≡ clash (voidOf voids) n (facts s)
-  pub fit : claimsCheck n cs ≡ claims.Accepted
-  pub rooms : room ≡ records cs
-  pub e-sized : length e ≡ 65536
-  pub d-sized : length d ≡ 65536
-  pub t-sized : length t ≡ 65536
-  pub u-sized : length u ≡ 65536
-  pub p-sized : length p ≡ 65536
-  pub q-sized : length q ≡ 65536
-
--- a book that is not contradictory, claims that pass the rows before 14, the book's marks, edges, D and T
-pub record Answerable (s : List ℕ) (n : ℕ) (voids cs e d t : List ℕ) (room : ℕ) : Type 0 where
-  pub sound : bookCheck s ≡ book.Accepted n
-  pub void : MarksOf s voids
-  pub free : false ≡ clash (voidOf voids) n (facts s)
-  pub fit : claimsCheck n cs ≡ claims.Accepted
-  pub rooms : room ≡ records cs
-  pub edged : Holds e (edgeBit n (facts s))
-  pub parts : Holds d (partBit n (facts s))
-  pub toward : Holds t (towardBit (voidOf voids) n (facts s))
 
 -- zeroes of these lengths
 pub record Cleared (a b c d : ℕ) (parens marks shadows places : List ℕ) : Type 0 where
@@ -88,7 +20,7 @@ pub record Cleared (a b c d : ℕ) (parens marks shadows places : List ℕ) : Ty
 
 -- a book and claims that pass the rows before 14, and buffers of exactly the lengths that are written
 pub record Exact (s : List ℕ) (n : ℕ) (cs : List ℕ) (l : Lent) : Type 0 where
-  pub sound : bookCheck s ≡ book.Accepted n
+  pub sound : Counted s n
   pub fit : claimsCheck n cs ≡ claims.Accepted
   pub parens-long : length (l .parens) ≡ 2560
   pub marks-long : length (l .marks) ≡ 1280

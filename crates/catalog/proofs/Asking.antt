@@ -16,13 +16,13 @@ use Rattle.rules.specs.Fact.{Fact, kind, left, right}
 use Rattle.records.specs.Facts.{facts}
 use Rattle.records.specs.Check.{bookCheck}
 use Rattle.records.specs.declared.BookCheck.the-variants as book
-use Rattle.catalog.specs.Passing.{passing}
-use Rattle.catalog.specs.Area.{unorderedKind, rowOf, columnOf, numberOf, stored, pairs, filled}
-use Rattle.catalog.specs.Between.{within, inside, between}
-use Rattle.catalog.specs.Question.{Answers, storedBetween}
+use Rattle.lists.specs.Passing.{passing}
+use Rattle.areas.specs.Area.{unorderedKind, rowOf, columnOf, numberOf, stored, pairs, filled}
+use Rattle.areas.specs.Between.{within, inside, between}
+use Rattle.areas.specs.Question.{Answers, storedBetween}
 use Rattle.catalog.specs.Call.{placesOf, areaOf}
-use Rattle.catalog.proofs.Passed.{passing-at, passing-back, passing-less}
-use Rattle.catalog.proofs.Crosses.{either}
+use Rattle.lists.proofs.Passed.{passing-at, passing-back, passing-less}
+use Rattle.areas.proofs.Crosses.{either}
 use Rattle.catalog.proofs.Books.{book-bounded, places-small}
 
 module _ (rf rt cf ct : ℕ) where

@@ -25,13 +25,13 @@ use Rattle.index.specs.Parts as on
 use Rattle.index.proofs.Packing.{padded-at}
 use Rattle.index.proofs.Standing.{place-small}
 use Rattle.closure.specs.Bounded.{Bounded}
-use Rattle.closure.specs.Opened.{Opened}
-use Rattle.closure.specs.PartIn.{partIn}
-use Rattle.closure.proofs.FactIndex as pairs-of
-use Rattle.closure.proofs.Settling.{settleable, settled-room}
+use Rattle.settling.specs.Opened.{Opened}
+use Rattle.settling.specs.PartIn.{partIn}
+use Rattle.settling.proofs.FactIndex as pairs-of
+use Rattle.settling.proofs.Settling.{settleable, settled-room}
 use Rattle.answers.specs.Call.{edges}
-use Rattle.catalog.specs.Passing.{passing}
-use Rattle.catalog.specs.Area.{pairs, filled}
+use Rattle.lists.specs.Passing.{passing}
+use Rattle.areas.specs.Area.{pairs, filled}
 use Rattle.catalog.specs.Call.{listOf, placesOf, areaOf, countsOf}
 use Rattle.catalog.specs.Filling.{Filled}
 use Rattle.catalog.specs.declared.Counts.{Counts}

@@ -17,7 +17,8 @@ use Rattle.records.specs.declared.BookCheck.the-variants as book
 use Rattle.records.specs.declared.ClaimsCheck.the-variants as claims
 use Rattle.answers.specs.Lent.{shortLent}
 use Rattle.answers.specs.Lent as lending
-use Rattle.answers.specs.Call.{byRuns, Passed, answersTo}
+use Rattle.answering.specs.Claimed.{answersTo}
+use Rattle.answers.specs.Call.{byRuns, Passed}
 use Rattle.answers.specs.Call as call
 use Rattle.answers.specs.Judging as judging
 use Rattle.answers.specs.declared.Outcome.{Outcome}
@@ -137,7 +138,7 @@ module _ (s : List ℕ) (k g : ℕ) (l : Lent) where
         back x = record { index = put-back 0 (l .index) (x .index); list = x .list; meets = x .meets; apart = x .apart; notpart = x .notpart }
 
         pub ready : Ready s n parts
-        ready = record { exact = calls.exact s [] (l .index) ok sound (no-claims n); roomy = roomy }
+        ready = record { sound = sound; exact = calls.exact s [] (l .index) ok sound (no-claims n); roomy = roomy }
 
         -- what is written of the index fits
         same-fit : (o : Outcome) → Fitted s o → Fitted s (indexOutcome (byIndex s k g o))

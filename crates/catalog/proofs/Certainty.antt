@@ -25,7 +25,7 @@ use Rattle.records.specs.declared.BookCheck.{BookCheck}
 use Rattle.records.specs.declared.BookCheck.the-variants as book
 use Rattle.records.proofs.Rows.{refused-positive}
 use Rattle.records.proofs.Accepted.{accepted}
-use Rattle.closure.proofs.Settling.{settleable, whole-unmarked, beyond-free, free-consistent}
+use Rattle.settling.proofs.Settling.{settleable, whole-unmarked, beyond-free, free-consistent}
 use Rattle.answers.specs.Call as answers
 use Rattle.catalog.specs.Lent.{Lent}
 use Rattle.catalog.specs.Outcome.{number}
@@ -34,7 +34,7 @@ use Rattle.catalog.specs.Certain.{Certain, AllCertain}
 use Rattle.catalog.specs.Filling.{Asked}
 use Rattle.catalog.specs.declared.Listing.{Listing}
 use Rattle.catalog.proofs.Telling.{claim-within}
-use Rattle.catalog.proofs.Passed.{passing-at, passing-back, passing-less, passing-rises}
+use Rattle.lists.proofs.Passed.{passing-at, passing-back, passing-less, passing-rises}
 
 -- a row that does not refuse
 passes : (b : Bool) (r : Refusal) (below : Listing) → number (refuseIf b r below) ≡ 0 → (b ≡ false) × (number below ≡ 0)

@@ -24,15 +24,15 @@ use Rattle.index.specs.Parts as on
 use Rattle.index.proofs.Packing.{packed-is, padded-at}
 use Rattle.index.proofs.Ranges.{ones-parens}
 use Rattle.index.proofs.Standing.{place-small}
-use Rattle.closure.specs.PartIn.{partIn}
-use Rattle.closure.proofs.FactIndex as pairs-of
-use Rattle.closure.proofs.Settling.{settleable, settled-room}
+use Rattle.settling.specs.PartIn.{partIn}
+use Rattle.settling.proofs.FactIndex as pairs-of
+use Rattle.settling.proofs.Settling.{settleable, settled-room}
 use Rattle.answers.specs.Call.{edges}
 use Rattle.answers.proofs.Buffers.{packed-long}
 use Rattle.catalog.specs.Call.{placesOf}
-use Rattle.catalog.specs.Subtree.{endOf, rangeFrom, rangeTo, Spanned}
+use Rattle.areas.specs.Subtree.{endOf, rangeFrom, rangeTo, Spanned}
 use Rattle.catalog.proofs.Books.{places-long}
-use Rattle.catalog.proofs.Subtrees.{end-there, range-some}
+use Rattle.areas.proofs.Subtrees.{end-there, range-some}
 
 -- what is written at the front of a buffer
 front-long : (k : ℕ) (xs old : List ℕ) → length xs ≡ k → k ≤ length (front xs old)

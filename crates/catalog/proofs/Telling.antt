@@ -24,9 +24,9 @@ use Rattle.closure.specs.ByMarks.{byMarks}
 use Rattle.closure.specs.Closed.{Holds, partBit, towardBit}
 use Rattle.closure.proofs.Answering.{first-found, first-passed, byStored, marks-first, part-told, meets-told}
 use Rattle.closure.proofs.Runs.{hits, storing-records, record-within}
-use Rattle.catalog.specs.Passing.{passing}
+use Rattle.lists.specs.Passing.{passing}
 use Rattle.catalog.specs.Tells.{across, parting, Parted, Widened, shown, told}
-use Rattle.catalog.proofs.Passed.{passing-same}
+use Rattle.lists.proofs.Passed.{passing-same}
 
 -- ---- the row of APART, record by record
 

@@ -22,8 +22,8 @@ use Rattle.answers.specs.Lent.{shortLent}
 use Rattle.answers.specs.Call as answers
 use Rattle.answers.specs.declared.Outcome.{Outcome}
 use Rattle.answers.specs.declared.Outcome.the-variants.{Accepted, Refused}
-use Rattle.catalog.specs.Passing.{passing}
-use Rattle.catalog.specs.Area.{pairs, filled}
+use Rattle.lists.specs.Passing.{passing}
+use Rattle.areas.specs.Area.{pairs, filled}
 use Rattle.catalog.specs.Lent.{Lent, shortCatalog}
 use Rattle.catalog.specs.declared.Counts.{Counts}
 use Rattle.catalog.specs.declared.Listing.{Listing}

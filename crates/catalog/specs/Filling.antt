@@ -12,8 +12,9 @@ use Rattle.records.specs.declared.BookCheck.the-variants as book
 use Rattle.closure.specs.Void.{voidOf}
 use Rattle.closure.specs.Closed.{Holds, partBit, towardBit}
 use Rattle.answers.specs.Call.{byRuns}
-use Rattle.answers.specs.Judging.{MarksOf, Exact}
-use Rattle.catalog.specs.Area.{filled}
+use Rattle.answering.specs.Counted.{MarksOf}
+use Rattle.answers.specs.Judging.{Exact}
+use Rattle.areas.specs.Area.{filled}
 use Rattle.catalog.specs.Lent.{Lent}
 use Rattle.catalog.specs.Call.{listOf, placesOf, areaOf, countsOf, byIndex, byAsked, left}
 use Rattle.catalog.specs.declared.Counts.{Counts}
@@ -52,6 +53,7 @@ pub record Filled (s : List ℕ) (k g n nodes shadows : ℕ) (list meets apart n
 
 -- a book that passes the rows before 12, index parts of exactly the lengths that are written, and a list and areas with room
 pub record Ready (s : List ℕ) (n : ℕ) (l : Lent) : Type 0 where
+  pub sound : bookCheck s ≡ book.Accepted n
   pub exact : Exact s n [] (l .index)
   pub roomy : Roomy (length (l .list)) (length (l .meets)) (length (l .apart)) (length (l .notpart))
 

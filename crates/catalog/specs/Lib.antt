@@ -1,12 +1,6 @@
-pub mod Passing
-pub mod Area
-pub mod Between
-pub mod Tables
 pub mod Lent
 pub mod Call
 pub mod Tells
 pub mod Filling
-pub mod Subtree
-pub mod Question
 pub mod Outcome
 pub mod Certain

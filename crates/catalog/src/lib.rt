@@ -1,9 +1,6 @@
 // The catalog of a piece: all pieces that certainly are PART of it, or MEET it, or are APART from it; and beside the index the stored facts, sorted
 // by places.
-pub mod areas;
 pub mod pieces;
-pub mod ranges;
-pub mod subtree;
 
 ghost use mathlib.Core.Path.{_≡_};
 ghost use mathlib.Core.Bool.{_||_};
@@ -31,13 +28,6 @@ pub struct Counts {
 pub enum Listing {
     Written(Counts),
     Refused(Refusal, usize),
-}
-
-// A number of a lent list as an index.
-fn wide(x: u16) -> usize
-    ensures { λ r. ⌜ (r ≡ x) × (r < 65536) ⌝ }
-{
-    x as usize
 }
 
 // The list and the areas of a book that is not contradictory: d and t are its first two matrices, m is scratch. Marks count in the list alone.
@@ -99,7 +89,7 @@ fn judge(
     let mut e = [0u64; 65536];
     let mut d = [0u64; 65536];
     let mut t = [0u64; 65536];
-    let settled = closure::settle(
+    let settled = settling::settle(
         book,
         n,
         &voids,
@@ -112,11 +102,11 @@ fn judge(
         places,
     );
     match settled {
-        closure::Settled::Clash(place) => {
+        settling::Settled::Clash(place) => {
             answers::clear_index(parens, marks, shadows, places);
             Listing::Refused(Refusal::Contradiction, place)
         }
-        closure::Settled::Free(nodes, shadowed) => {
+        settling::Settled::Free(nodes, shadowed) => {
             let counts = fill(
                 book,
                 n,

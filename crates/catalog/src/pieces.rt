@@ -11,7 +11,7 @@ ghost use Rattle.records.specs.Facts.{facts};
 ghost use Rattle.closure.specs.Void.{voidOf, Voids};
 ghost use Rattle.closure.specs.Bounded.{Bounded};
 ghost use Rattle.closure.specs.Closed.{Holds, partBit, towardBit};
-ghost use Rattle.catalog.specs.Passing.{passing};
+ghost use Rattle.lists.specs.Passing.{passing};
 ghost use Rattle.catalog.specs.Tells.{parting, Parted, Widened, told};
 use records::Record;
 

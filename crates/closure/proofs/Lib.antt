@@ -5,12 +5,7 @@ pub mod Storing
 pub mod Products
 pub mod Holding
 pub mod Answering
-pub mod Parts
 pub mod Steps
-pub mod Halving
 pub mod Orders
-pub mod FactIndex
-pub mod Loads
-pub mod Settling
 pub mod VoidRows
 pub mod Aparts

@@ -5,12 +5,7 @@ pub mod Bounded
 pub mod Ordered
 pub mod Opposed
 pub mod ByMarks
-pub mod Opened
-pub mod Settled
-pub mod Contradiction
 pub mod Tells
 pub mod Answers
 pub mod Order
-pub mod PartIn
-pub mod Loaded
 pub mod Apart

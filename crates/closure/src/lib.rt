@@ -2,28 +2,21 @@
 ghost use mathlib.Core.Path.{_≡_};
 ghost use mathlib.Core.Bool.{Bool, true, not, _&&_, _||_};
 ghost use mathlib.Core.List.{List};
-ghost use Prim.Native.Nat.{ℕ, _+_, _/_, _<_, _≤_};
+ghost use Prim.Native.Nat.{ℕ, _<_, _≤_};
 ghost use lib.Dec.{eqb, ltb};
 ghost use lib.ListN.{length};
 ghost use Rattle.rules.specs.Fact.{factOf, AllWithin};
-ghost use Rattle.rules.specs.Follows.{clash};
-ghost use Rattle.rules.specs.Entries.{shortestClash};
-ghost use Rattle.records.specs.Facts.{entries, facts};
-ghost use Rattle.index.specs.Pairs.{joined};
-ghost use Rattle.index.specs.Index.{Indexed};
+ghost use Rattle.records.specs.Facts.{facts};
 ghost use Rattle.closure.specs.Void.{voidOf, Voids};
 ghost use Rattle.closure.specs.ByMarks.{byMarks};
-ghost use Rattle.closure.specs.PartIn.{partIn};
 ghost use Rattle.closure.specs.Stored.{storedBit, meetBit, edgeBit};
 ghost use Rattle.closure.specs.Closed.{Grown, Holds, partBit, wholeBit, towardBit, awayBit, outBit};
 ghost use Rattle.closure.specs.Bounded.{Bounded};
 ghost use Rattle.relation.specs.Matrix.{bitOf};
 ghost use Rattle.relation.specs.Flow.{Reached, Carried, along, against};
 ghost use Rattle.closure.specs.Order.{Rising, Falling};
-ghost use Rattle.closure.specs.Ordered.{Ordered, Roomy};
+ghost use Rattle.closure.specs.Ordered.{Ordered};
 ghost use Rattle.closure.specs.Opposed.{opposed};
-ghost use Rattle.closure.specs.Opened.{Opened};
-ghost use Rattle.closure.specs.Settled.{Settleable, Settles};
 ghost use Rattle.closure.specs.Tells.{Derived, Answered, Clashing};
 ghost use Rattle.closure.specs.Answers.{answerByte};
 use records::Record;
@@ -62,7 +55,7 @@ fn store_record(m: &mut [u64], r: Record, kind: u8, straight: bool, swapped: boo
 }
 
 // The stored facts of one kind as a matrix: bit b of row a where `straight`, bit a of row b where `swapped`.
-fn store(run: &[u8], kind: u8, straight: bool, swapped: bool, m: &mut [u64])
+pub fn store(run: &[u8], kind: u8, straight: bool, swapped: bool, m: &mut [u64])
     requires { ⌜ (length (now m) ≡ 65536) × (1 ≤ kind) × (kind ≤ 4) × AllWithin 2048 (facts (now run)) ⌝ }
     ensures { λ _. ⌜ Holds (now (m .exit)) (storedBit (facts (now (run .entry))) kind straight swapped) ⌝ }
 {
@@ -113,7 +106,7 @@ fn crown(n: usize, e: &mut [u64])
 }
 
 // The steps of containment, along which rows are joined: the same as a product with D or U, at the cost of a row for each step.
-fn edges(run: &[u8], n: usize, e: &mut [u64])
+pub fn edges(run: &[u8], n: usize, e: &mut [u64])
     requires { ⌜ Bounded n (facts (now run)) × (length (now e) ≡ 65536) ⌝ }
     ensures { λ _. ⌜ Holds (now (e .exit)) (edgeBit n (facts (now (run .entry)))) ⌝ }
 {
@@ -163,7 +156,7 @@ fn join_wholes(n: usize, e: &[u64], m: &mut [u64])
 }
 
 // T = D·M.
-fn meeting(run: &[u8], n: usize, voids: &[u64], e: &[u64], t: &mut [u64])
+pub fn meeting(run: &[u8], n: usize, voids: &[u64], e: &[u64], t: &mut [u64])
     requires { ⌜ Bounded n (facts (now run)) × Voids (now voids) × Ordered (facts (now run)) × Holds (now e) (edgeBit n (facts (now run))) × (length (now t) ≡ 65536) ⌝ }
     ensures { λ _. ⌜ Holds (now (t .exit)) (towardBit (voidOf (now (voids .entry))) n (facts (now (run .entry)))) ⌝ }
 {
@@ -265,7 +258,7 @@ fn opposes(r: Record, voids: &[u64], d: &[u64], t: &[u64]) -> bool
 }
 
 // Whether the run is contradictory, where d and t are those of its facts: only stored facts are looked at.
-fn clashes(run: &[u8], voids: &[u64], d: &[u64], t: &[u64]) -> bool
+pub fn clashes(run: &[u8], voids: &[u64], d: &[u64], t: &[u64]) -> bool
     requires { ⌜ (length (now voids) ≡ 32) × (length (now d) ≡ 65536) × (length (now t) ≡ 65536) × AllWithin 2048 (facts (now run)) ⌝ }
     ensures { λ b. ⌜ Clashing (voidOf (now (voids .entry))) (facts (now (run .entry))) (now (d .entry)) (now (t .entry)) b ⌝ }
 {
@@ -360,148 +353,4 @@ pub fn answer_to(
         return Answer::Denied;
     }
     Answer::Open
-}
-
-// The index of the run's PARTs in the lent parts. x is scratch.
-fn index_of(
-    run: &[u8],
-    n: usize,
-    x: &mut [u64],
-    parens: &mut [u8],
-    marks: &mut [u8],
-    shadows: &mut [u16],
-    places: &mut [u16],
-) -> index::Counts
-    requires { ⌜ Bounded n (facts (now run)) × Ordered (facts (now run)) × Roomy n (length (now run) / 6) (length (now parens)) (length (now marks)) (length (now shadows)) (length (now places)) × (length (now x) ≡ 65536) ⌝ }
-    ensures { λ r. ⌜ Indexed n (joined n (partIn (facts (now (run .entry))))) (now (parens .exit)) (now (marks .exit)) (now (shadows .exit)) (now (places .exit)) (r .nodes) (r .shadows) ⌝ }
-{
-    store(run, 1, false, true, x);
-    index::build(n, x, parens, marks, shadows, places)
-}
-
-// The same, and D read off the index.
-fn contained(
-    run: &[u8],
-    n: usize,
-    x: &mut [u64],
-    parens: &mut [u8],
-    marks: &mut [u8],
-    shadows: &mut [u16],
-    places: &mut [u16],
-    d: &mut [u64],
-) -> index::Counts
-    requires { ⌜ Bounded n (facts (now run)) × Ordered (facts (now run)) × Roomy n (length (now run) / 6) (length (now parens)) (length (now marks)) (length (now shadows)) (length (now places)) × (length (now x) ≡ 65536) × (length (now d) ≡ 65536) ⌝ }
-    ensures { λ r. ⌜ Indexed n (joined n (partIn (facts (now (run .entry))))) (now (parens .exit)) (now (marks .exit)) (now (shadows .exit)) (now (places .exit)) (r .nodes) (r .shadows) × Holds (now (d .exit)) (partBit n (facts (now (run .entry)))) ⌝ }
-{
-    let counts = index_of(run, n, x, parens, marks, shadows, places);
-    let nodes = counts.nodes;
-    containment::contents(n, nodes, parens, marks, shadows, places, d);
-    counts
-}
-
-// What the first half of a closure finds.
-struct Begun {
-    nodes: usize,
-    shadows: usize,
-    clash: bool,
-}
-
-// The first half of a closure: the index, the steps, D and T of the run, and whether it is contradictory.
-fn begin(
-    run: &[u8],
-    n: usize,
-    voids: &[u64],
-    e: &mut [u64],
-    d: &mut [u64],
-    t: &mut [u64],
-    parens: &mut [u8],
-    marks: &mut [u8],
-    shadows: &mut [u16],
-    places: &mut [u16],
-) -> Begun
-    requires { ⌜ Bounded n (facts (now run)) × Ordered (facts (now run)) × Roomy n (length (now run) / 6) (length (now parens)) (length (now marks)) (length (now shadows)) (length (now places)) × (length (now e) ≡ 65536) × (length (now d) ≡ 65536) × (length (now t) ≡ 65536) × Voids (now voids) ⌝ }
-    ensures { λ r. ⌜ Opened (voidOf (now (voids .entry))) n (facts (now (run .entry))) (now (parens .exit)) (now (marks .exit)) (now (shadows .exit)) (now (places .exit)) (r .nodes) (r .shadows) (now (e .exit)) (now (d .exit)) (now (t .exit)) (r .clash) ⌝ }
-{
-    let counts = contained(run, n, e, parens, marks, shadows, places, d);
-    edges(run, n, e);
-    meeting(run, n, voids, e, t);
-    let clash = clashes(run, voids, d, t);
-    Begun {
-        nodes: counts.nodes,
-        shadows: counts.shadows,
-        clash,
-    }
-}
-
-// The place of the contradiction in a contradictory book: the last record of the shortest contradictory run from the start, found by halving, since
-// contradiction only grows with the run. All that is lent is scratch.
-fn contradiction(
-    book: &[u8],
-    n: usize,
-    voids: &[u64],
-    e: &mut [u64],
-    d: &mut [u64],
-    t: &mut [u64],
-    parens: &mut [u8],
-    marks: &mut [u8],
-    shadows: &mut [u16],
-    places: &mut [u16],
-) -> usize
-    requires { ⌜ Bounded n (facts (now book)) × Ordered (facts (now book)) × Roomy n (length (now book) / 6) (length (now parens)) (length (now marks)) (length (now shadows)) (length (now places)) × (length (now e) ≡ 65536) × (length (now d) ≡ 65536) × (length (now t) ≡ 65536) × (clash (voidOf (now voids)) n (facts (now book)) ≡ true) × Voids (now voids) ⌝ }
-    ensures { λ r. ⌜ r + 1 ≡ shortestClash (voidOf (now (voids .entry))) n (entries (now (book .entry))) ⌝ }
-{
-    let mut low: usize = 0;
-    let mut high = book.len() / 6;
-    while low + 1 < high {
-        let mid = (low + high) / 2;
-        let end = 6 * mid;
-        let begun = begin(
-            &book[..end],
-            n,
-            voids,
-            e,
-            d,
-            t,
-            parens,
-            marks,
-            shadows,
-            places,
-        );
-        if begun.clash {
-            high = mid;
-            continue;
-        }
-        low = mid;
-    }
-    low
-}
-
-// What row 14 says of a run: free, with the counts of nodes and shadows of its index; or contradictory, with the place.
-pub enum Settled {
-    Free(usize, usize),
-    Clash(usize),
-}
-
-// Settles row 14 of a run with the marks of its book, with its index, steps, D and T where it is free.
-pub fn settle(
-    run: &[u8],
-    n: usize,
-    voids: &[u64],
-    e: &mut [u64],
-    d: &mut [u64],
-    t: &mut [u64],
-    parens: &mut [u8],
-    marks: &mut [u8],
-    shadows: &mut [u16],
-    places: &mut [u16],
-) -> Settled
-    requires { ⌜ Settleable n (now run) (length (now parens)) (length (now marks)) (length (now shadows)) (length (now places)) × (length (now e) ≡ 65536) × (length (now d) ≡ 65536) × (length (now t) ≡ 65536) × Voids (now voids) ⌝ }
-    ensures { λ r. ⌜ Settles (voidOf (now (voids .entry))) n (now (run .entry)) (now (parens .exit)) (now (marks .exit)) (now (shadows .exit)) (now (places .exit)) (now (e .exit)) (now (d .exit)) (now (t .exit)) r ⌝ }
-{
-    let begun = begin(run, n, voids, e, d, t, parens, marks, shadows, places);
-    if begun.clash {
-        let place = contradiction(run, n, voids, e, d, t, parens, marks, shadows, places);
-        return Settled::Clash(place);
-    }
-    Settled::Free(begun.nodes, begun.shadows)
 }

@@ -4,7 +4,7 @@ ghost use mathlib.Core.Path.{_≡_};
 ghost use Prim.Native.Nat.{_*_, _<_, _≤_};
 ghost use lib.ListN.{length};
 ghost use Rattle.containment.specs.Contents.{Stored};
-ghost use Rattle.closure.specs.Loaded.{Loaded};
+ghost use Rattle.settling.specs.Loaded.{Loaded};
 
 // The shapes of the generated books.
 const DEEP: u8 = 0;

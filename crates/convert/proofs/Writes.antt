@@ -25,9 +25,9 @@ use Rattle.records.proofs.Rows.{refused-positive}
 use Rattle.records.proofs.Keeps.{Written, written-all, kept-fewer, kept-whole, kept-shorter}
 use Rattle.records.proofs.Accepted.{accepted-by, accepted-within, accepted-order, accepted-positive, accepted-pieces}
 use Rattle.closure.specs.Void.{voidOf}
-use Rattle.closure.specs.Settled.{Settleable, Clashed}
+use Rattle.settling.specs.Settled.{Settleable, Clashed}
 use Rattle.closure.proofs.VoidRows.{cleared-voids}
-use Rattle.closure.proofs.Settling.{free-beyond, clashed-within}
+use Rattle.settling.proofs.Settling.{free-beyond, clashed-within}
 use Rattle.convert.specs.Converted.{noTray, noTrays, inWhole, converted}
 use Rattle.convert.specs.Writing.{FormerBook}
 use Rattle.convert.specs.Conversion.{number, byRuns, byBook, conversion, left, Determined}

@@ -7,9 +7,9 @@ ghost use Rattle.convert.specs.Converted.{noTrays, converted};
 ghost use Rattle.convert.specs.Conversion.{number, Determined};
 ghost use Rattle.convert.specs.Same.{InForce, SameAnswers};
 ghost use Rattle.convert.specs.Writing.{FormerBook, Judged, Room};
-use closure::Settled;
 use records::BookCheck;
 use records::Refusal;
+use settling::Settled;
 
 // What a conversion comes to: how many bytes were written, or the refusal and its place.
 pub enum Conversion {
@@ -59,7 +59,7 @@ fn settle(book: &[u8], n: usize) -> Settled
     let mut marks = [0u8; 1280];
     let mut shadows = [0u16; 8192];
     let mut places = [0u16; 2048];
-    closure::settle(
+    settling::settle(
         book,
         n,
         &voids,

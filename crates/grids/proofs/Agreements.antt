@@ -19,7 +19,8 @@ use Rattle.records.specs.declared.BookCheck.the-variants as book
 use Rattle.records.proofs.Keeps.{picked-all}
 use Rattle.records.proofs.Rows.{refused-positive}
 use Rattle.answers.specs.Lent.{Lent}
-use Rattle.answers.specs.Call.{claimed, outcome, left, indexed, pickedFacts, Passed}
+use Rattle.answering.specs.Claimed.{claimed, pickedFacts}
+use Rattle.answers.specs.Call.{outcome, left, indexed, Passed}
 use Rattle.answers.specs.Fresh.{freshCall}
 use Rattle.answers.specs.Outcome.{number}
 use Rattle.answers.specs.declared.Outcome.{Outcome}

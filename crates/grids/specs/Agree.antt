@@ -6,7 +6,8 @@ use lib.Dec.{eqb}
 use lib.ListN.{getD}
 use Rattle.records.specs.Record.{recordAt, records}
 use Rattle.answers.specs.Lent.{Lent}
-use Rattle.answers.specs.Call.{claimed, outcome, left}
+use Rattle.answering.specs.Claimed.{claimed}
+use Rattle.answers.specs.Call.{outcome, left}
 use Rattle.answers.specs.Outcome.{number}
 use Rattle.answers.specs.declared.Outcome.{Outcome}
 use Rattle.grids.specs.declared.Grids.{Grids}

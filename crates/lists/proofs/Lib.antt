@@ -8,3 +8,4 @@ pub mod Fronts
 pub mod Numbers
 pub mod Tallies
 pub mod Sums
+pub mod Passed

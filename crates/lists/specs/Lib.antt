@@ -4,3 +4,4 @@ pub mod Any
 pub mod Front
 pub mod Numbers
 pub mod Tally
+pub mod Passing

@@ -8,7 +8,7 @@ use Rattle.lists.specs.Tally.{num}
 use Rattle.catalog.specs.Lent.{Lent}
 use Rattle.catalog.specs.Call.{outcome, left}
 use Rattle.catalog.specs.Outcome.{number, place, counts}
-use Rattle.catalog.specs.Question.{Answers}
+use Rattle.areas.specs.Question.{Answers}
 use Rattle.catalog.specs.declared.Listing.{Listing}
 use Rattle.piecebook.specs.declared.catalogs.PiecebookCatalogResult.{PiecebookCatalogResult}
 

@@ -1,7 +1,7 @@
 // The catalog calls of include/piecebook.h.
 ghost use mathlib.Core.Path.{_≡_};
 ghost use Rattle.catalog.specs.Lent.{lent};
-ghost use Rattle.catalog.specs.Subtree.{rangeFrom, rangeTo};
+ghost use Rattle.areas.specs.Subtree.{rangeFrom, rangeTo};
 ghost use Rattle.piecebook.specs.Catalogs.{Counted, Catalogs, Asked};
 use crate::wide;
 use catalog::Listing;
@@ -103,7 +103,7 @@ pub extern "C" fn piecebook_fact_between(
     ensures { λ r. ⌜ Asked (now (area .entry)) count unordered «row_from» «row_to» «column_from» «column_to» r ⌝ }
 {
     let either = unordered != 0;
-    let found = catalog::ranges::fact_between(
+    let found = areas::ranges::fact_between(
         area,
         count,
         either,
@@ -119,7 +119,7 @@ pub extern "C" fn piecebook_fact_between(
 pub extern "C" fn piecebook_subtree(parens: &[u8], places: &[u16], piece: usize) -> PiecebookRange
     ensures { λ r. ⌜ (r .from ≡ rangeFrom (now (parens .entry)) (now (places .entry)) piece) × (r .to ≡ rangeTo (now (parens .entry)) (now (places .entry)) piece) ⌝ }
 {
-    let range = catalog::subtree::subtree_range(parens, places, DatasetId(piece));
+    let range = areas::subtree::subtree_range(parens, places, DatasetId(piece));
     let first = range.from;
     let last = range.to;
     PiecebookRange {

@@ -9,8 +9,7 @@ use native.Mathlib.Omega.{arith}
 use native.Mathlib.Decide.{decLt}
 use borrow.Author.Tests.{eq-eqb, ne-eqb, eqb-true, leb-true}
 use lib.Dec.{eqb, leb}
-use lib.ListN.{length, getD, length-append, List·getD-append}
-use lib.Seq.{getD-append-add}
+use lib.ListN.{length, length-append}
 use Rattle.lists.specs.Any.{anyBelow}
 use Rattle.lists.proofs.Bools.{and-both, both-and, or-either, left-or, right-or, same-truth, not-true}
 use Rattle.lists.proofs.Anys.{below-find, below-hit}
@@ -24,8 +23,7 @@ use Rattle.records.specs.Marked.{marks, markedUpTo, marked}
 use Rattle.records.specs.Reordered.{Reordered}
 use Rattle.records.proofs.Rows.{plain-largest}
 use Rattle.records.proofs.Runs.{pieces-cover}
-use Rattle.records.proofs.Keeps.{record-same}
-use Rattle.records.proofs.Orders.{Found, found-moved, found-back}
+use Rattle.records.proofs.Orders.{Found, record-early, record-late, found-moved, found-back}
 use Rattle.records.proofs.Accepted.{AcceptedBook}
 
 -- ---- records of kind 6
@@ -121,37 +119,29 @@ marked-moved s t R = fun-ext (λ g. same-truth _ _ (marked-found t s (found-back
 
 -- a run behind another
 module _ (s r : List ℕ) (w : length s ≡ 6 * records s) (g : ℕ) where
-  early : (i : ℕ) → i < records s → recordAt (s ++ r) i ≡ recordAt s i
-  early i l = record-same (s ++ r) s i i (λ d h. List·getD-append s r 0 (6 * i + d) (omega arith))
-
-  late : (i : ℕ) → recordAt (s ++ r) (records s + i) ≡ recordAt r i
-  late i =
-      record-same (s ++ r) r (records s + i) i
-      (λ d h. let e : 6 * (records s + i) + d ≡ length s + (6 * i + d) = omega arith in ap (λ (k : ℕ). getD (s ++ r) k 0) e ∙ getD-append-add s r (6 * i + d) 0)
-
   split : (i : ℕ) → i < records (s ++ r) → recordAt (s ++ r) i .kind ≡ 6 → recordAt (s ++ r) i .a ≡ g → (marked s g || marked r g) ≡ true
   split i l k a = pick (decLt i (records s))
     where
       pick : Dec (i < records s) → (marked s g || marked r g) ≡ true
       pick (yes h) =
-          left-or (marked r g) (marked-here s g i h (sym (ap (λ (r : Record). r .kind) (early i h)) ∙ k) (sym (ap (λ (r : Record). r .a) (early i h)) ∙ a))
+          left-or (marked r g) (marked-here s g i h (sym (ap (λ (r : Record). r .kind) (record-early s r w i h)) ∙ k) (sym (ap (λ (r : Record). r .a) (record-early s r w i h)) ∙ a))
       pick (no h) =
           let e : records s + (i - records s) ≡ i = omega arith in
-          let f : recordAt (s ++ r) i ≡ recordAt r (i - records s) = ap (recordAt (s ++ r)) (sym e) ∙ late (i - records s) in
+          let f : recordAt (s ++ r) i ≡ recordAt r (i - records s) = ap (recordAt (s ++ r)) (sym e) ∙ record-late s r w (i - records s) in
           right-or (marked s g)
           (marked-here r g (i - records s) (omega (arith, length-append s r)) (sym (ap (λ (r : Record). r .kind) f) ∙ k) (sym (ap (λ (r : Record). r .a) f) ∙ a))
 
   found-early : marked s g ≡ true → marked (s ++ r) g ≡ true
   found-early t =
       let m = marked-from s g t in
-      marked-here (s ++ r) g (m .0) (omega (arith, m .1, length-append s r)) (ap (λ (r : Record). r .kind) (early (m .0) (m .1)) ∙ m .2)
-      (ap (λ (r : Record). r .a) (early (m .0) (m .1)) ∙ m .3)
+      marked-here (s ++ r) g (m .0) (omega (arith, m .1, length-append s r)) (ap (λ (r : Record). r .kind) (record-early s r w (m .0) (m .1)) ∙ m .2)
+      (ap (λ (r : Record). r .a) (record-early s r w (m .0) (m .1)) ∙ m .3)
 
   found-late : marked r g ≡ true → marked (s ++ r) g ≡ true
   found-late t =
       let m = marked-from r g t in
-      marked-here (s ++ r) g (records s + m .0) (omega (arith, m .1, length-append s r)) (ap (λ (r : Record). r .kind) (late (m .0)) ∙ m .2)
-      (ap (λ (r : Record). r .a) (late (m .0)) ∙ m .3)
+      marked-here (s ++ r) g (records s + m .0) (omega (arith, m .1, length-append s r)) (ap (λ (r : Record). r .kind) (record-late s r w (m .0)) ∙ m .2)
+      (ap (λ (r : Record). r .a) (record-late s r w (m .0)) ∙ m .3)
 
   pub marked-append : marked (s ++ r) g ≡ (marked s g || marked r g)
   marked-append =

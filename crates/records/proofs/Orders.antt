@@ -1,13 +1,13 @@
 -- Runs whose records stand in another run too: their facts are among its facts. The same records in another order pass the same rows.
 -- Assumes nothing.
-use Prim.Native.Nat.{ℕ, _+_, _*_, _≤_, _<_}
+use Prim.Native.Nat.{ℕ, _+_, _-_, _*_, _≤_, _<_}
 use mathlib.Core.Path.{_≡_, sym, ap, subst, _∙_}
 use mathlib.Core.Bool.{Bool, true, false, false≢true}
 use mathlib.Core.List.{List, _++_, Memᴰ·cast}
 use native.Mathlib.Omega.{arith}
 use native.Mathlib.Decide.{ℕ-discrete, decLt}
 use lib.ListN.{length, getD, length-append, List·getD-append}
-use lib.Seq.{getD-take, getD-drop}
+use lib.Seq.{getD-append-add, getD-take, getD-drop}
 use Rattle.lists.proofs.Bools.{not-true}
 use Rattle.rules.proofs.More.{Among}
 use Rattle.records.specs.declared.Record.{Record}
@@ -61,10 +61,32 @@ module _ (s t : List ℕ) (there : Found s t) where
       pieces-least s (records s) (pieceCount t) (pieces-positive t (records t))
       (λ i l. let b = there i l in omega (arith, pieces-cover t (records t) (b .0) (b .1), ap largest (b .2)))
 
--- a run stands in every longer one
-pub found-before : (s r : List ℕ) → length s ≡ 6 * records s → Found s (s ++ r)
-found-before s r w i l =
-    (i, omega (arith, length-append s r), record-same (s ++ r) s i i (λ d h. List·getD-append s r 0 (6 * i + d) (omega arith)))
+-- a run behind another
+module _ (s r : List ℕ) (w : length s ≡ 6 * records s) where
+  pub record-early : (i : ℕ) → i < records s → recordAt (s ++ r) i ≡ recordAt s i
+  record-early i l = record-same (s ++ r) s i i (λ d h. List·getD-append s r 0 (6 * i + d) (omega arith))
+
+  pub record-late : (i : ℕ) → recordAt (s ++ r) (records s + i) ≡ recordAt r i
+  record-late i =
+      record-same (s ++ r) r (records s + i) i
+      (λ d h. let e : 6 * (records s + i) + d ≡ length s + (6 * i + d) = omega arith in ap (λ (k : ℕ). getD (s ++ r) k 0) e ∙ getD-append-add s r (6 * i + d) 0)
+
+  -- both stand in the longer one, and where both stand the longer one does
+  pub found-before : Found s (s ++ r)
+  found-before i l = (i, omega (arith, length-append s r), record-early i l)
+
+  pub found-behind : Found r (s ++ r)
+  found-behind i l = (records s + i, omega (arith, length-append s r), record-late i)
+
+  pub found-both : (t : List ℕ) → Found s t → Found r t → Found (s ++ r) t
+  found-both t f g i l = pick (decLt i (records s))
+    where
+      pick : Dec (i < records s) → (j : ℕ) × (j < records t) × (recordAt t j ≡ recordAt (s ++ r) i)
+      pick (yes h) = let a = f i h in (a .0, a .1, a .2 ∙ sym (record-early i h))
+      pick (no h) =
+          let e : records s + (i - records s) ≡ i = omega arith in
+          let a = g (i - records s) (omega (arith, length-append s r)) in
+          (a .0, a .1, a .2 ∙ sym (record-late (i - records s)) ∙ ap (recordAt (s ++ r)) e)
 
 pub found-through : (s t u : List ℕ) → Found s t → Found t u → Found s u
 found-through s t u f g i l = let a = f i l in let b = g (a .0) (a .1) in (b .0, b .1, b .2 ∙ a .2)

@@ -15,11 +15,12 @@ use Rattle.records.specs.Refusal.{scan}
 use Rattle.records.specs.declared.BookCheck.the-variants as book
 use Rattle.records.specs.declared.Refusal.{Refusal}
 use Rattle.records.specs.declared.Refusal.the-variants.{ShortBuffer, Contradiction}
-use Rattle.closure.specs.Opened.{Opened}
-use Rattle.closure.specs.Settled.{Clashed}
+use Rattle.settling.specs.Opened.{Opened}
+use Rattle.settling.specs.Settled.{Clashed}
 use Rattle.closure.specs.Apart.{Aparts}
 use Rattle.answers.specs.Call.{edges, byRuns, byClaims, byBook}
 use Rattle.answers.specs.declared.Outcome.the-variants.{Accepted, Refused}
+use Rattle.answering.proofs.Counts.{own-count}
 use Rattle.answers.proofs.Judges.{refuses, accepts}
 use Rattle.replicates.specs.declared.Window.{Window}
 use Rattle.replicates.specs.declared.Replicated.{Replicated}
@@ -72,12 +73,12 @@ module _ (s : List ℕ) (n : ℕ) (sound : bookCheck s ≡ book.Accepted n) (w :
 
   pub clash-refused : (place : ℕ) (d : Replicated) → d ≡ record { outcome = Refused Contradiction place; window = w } → Clashed (marked s) n s place → Judged s n w log out d out
   unfolding byPart
-  clash-refused place d q C = refused Contradiction place d q (ap (byPart w log) (refuses s n sound place C))
+  clash-refused place d q C = refused Contradiction place d q (ap (byPart w log) (refuses s n (own-count sound) place C))
 
   module _ {nodes shadowed : ℕ} {parens marks shadows places e d t : List ℕ} (O : Opened (marked s) n (facts s) parens marks shadows places nodes shadowed e d t false) where
     free : Accepted n nodes shadowed ≡ byRuns s n
     unfolding edges
-    free = accepts s n sound nodes shadowed (O .is) (O .index .nodes-are) (O .index .shadowed-are)
+    free = accepts s n (own-count sound) nodes shadowed (O .is) (O .index .nodes-are) (O .index .shadowed-are)
 
     pub part-refused :
         (r : Refusal) (i : ℕ) (d : Replicated) → d ≡ record { outcome = Refused r i; window = w } → Refused r i ≡ byPart w log (Accepted n nodes shadowed) → Judged s n w log out d out

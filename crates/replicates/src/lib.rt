@@ -15,9 +15,9 @@ ghost use Rattle.replicates.specs.Log.{entryCount, entryAt, sequence, wi
 ghost use Rattle.replicates.specs.Call.{badWindow, entryFinding, byPart, bytesIn, Determined};
 ghost use Rattle.replicates.specs.Writing.{Writable, Begun, Followed, Judged};
 use answers::Outcome;
-use closure::Settled;
 use records::BookCheck;
 use records::Refusal;
+use settling::Settled;
 
 // The up to 31 entries before a part of the log, oldest first, and how many they are; laid out as C does.
 #[repr(C)]
@@ -292,7 +292,7 @@ fn judge(book: &[u8], n: usize, window: Window, log: &[u8], out: &mut [u8]) -> R
     let mut marks = [0u8; 1280];
     let mut shadows = [0u16; 8192];
     let mut places = [0u16; 2048];
-    let settled = closure::settle(
+    let settled = settling::settle(
         book,
         n,
         &voids,

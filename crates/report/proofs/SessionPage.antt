@@ -18,7 +18,7 @@ use Rattle.records.specs.Check.{formFinding, recordFinding, checkBy, claimAt, c
 use Rattle.records.specs.Facts.{entryOf, entries}
 use Rattle.lists.specs.Numbers.{range, keep, find}
 use Rattle.index.specs.Pairs.{joined, parts}
-use Rattle.closure.specs.PartIn.{partIn}
+use Rattle.settling.specs.PartIn.{partIn}
 use Rattle.index.specs.Breadth.{breadth, order, parent}
 use Rattle.index.specs.Tree.{hang, under, whole, visits}
 use Rattle.index.specs.Index.{visitsOf}
@@ -27,7 +27,8 @@ use Rattle.lists.specs.Front.{front}
 use Rattle.records.specs.Kept.{picked}
 use Rattle.records.specs.Rows.{admitted}
 use Rattle.answers.specs.Lent.{shortLent}
-use Rattle.answers.specs.Call.{edges, byRuns, byClaims, byBook, outcome, claimed, answersTo, indexed, left}
+use Rattle.answering.specs.Claimed.{claimed, answersTo}
+use Rattle.answers.specs.Call.{edges, byRuns, byClaims, byBook, outcome, indexed, left}
 use Rattle.report.specs.Text.{ascii}
 use Rattle.report.specs.Decimal.{spell, decimal}
 use Rattle.report.specs.Session.{kindName, answerName, claimLine, claimLines, countsLine, session}

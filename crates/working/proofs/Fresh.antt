@@ -15,7 +15,8 @@ use Rattle.records.specs.declared.Refusal.the-variants.{TooManyRecords}
 use Rattle.records.specs.declared.BookCheck.the-variants as book
 use Rattle.answers.specs.Lent.{Lent}
 use Rattle.lists.specs.Front.{front}
-use Rattle.answers.specs.Call.{byBook, answersTo, indexed, cleared, left}
+use Rattle.answering.specs.Claimed.{answersTo}
+use Rattle.answers.specs.Call.{byBook, indexed, cleared, left}
 use Rattle.answers.specs.declared.Outcome.{Outcome}
 use Rattle.answers.specs.declared.Outcome.the-variants.{Accepted, Refused}
 use Rattle.answers.specs.Fresh.{freshCall}

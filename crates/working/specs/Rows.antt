@@ -9,7 +9,8 @@ use Rattle.records.specs.declared.Refusal.{Refusal}
 use Rattle.records.specs.declared.Refusal.the-variants.{ShortBuffer, BookLength, TooManyRecords, ClaimsLength, NotStanding}
 use Rattle.records.specs.declared.BookCheck.{BookCheck}
 use Rattle.records.specs.declared.BookCheck.the-variants as book
-use Rattle.answers.specs.Call.{byClaims, answersTo}
+use Rattle.answering.specs.Claimed.{answersTo}
+use Rattle.answers.specs.Call.{byClaims}
 use Rattle.answers.specs.declared.Outcome.{Outcome}
 use Rattle.answers.specs.declared.Outcome.the-variants.{Accepted, Refused}
 use Rattle.answers.specs.Fresh.{freshCall}

@@ -11,7 +11,7 @@ slice-aggregate-mark-voids : tie.Need-slice-aggregate-mark-voids
 slice-aggregate-mark-voids c = search needs
 
 mark-voids-requires : tie.Need-mark-voids-requires
-mark-voids-requires c κs = (accepted-markable (accepted _ _ (c .before .before .before .before .before .before .before .before .pre .sound)), search needs)
+mark-voids-requires c κs = (accepted-markable (accepted _ _ (c .before .before .before .before .before .before .before .before .pre .sound .sound)), search needs)
 
 slice-aggregate-settle : tie.Need-slice-aggregate-settle
 slice-aggregate-settle c = search needs

@@ -4,7 +4,7 @@ use borrow.Author.Needs.{needs}
 use Rattle.lists.specs.Tab.{tab}
 use Rattle.records.proofs.Accepted.{accepted}
 use Rattle.closure.proofs.VoidRows.{accepted-markable}
-use Rattle.answers.specs.Call.{answersTo}
+use Rattle.answering.specs.Claimed.{answersTo}
 use Rattle.answers.proofs.Judges.{settleable-at, cleared-at}
 use Rattle.answers.proofs.Judges as answers
 use Rattle.catalog.proofs.Books.{places-are}
@@ -16,7 +16,7 @@ slice-aggregate-mark-voids : tie.Need-slice-aggregate-mark-voids
 slice-aggregate-mark-voids c = search needs
 
 mark-voids-requires : tie.Need-mark-voids-requires
-mark-voids-requires c κs = (accepted-markable (accepted _ _ (c .before .before .before .before .before .before .before .before .before .before .pre .1 .exact .sound)), search needs)
+mark-voids-requires c κs = (accepted-markable (accepted _ _ (c .before .before .before .before .before .before .before .before .before .before .pre .1 .sound)), search needs)
 
 slice-aggregate-settle : tie.Need-slice-aggregate-settle
 slice-aggregate-settle c = search needs
@@ -61,7 +61,7 @@ fill-requires c κs =
     let S = c .before .before .before .before .before .before .before .before .before .before .before .before .before .before .before .before .before .before .before .before .before .before .before .settle in
     let O = S .ensures .free _ _ (c .before .before .before .before .before .before .before .before .before .before .settled2 .given .1) in (
       P .0,
-      record { sound = X .sound; void = c .before .before .before .before .before .before .before .before .before .before .before .before .before .before .before .before .before .before .before .before .before .before .before .before .before .before .before .before .before .before .before .before .before .mark-voids .ensures; free = O .is; sized = O .steps .sized; parts = O .parts; toward = O .toward; placed = places-are _ _ (X .sound) O (S .kept .1 .1 .1 .1 .1 .1 .1 .1 .1 .0 ∙ X .places-long) },
+      record { sound = P .1 .sound; void = c .before .before .before .before .before .before .before .before .before .before .before .before .before .before .before .before .before .before .before .before .before .before .before .before .before .before .before .before .before .before .before .before .before .mark-voids .ensures; free = O .is; sized = O .steps .sized; parts = O .parts; toward = O .toward; placed = places-are _ _ (P .1 .sound) O (S .kept .1 .1 .1 .1 .1 .1 .1 .1 .1 .0 ∙ X .places-long) },
       P .1 .roomy,
     )
 

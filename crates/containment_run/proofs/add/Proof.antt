@@ -1,7 +1,7 @@
 -- `containment_run::add` meets its contract.
 -- Assumes nothing.
 use native.Mathlib.Omega.{arith}
-use Rattle.closure.proofs.Loads.{more}
+use Rattle.settling.proofs.Loads.{more}
 use borrow.Author.Needs.{needs}
 use Rattle.containment_run.proofs.add.Statement.{statement}
 use Rattle.containment_run.proofs.add.Tie as tie

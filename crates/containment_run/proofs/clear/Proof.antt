@@ -3,7 +3,7 @@
 use mathlib.Core.Path.{ap, _∙_}
 use Prim.Native.Nat.{ℕ}
 use lib.ListN.{replicate}
-use Rattle.closure.proofs.Loads.{none}
+use Rattle.settling.proofs.Loads.{none}
 use borrow.Author.Needs.{needs}
 use Rattle.containment_run.proofs.clear.Statement.{statement}
 use Rattle.containment_run.proofs.clear.Tie as tie

@@ -1,6 +1,6 @@
 -- `containment_run::index` meets its contract.
 -- Assumes nothing.
-use Rattle.closure.proofs.Loads.{ready}
+use Rattle.settling.proofs.Loads.{ready}
 use borrow.Author.Needs.{needs}
 use native.Mathlib.Omega.{arith}
 use Rattle.containment.proofs.Built.{built}

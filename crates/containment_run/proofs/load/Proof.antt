@@ -4,7 +4,7 @@ use mathlib.Core.Path.{_≡_, refl, _∙_}
 use Prim.Native.Nat.{_-_, _≤_}
 use native.Mathlib.Omega.{arith}
 use lib.ListN.{length}
-use Rattle.closure.specs.Loaded.{Loaded}
+use Rattle.settling.specs.Loaded.{Loaded}
 use borrow.Author.Needs.{needs}
 use Rattle.containment_run.proofs.load.Statement.{statement}
 use Rattle.containment_run.proofs.load.Tie as tie

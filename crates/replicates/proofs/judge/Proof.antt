@@ -2,7 +2,7 @@
 use mathlib.Core.Path.{sym, _∙_}
 use Rattle.records.proofs.Accepted.{accepted}
 use Rattle.closure.proofs.VoidRows.{accepted-markable}
-use Rattle.closure.proofs.Settling.{settleable}
+use Rattle.settling.proofs.Settling.{settleable}
 use Rattle.replicates.proofs.Rows.{passes}
 use Rattle.replicates.proofs.Calls.{clash-refused, part-refused, part-written}
 use borrow.Author.Needs.{needs}

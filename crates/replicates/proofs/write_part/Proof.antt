@@ -4,7 +4,7 @@ use Prim.Native.Nat.{_+_, _≤_}
 use mathlib.Core.Path.{_≡_, sym, ap, _∙_}
 use lib.ListN.{length, take}
 use lib.Seq.{length-take-le}
-use Rattle.closure.proofs.Settling.{settleable}
+use Rattle.settling.proofs.Settling.{settleable}
 use Rattle.replicates.specs.Log.{entryCount, sequence, windowOf}
 use Rattle.replicates.proofs.Sequences.{filled}
 use Rattle.replicates.proofs.Calls.{asks, writes}

@@ -7,10 +7,10 @@ use borrow.Author.Needs.{needs}
 use borrow.Author.Tests.{not-true, not-false}
 use lib.ListN.{length}
 use Rattle.closure.specs.Void.{voidOf}
-use Rattle.catalog.specs.Passing.{passing}
+use Rattle.lists.specs.Passing.{passing}
 use Rattle.catalog.specs.Tells.{told}
-use Rattle.catalog.proofs.Passed.{passing-hit, passing-miss}
-use Rattle.catalog.proofs.Lists.{Listed, listed-none, listed-same, listed-more}
+use Rattle.lists.proofs.Passed.{passing-hit, passing-miss}
+use Rattle.areas.proofs.Lists.{Listed, listed-none, listed-same, listed-more}
 use Rattle.catalog.proofs.pieces.list_certain.Statement.{statement}
 use Rattle.catalog.proofs.pieces.list_certain.Tie as tie
 

@@ -1,0 +1,4 @@
+pub mod Fewer
+pub mod Counts
+pub mod Answering
+pub mod Sheets

@@ -1,0 +1,131 @@
+-- `answering::answer_restricted` meets its contract. Assumes nothing.
+use native.Mathlib.Omega.{arith}
+use borrow.Author.Needs.{needs}
+use mathlib.Core.Path.{sym}
+use lib.Seq.{length-take-le}
+use Rattle.records.proofs.Keeps.{sheets-shorter}
+use Rattle.settling.proofs.Settling.{settleable-in}
+use Rattle.answering.proofs.Sheets.{sheets-taken, book-short, sheets-settleable, sheets-free, sheets-opened}
+use Rattle.answering.proofs.answer_restricted.Statement.{statement}
+use Rattle.answering.proofs.answer_restricted.Tie as tie
+
+slice-aggregate-keep-sheets : tie.Need-slice-aggregate-keep-sheets
+slice-aggregate-keep-sheets c = search needs
+
+keep-sheets-requires : tie.Need-keep-sheets-requires
+keep-sheets-requires c κs = omega (arith, book-short _ (c .before .before .before .before .before .before .before .before .before .before .before .pre .sound))
+
+array-share-prefix-kept : tie.Need-array-share-prefix-kept
+array-share-prefix-kept c =
+    let K = c .before .keep-sheets in
+    omega (arith, K .ensures .0, K .kept .1 .0, sheets-shorter (c .before .before .before .before .before .before .before .before .before .before .before .before .before .args .book .now), book-short _ (c .before .before .before .before .before .before .before .before .before .before .before .before .before .pre .sound))
+
+slice-aggregate-run : tie.Need-slice-aggregate-run
+slice-aggregate-run c =
+    let K = c .before .before .keep-sheets in
+    sym (length-take-le _ _ (omega (arith, K .ensures .0, K .kept .1 .0, sheets-shorter (c .before .before .before .before .before .before .before .before .before .before .before .before .before .before .args .book .now), book-short _ (c .before .before .before .before .before .before .before .before .before .before .before .before .before .before .pre .sound))))
+
+slice-aggregate-settle : tie.Need-slice-aggregate-settle
+slice-aggregate-settle c = search needs
+
+slice-aggregate-settle-2 : tie.Need-slice-aggregate-settle-2
+slice-aggregate-settle-2 c = search needs
+
+slice-aggregate-settle-3 : tie.Need-slice-aggregate-settle-3
+slice-aggregate-settle-3 c = search needs
+
+slice-aggregate-settle-4 : tie.Need-slice-aggregate-settle-4
+slice-aggregate-settle-4 c = search needs
+
+settle-requires : tie.Need-settle-requires
+settle-requires c κs =
+    let s = c .before .before .before .before .before .before .before .before .before .before .before .before .before .before .before .before .before .before .before .before .before .pre in
+    let K = c .before .before .before .before .before .before .before .before .before .keep-sheets in
+    let run = sheets-taken _ _ _ (K .ensures .0) (K .ensures .1) in
+    (settleable-in (sheets-settleable _ (s .sound) run) (search needs) (search needs) (search needs) (search needs), s .e-sized, s .d-sized, s .t-sized, s .void)
+
+complete-requires : tie.Need-complete-requires
+complete-requires c κs =
+    let s = c .before .before .before .before .before .before .before .before .before .before .before .before .before .before .before .before .before .before .before .before .before .before .before .before .before .before .before .before .before .before .before .before .before .before .before .before .pre in
+    let K = c .before .before .before .before .before .before .before .before .before .before .before .before .before .before .before .before .before .before .before .before .before .before .before .before .keep-sheets in
+    let T = c .before .before .before .before .before .before .before .before .before .before .before .before .before .before .settle in
+    let run = sheets-taken _ _ _ (K .ensures .0) (K .ensures .1) in
+    let S = sheets-settleable _ (s .sound) run in
+    (S .bounded, s .void, S .ordered, sheets-opened _ (s .sound) run _ (s .void .whole) (s .free) (T .result) (T .ensures) .2 .steps, s .u-sized, s .p-sized, s .q-sized)
+
+answer-each-requires : tie.Need-answer-each-requires
+answer-each-requires c κs =
+    let s = c .before .before .before .before .before .before .before .before .before .before .before .before .before .before .before .before .before .before .before .before .before .before .before .before .before .before .before .before .before .before .before .before .before .before .before .before .before .before .before .before .before .before .before .before .before .before .before .before .before .pre in
+    let K = c .before .before .before .before .before .before .before .before .before .before .before .before .before .before .before .before .before .before .before .before .before .before .before .before .before .before .before .before .before .before .before .before .before .before .before .before .before .keep-sheets in
+    let T = c .before .before .before .before .before .before .before .before .before .before .before .before .before .before .before .before .before .before .before .before .before .before .before .before .before .before .before .settle in
+    let C = c .before .before .before .before .before .before .before .before .before .before .before .before .complete .ensures in
+    let run = sheets-taken _ _ _ (K .ensures .0) (K .ensures .1) in
+    let O = sheets-opened _ (s .sound) run _ (s .void .whole) (s .free) (T .result) (T .ensures) .2 in
+    record {
+      n = _;
+      small = sheets-settleable _ (s .sound) run .bounded .fits;
+      fit = s .fit;
+      rooms = s .rooms;
+      voids-sized = s .void .sized;
+      d-sized = O .parts .sized;
+      u-sized = C .0 .sized;
+      p-sized = C .1 .sized;
+      t-sized = O .toward .sized;
+      q-sized = C .2 .sized;
+    }
+
+same-length : tie.Need-same-length
+same-length c = search needs
+
+same-length-2 : tie.Need-same-length-2
+same-length-2 c = search needs
+
+same-length-3 : tie.Need-same-length-3
+same-length-3 c = search needs
+
+same-length-4 : tie.Need-same-length-4
+same-length-4 c = search needs
+
+same-length-5 : tie.Need-same-length-5
+same-length-5 c = search needs
+
+same-length-6 : tie.Need-same-length-6
+same-length-6 c = search needs
+
+same-length-7 : tie.Need-same-length-7
+same-length-7 c = search needs
+
+returns : tie.Need-returns
+returns c =
+    let s = c .before .before .before .before .before .before .before .before .before .before .before .before .before .before .before .before .before .before .before .before .before .before .before .before .before .before .before .before .before .before .before .before .before .before .before .before .before .before .before .before .before .before .before .before .before .before .before .before .before .before .before .before .pre in
+    let K = c .before .before .before .before .before .before .before .before .before .before .before .before .before .before .before .before .before .before .before .before .before .before .before .before .before .before .before .before .before .before .before .before .before .before .before .before .before .before .before .before .keep-sheets in
+    let T = c .before .before .before .before .before .before .before .before .before .before .before .before .before .before .before .before .before .before .before .before .before .before .before .before .before .before .before .before .before .before .settle in
+    let C = c .before .before .before .before .before .before .before .before .before .before .before .before .before .before .before .complete .ensures in
+    let run = sheets-taken _ _ _ (K .ensures .0) (K .ensures .1) in
+    let O = sheets-opened _ (s .sound) run _ (s .void .whole) (s .free) (T .result) (T .ensures) .2 in
+    rw (← run)
+    (c .before .before .answer-each .ensures .are _ _ (sheets-settleable _ (s .sound) run .bounded) (record { whole = s .void .whole; free = sheets-free _ (s .sound) run _ (s .void .whole) (s .free); parts = O .parts; wholes = C .0; away = C .1; toward = O .toward; outside = C .2 }) (s .fit))
+
+pub answer-restricted-spec : {M : Type 1} → statement M
+answer-restricted-spec =
+    tie.close
+    (tie.spec
+    slice-aggregate-keep-sheets
+    keep-sheets-requires
+    array-share-prefix-kept
+    slice-aggregate-run
+    slice-aggregate-settle
+    slice-aggregate-settle-2
+    slice-aggregate-settle-3
+    slice-aggregate-settle-4
+    settle-requires
+    complete-requires
+    answer-each-requires
+    same-length
+    same-length-2
+    same-length-3
+    same-length-4
+    same-length-5
+    same-length-6
+    same-length-7
+    returns)

@@ -1,0 +1,5 @@
+pub mod Area
+pub mod Between
+pub mod Tables
+pub mod Subtree
+pub mod Question

@@ -1,0 +1,5 @@
+pub mod Opened
+pub mod Settled
+pub mod Contradiction
+pub mod PartIn
+pub mod Loaded
