@@ -6,6 +6,7 @@ ghost use lib.ListN.{length, getD, set};
 ghost use Rattle.containment.specs.Filling.{Setting, Fillable, From, All, Filled, FilledTo, Ready};
 ghost use Rattle.containment.specs.Contents.{Stored, Contents, leads, Apart, StandsFor};
 ghost use Rattle.parentheses.specs.Rank.{rank};
+ghost use Rattle.parentheses.specs.Ranked.{Ranked};
 ghost use Rattle.parentheses.specs.Subtree.{after};
 ghost use Rattle.parentheses.specs.Bits.{bits};
 use index::DatasetId;
@@ -106,23 +107,23 @@ fn is_leaf(parens: &[u8], p: usize) -> bool
 }
 
 // The first place past the subtree of the node at place q, which opens at p. From there to where it closes, every second bit opens.
-fn end_of(parens: &[u8], q: TreeId, p: usize) -> TreeId
-    requires { ⌜ (p < 8 * length (now parens)) × (8 * length (now parens) < 65536) × (getD (bits (now parens)) p false ≡ true) × (rank (bits (now parens)) p ≡ q .0) ⌝ }
+fn end_of(parens: &[u8], ranks: &[u16], q: TreeId, p: usize) -> TreeId
+    requires { ⌜ (p < 8 * length (now parens)) × (8 * length (now parens) < 65536) × (getD (bits (now parens)) p false ≡ true) × (rank (bits (now parens)) p ≡ q .0) × Ranked (now parens) (now ranks) ⌝ }
     ensures { λ r. ⌜ r .0 ≡ after (bits (now (parens .entry))) (q .0) ⌝ }
 {
     let place = q.0;
     if is_leaf(parens, p) {
         return TreeId(place + 1);
     }
-    let Found::At(close) = parentheses::find_close(parens, p) else {
+    let Found::At(close) = parentheses::find_close_by(parens, ranks, p) else {
         return TreeId(parentheses::ones_before(parens, parens.len() * 8));
     };
     TreeId(place + (close - p + 1) / 2)
 }
 
-// Of each place, the first one past its subtree.
-fn subtree_ends(nodes: usize, parens: &[u8], ends: &mut [u16])
-    requires { ⌜ (nodes ≤ length (now ends)) × (8 * length (now parens) < 65536) × (nodes ≤ rank (bits (now parens)) (8 * length (now parens))) ⌝ }
+// Of each place, the first one past its subtree, by the ranks of the bytes.
+fn ends_by(nodes: usize, parens: &[u8], ranks: &[u16], ends: &mut [u16])
+    requires { ⌜ (nodes ≤ length (now ends)) × (8 * length (now parens) < 65536) × (nodes ≤ rank (bits (now parens)) (8 * length (now parens))) × Ranked (now parens) (now ranks) ⌝ }
     ensures { λ _. ⌜ ((q : ℕ) → q < nodes → getD (now (ends .exit)) q 0 ≡ after (bits (now (parens .entry))) q) ⌝ }
 {
     let mut q: usize = 0;
@@ -132,12 +133,22 @@ fn subtree_ends(nodes: usize, parens: &[u8], ends: &mut [u16])
             p += 1;
             continue;
         }
-        let end = end_of(parens, TreeId(q), p);
+        let end = end_of(parens, ranks, TreeId(q), p);
         let k = end.0;
         ends[q] = index::narrow(k);
         q += 1;
         p += 1;
     }
+}
+
+// The same: the ranks are counted once, for the searches of all nodes.
+fn subtree_ends(nodes: usize, parens: &[u8], ends: &mut [u16])
+    requires { ⌜ (nodes ≤ length (now ends)) × (length (now parens) ≤ 4608) × (nodes ≤ rank (bits (now parens)) (8 * length (now parens))) ⌝ }
+    ensures { λ _. ⌜ ((q : ℕ) → q < nodes → getD (now (ends .exit)) q 0 ≡ after (bits (now (parens .entry))) q) ⌝ }
+{
+    let mut ranks = [0u16; 4609];
+    parentheses::rank_bytes(parens, &mut ranks);
+    ends_by(nodes, parens, &ranks, ends);
 }
 
 // Fills the row of each piece below n.

@@ -3,6 +3,7 @@ pub mod Packed
 pub mod Unpacked
 pub mod Paddeds
 pub mod Ranks
+pub mod Rankings
 pub mod Founds
 pub mod Selects
 pub mod Excesses

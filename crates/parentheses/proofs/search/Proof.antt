@@ -31,11 +31,11 @@ whole l p m d r aligned stays counted =
     (rw start at stays, omega (arith, ap (rank (bits l)) start, ap (rank (bits l)) past))
 
 abbrev Inv-loop : tie.InvT-loop
-Inv-loop bytes p depth lowest end q₀ d₀ q d =
+Inv-loop bytes ranks p depth lowest end q₀ d₀ q d =
     (q ≤ 8 * length bytes) × (0 < d) × (d ≤ q) × (closing (bits bytes) q d ≡ closing (bits bytes) p depth)
 
 abbrev μ-loop : tie.MeasureT-loop
-μ-loop bytes p depth lowest end q₀ d₀ q d = 8 * length bytes - q
+μ-loop bytes ranks p depth lowest end q₀ d₀ q d = 8 * length bytes - q
 
 loop-holds : tie.Need-loop-holds Inv-loop μ-loop
 loop-holds c = (omega arith, omega arith, omega arith, refl)
@@ -44,11 +44,11 @@ passable-requires : tie.Need-passable-requires Inv-loop μ-loop
 unfolding lowestOf lowest lower excess rank bits bitOf digit tab
 passable-requires c κs = (omega arith, search needs, search needs, refl)
 
-add-ones-in : tie.Need-add-ones-in Inv-loop μ-loop
-add-ones-in c = search needs
+add-ones-between : tie.Need-add-ones-between Inv-loop μ-loop
+add-ones-between c = search needs
 
-ones-in-requires : tie.Need-ones-in-requires Inv-loop μ-loop
-ones-in-requires c κs = search needs
+ones-between-requires : tie.Need-ones-between-requires Inv-loop μ-loop
+ones-between-requires c κs = search needs
 
 add-d : tie.Need-add-d Inv-loop μ-loop
 add-d c = omega (arith, low3 (c .before .before .before .before .before .before .loop .q))
@@ -61,12 +61,12 @@ sub-d c = search needs
 
 sub-d-2 : tie.Need-sub-d-2 Inv-loop μ-loop
 sub-d-2 c =
-    let l = now (c .before .before .before .before .before .before .before .before .args .bytes) in
+    let l = now (c .before .before .before .before .before .before .before .before .before .args .bytes) in
     let p = c .before .before .before .before .before .before .loop .q in
     let d = c .before .before .before .before .before .before .loop .d in
     let m = c .before .before .passable .result in
-    let run = whole l p m d (c .ones-in .result) (omega (arith, low3 p)) (c .before .before .passable .ensures .1) (c .ones-in .ensures .0) in
-    let above = run-above l p (8 * m) d (c .ones-in .result) (omega (arith, low3 p)) (omega arith) (run .0) (run .1) in
+    let run = whole l p m d (c .ones-between .result) (omega (arith, low3 p)) (c .before .before .passable .ensures .1) (c .ones-between .ensures .0) in
+    let above = run-above l p (8 * m) d (c .ones-between .result) (omega (arith, low3 p)) (omega arith) (run .0) (run .1) in
     omega arith
 
 mul-q : tie.Need-mul-q Inv-loop μ-loop
@@ -80,20 +80,20 @@ loop-less c = search needs
 
 loop-again : tie.Need-loop-again Inv-loop μ-loop
 loop-again c =
-    let l = now (c .before .before .before .before .before .before .before .before .args .bytes) in
+    let l = now (c .before .before .before .before .before .before .before .before .before .args .bytes) in
     let p = c .before .before .before .before .before .before .loop .q in
     let d = c .before .before .before .before .before .before .loop .d in
     let m = c .before .before .passable .result in
-    let run = whole l p m d (c .ones-in .result) (omega (arith, low3 p)) (c .before .before .passable .ensures .1) (c .ones-in .ensures .0) in
-    let above = run-above l p (8 * m) d (c .ones-in .result) (omega (arith, low3 p)) (omega arith) (run .0) (run .1) in
-    (omega (arith, low3 p), omega arith, omega arith, sym (run-passed l p (8 * m) d (c .ones-in .result) (omega (arith, low3 p)) (omega arith) (run .0) (run .1) (omega arith)) ∙ c .before .before .before .before .before .before .loop .inv .3)
+    let run = whole l p m d (c .ones-between .result) (omega (arith, low3 p)) (c .before .before .passable .ensures .1) (c .ones-between .ensures .0) in
+    let above = run-above l p (8 * m) d (c .ones-between .result) (omega (arith, low3 p)) (omega arith) (run .0) (run .1) in
+    (omega (arith, low3 p), omega arith, omega arith, sym (run-passed l p (8 * m) d (c .ones-between .result) (omega (arith, low3 p)) (omega arith) (run .0) (run .1) (omega arith)) ∙ c .before .before .before .before .before .before .loop .inv .3)
 
 after-bit-requires : tie.Need-after-bit-requires Inv-loop μ-loop
 after-bit-requires c κs = search needs
 
 returns : tie.Need-returns Inv-loop μ-loop
 returns c =
-    let l = now (c .before .before .before .before .before .before .args .bytes) in
+    let l = now (c .before .before .before .before .before .before .before .args .bytes) in
     let q = c .before .before .before .before .loop .q in
     rw (← c .before .before .before .before .loop .inv .3, bit-found l q (c .before .before .before .before .loop .d) (c .before .after-bit .result) (omega arith) (c .before .after-bit .ensures) (omega arith))
     (sym (found-at (8 * length l) q (omega arith)))
@@ -106,7 +106,7 @@ loop-less-2 c = search needs
 
 loop-again-2 : tie.Need-loop-again-2 Inv-loop μ-loop
 loop-again-2 c =
-    let l = now (c .before .before .before .before .before .before .args .bytes) in
+    let l = now (c .before .before .before .before .before .before .before .args .bytes) in
     let q = c .before .before .before .before .loop .q in
     let more : 0 < c .before .after-bit .result = omega arith in
     let le = num-le (getD (bits l) q false) in
@@ -114,7 +114,7 @@ loop-again-2 c =
 
 returns-2 : tie.Need-returns-2 Inv-loop μ-loop
 returns-2 c =
-    let l = now (c .before .before .before .args .bytes) in
+    let l = now (c .before .before .before .before .args .bytes) in
     rw (← c .before .loop .inv .3, none-left l (c .before .loop .q) (c .before .loop .d) (omega arith)) (sym (found-nothing (8 * length l) (8 * length l) (omega arith)))
 
 pub search-spec : {M : Type 1} → statement M
@@ -125,8 +125,8 @@ search-spec =
     μ-loop
     loop-holds
     passable-requires
-    add-ones-in
-    ones-in-requires
+    add-ones-between
+    ones-between-requires
     add-d
     mul-d
     sub-d
