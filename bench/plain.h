@@ -27,4 +27,7 @@ size_t plain_fact_between(const uint16_t *area, size_t area_length, size_t count
 piecebook_replicates_result plain_replicates(const uint8_t *book, size_t book_length, piecebook_window window,
                                              const uint8_t *log, size_t log_length, uint8_t *out, size_t out_length);
 
+piecebook_comparison plain_compare(const uint8_t *first, size_t first_length, const uint8_t *second, size_t second_length,
+                                   const uint8_t *claims, size_t claims_length, uint8_t *out, size_t out_length);
+
 #endif

@@ -52,6 +52,13 @@ static void *replicates(void *unused)
     return unused;
 }
 
+static void *comparison(void *unused)
+{
+    static uint8_t out[3 * 4096];
+    piecebook_compare(s.book, s.records * 6, s.book, s.records * 6, s.asked, s.claims * 6, out, sizeof out);
+    return unused;
+}
+
 /* In the new process: runs f on a stack of the given size, below which no page can be touched. */
 static void on_stack(void *f(void *), size_t size)
 {
@@ -131,6 +138,10 @@ int main(void)
     shuffle(&s);
     measure("deep, catalog", catalog);
     measure("deep, a log", replicates);
+    make_sample(&s, DEEP, 2048, 8192, 4096);
+    shuffle(&s);
+    restrict_half(&s);
+    measure("deep, two books, half restricted", comparison);
     make_sample(&s, DEEP, 2048, 8192, 0);
     shuffle(&s);
     put_on_trays(&s, 2048);

@@ -166,6 +166,22 @@ typedef struct {
 piecebook_replicates_result piecebook_replicates(const uint8_t *book, size_t book_length, piecebook_window window,
                                                  const uint8_t *log, size_t log_length, uint8_t *out, size_t out_length);
 
+/* number is 0 for two books that are compared, or the number of the refusal: 1 for an out below three bytes a claim, then the first book's own and 14,
+   then the second's, then the claims'. book says whose it is, 1 or 2, or 0 for out and claims; place is as ever. together is 1 where the records of
+   both, a shared one taken once, can be laid in ice together, else 0; 0 for a refusal. */
+typedef struct {
+    size_t number;
+    size_t place;
+    size_t book;
+    size_t together;
+} piecebook_comparison;
+
+/* Compares two books of one core under the same numbers; each counts as having the pieces of the larger. Writes three bytes for each claim: both
+   answers, then 1 where they are the same, 2 where one of them is OPEN, 3 where they are opposed. A refusal writes nothing; bytes behind the last
+   claim's stay as they are. */
+piecebook_comparison piecebook_compare(const uint8_t *first, size_t first_length, const uint8_t *second, size_t second_length,
+                                       const uint8_t *claims, size_t claims_length, uint8_t *out, size_t out_length);
+
 #ifdef __cplusplus
 }
 #endif

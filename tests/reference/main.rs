@@ -3,6 +3,7 @@
 
 mod books;
 mod catalogs;
+mod compare;
 mod days;
 mod piecebook;
 mod reference;
@@ -370,6 +371,44 @@ impl Tally {
         }
         let parts: usize = met.numbers.iter().sum();
         println!("replicates: {count} books, {parts} parts of logs, {} full windows APART; {} failed; {:.1} s", met.full_apart, self.failed - failed, start.elapsed().as_secs_f64());
+    }
+
+    /// Pairs of books.
+    fn pairs(&mut self, count: usize, times: usize) {
+        let start = Instant::now();
+        let failed = self.failed;
+        let mut random = Random(12);
+        let mut met = compare::Met::default();
+        let wrong = compare::edges(&mut random, &mut met);
+        self.count(wrong.map(|wrong| format!("two books, {wrong}")));
+        for number in 0..count {
+            let wrong = compare::play(&mut random, number, &mut met);
+            self.count(wrong.map(|wrong| format!("two books, pair {number}, {wrong}")));
+        }
+        for shape in SHAPES {
+            for pieces in [200, 200, 200, 1365, 2048].repeat(times) {
+                let wrong = compare::play_large(&mut random, shape, pieces, &mut met);
+                self.count(wrong.map(|wrong| format!("two books, {wrong}")));
+            }
+        }
+        let own = [3, 4, 5, 6, 7, 8, 9, 14, 19];
+        for (book, numbers) in [(0, &[0, 1, 10, 11, 12, 13][..]), (1, &own[..]), (2, &own[..])] {
+            for &number in numbers {
+                let missing = met.numbers[book][number] == 0;
+                self.count(missing.then(|| format!("number {number} of book {book} never occurred with two books")));
+            }
+        }
+        for (kind, thirds) in met.third.iter().enumerate() {
+            for third in 1..4 {
+                // laid together and marked alike, no claim is opposed
+                let missing = (thirds[third] == 0) != (kind == 3 && third == 3);
+                self.count(missing.then(|| format!("third byte {third}, kind {kind}: {} times", thirds[third])));
+            }
+        }
+        for which in 0..3 {
+            self.count((met.larger[which] == 0).then(|| format!("which is larger: {which} never occurred")));
+        }
+        println!("two books: {count} pairs, {} accepted; {} failed; {:.1} s", met.numbers[0][0], self.failed - failed, start.elapsed().as_secs_f64());
     }
 
     fn try_conversion(&mut self, group: &str, number: usize, book: &[u8], room: usize) -> Converted {
@@ -923,6 +962,7 @@ fn run(times: usize) -> bool {
         });
     }
     tally.logs(800 * times);
+    tally.pairs(2400 * times, times);
     tally.all_occurred();
     println!("{} passed, {} failed", tally.passed, tally.failed);
     tally.failed == 0

@@ -257,7 +257,36 @@ pub fn replicates(book: &[u8], window: Window, log: &[u8], out: &mut [u8]) -> Re
     unsafe { piecebook_replicates(book.as_ptr(), book.len(), window, log.as_ptr(), log.len(), out.as_mut_ptr(), out.len()) }
 }
 
+/// What two books come to: `book` is 1 or 2 for a refusal of theirs, and `together` 1 where their records can be laid in ice together.
+#[repr(C)]
+#[derive(Clone, Copy, Debug, PartialEq, Eq)]
+pub struct Compared {
+    pub number: usize,
+    pub place: usize,
+    pub book: usize,
+    pub together: usize,
+}
+
+/// Writes three bytes for each claim: both answers, then 1 SAME, 2 ONE OPEN or 3 OPPOSED.
+pub fn compare(first: &[u8], second: &[u8], claims: &[u8], out: &mut [u8]) -> Compared {
+    // SAFETY: as above.
+    unsafe {
+        piecebook_compare(first.as_ptr(), first.len(), second.as_ptr(), second.len(), claims.as_ptr(), claims.len(), out.as_mut_ptr(), out.len())
+    }
+}
+
 extern "C" {
+    fn piecebook_compare(
+        first: *const u8,
+        first_length: usize,
+        second: *const u8,
+        second_length: usize,
+        claims: *const u8,
+        claims_length: usize,
+        out: *mut u8,
+        out_length: usize,
+    ) -> Compared;
+
     fn piecebook_catalog(
         book: *const u8,
         book_length: usize,

@@ -37,7 +37,7 @@ pub struct Expected {
     pub doubt: Option<String>,
 }
 
-type Refusal = (usize, usize);
+pub type Refusal = (usize, usize);
 
 struct Record {
     kind: u8,
@@ -67,18 +67,18 @@ fn fact(record: &Record) -> Option<Fact> {
 }
 
 /// A book that passes rows 3 to 9.
-struct Book {
+pub struct Book {
     /// the fact of each record, none for a TRAY or a mark
-    facts: Vec<Option<Fact>>,
+    pub facts: Vec<Option<Fact>>,
     /// the same with none for the scanner's records
-    sheets: Vec<Option<Fact>>,
+    pub sheets: Vec<Option<Fact>>,
     /// the pieces that some record marks, of either origin
-    void: Vec<bool>,
-    pieces: usize,
+    pub void: Vec<bool>,
+    pub pieces: usize,
 }
 
 /// A claim that passes rows 12 and 13.
-struct Claim {
+pub struct Claim {
     fact: Fact,
     /// to be answered from cutting sheets only
     restricted: bool,
@@ -92,7 +92,7 @@ pub enum Edition {
 }
 
 /// Rows 3 to 9.
-fn read_book(book: &[u8], edition: Edition) -> Result<Book, Refusal> {
+pub fn read_book(book: &[u8], edition: Edition) -> Result<Book, Refusal> {
     let whole = |number| Err((number, 0));
     match book.len() {
         length if length % 6 != 0 => return whole(3),
@@ -136,7 +136,7 @@ fn read_book(book: &[u8], edition: Edition) -> Result<Book, Refusal> {
 }
 
 /// Rows 10 to 13.
-fn read_claims(claims: &[u8], pieces: usize) -> Result<Vec<Claim>, Refusal> {
+pub fn read_claims(claims: &[u8], pieces: usize) -> Result<Vec<Claim>, Refusal> {
     if claims.len() % 6 != 0 {
         return Err((10, 0));
     }
@@ -247,7 +247,7 @@ fn cleared() -> Index {
 const SMALL: usize = 16;
 
 /// The last record of the shortest contradictory run from the start. The whole book's marks count in every run.
-fn contradiction(pieces: usize, facts: &[Option<Fact>], void: &[bool], doubt: &mut Option<String>) -> Option<usize> {
+pub fn contradiction(pieces: usize, facts: &[Option<Fact>], void: &[bool], doubt: &mut Option<String>) -> Option<usize> {
     let run = |length: usize| -> Vec<Fact> { facts[..length].iter().flatten().copied().collect() };
     // what a run derives, every longer run derives
     let (mut sound, mut bad) = (0, facts.len());
@@ -305,7 +305,7 @@ fn answers_from(pieces: usize, facts: &[Option<Fact>], void: &[bool], claims: &[
 }
 
 /// Each claim from the facts that it picks. What the sheets say for or against it, all facts say too.
-fn answer(book: &Book, claims: &[Claim], doubt: &mut Option<String>) -> Vec<u8> {
+pub fn answer(book: &Book, claims: &[Claim], doubt: &mut Option<String>) -> Vec<u8> {
     let facts: Vec<Fact> = claims.iter().map(|claim| claim.fact).collect();
     let all = answers_from(book.pieces, &book.facts, &book.void, &facts, doubt);
     if !claims.iter().any(|claim| claim.restricted) {

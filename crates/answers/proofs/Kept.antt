@@ -1,6 +1,6 @@
 -- A determined call keeps demands 2 and 3, names the place of a contradiction, and fits. Assumes nothing.
 use Prim.Native.Nat.{ℕ, _-_, _<_}
-use mathlib.Core.Path.{_≡_, refl, subst, _∙_}
+use mathlib.Core.Path.{_≡_, subst, _∙_}
 use mathlib.Core.Bool.{true, false}
 use mathlib.Core.List.{List}
 use native.Mathlib.Omega.{arith}
@@ -14,7 +14,7 @@ use Rattle.rules.specs.Model.{Model, keepsAll}
 use Rattle.rules.specs.Follows.{clash}
 use Rattle.rules.specs.Verdict.{verdict}
 use Rattle.rules.specs.Entries.{shortestClash}
-use Rattle.records.specs.Record.{recordAt, records}
+use Rattle.records.specs.Record.{records}
 use Rattle.records.specs.Facts.{entries, facts}
 use Rattle.records.specs.Pieces.{pieceCount}
 use Rattle.records.specs.Kept.{sheets}
@@ -31,7 +31,7 @@ use Rattle.answers.specs.Lent.{Lent}
 use Rattle.answers.specs.Outcome as of
 use Rattle.answering.specs.Claimed.{claimed, pickedFacts, answersTo}
 use Rattle.answers.specs.Call.{edges, outcome, Passed, indexed, left, Determined}
-use Rattle.answers.specs.Demands.{Derived, Entailed, Demand2, Demand3, Contradicted}
+use Rattle.answers.specs.Demands.{Entailed, Demand2, Demand3, Contradicted}
 use Rattle.answers.specs.Agree.{Agree, SheetsAgree}
 use Rattle.answers.specs.Fitting.{Fits, Fitting}
 use Rattle.answers.specs.declared.Outcome.{Outcome}

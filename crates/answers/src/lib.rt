@@ -33,8 +33,40 @@ pub fn clear_index(parens: &mut [u8], marks: &mut [u8], shadows: &mut [u16], pla
 }
 
 // The marks of the whole book, then row 14, the index and the answers, for a book and claims that pass the rows before, in lent parts of document 01's lengths.
-// n is the count of the book's pieces, or a larger one.
-pub fn judge(
+// n is the count of the book's pieces, or a larger one. The matrices are scratch.
+pub fn judge_in(
+    book: &[u8],
+    n: usize,
+    claims: &[u8],
+    e: &mut [u64],
+    d: &mut [u64],
+    t: &mut [u64],
+    parens: &mut [u8],
+    marks: &mut [u8],
+    shadows: &mut [u16],
+    places: &mut [u16],
+    answers: &mut [u8],
+) -> Outcome
+    requires { ⌜ Exact (now book) n (now claims) (lent (now parens) (now marks) (now shadows) (now places) (now answers)) × (length (now e) ≡ 65536) × (length (now d) ≡ 65536) × (length (now t) ≡ 65536) ⌝ }
+    ensures { λ r. ⌜ Judged (now (book .entry)) n (now (claims .entry)) (lent (now (parens .entry)) (now (marks .entry)) (now (shadows .entry)) (now (places .entry)) (now (answers .entry))) r (lent (now (parens .exit)) (now (marks .exit)) (now (shadows .exit)) (now (places .exit)) (now (answers .exit))) ⌝ }
+{
+    let mut voids = [0u64; 32];
+    closure::marking::mark_voids(book, &mut voids);
+    let settled = settling::settle(book, n, &voids, e, d, t, parens, marks, shadows, places);
+    match settled {
+        Settled::Clash(place) => {
+            clear_index(parens, marks, shadows, places);
+            Outcome::Refused(Refusal::Contradiction, place)
+        }
+        Settled::Free(nodes, shadowed) => {
+            answering::answer_all(book, n, &voids, claims, e, d, t, answers);
+            Outcome::Accepted(n, nodes, shadowed)
+        }
+    }
+}
+
+// The same in matrices of its own.
+fn judge(
     book: &[u8],
     n: usize,
     claims: &[u8],
@@ -47,15 +79,13 @@ pub fn judge(
     requires { ⌜ Exact (now book) n (now claims) (lent (now parens) (now marks) (now shadows) (now places) (now answers)) ⌝ }
     ensures { λ r. ⌜ Judged (now (book .entry)) n (now (claims .entry)) (lent (now (parens .entry)) (now (marks .entry)) (now (shadows .entry)) (now (places .entry)) (now (answers .entry))) r (lent (now (parens .exit)) (now (marks .exit)) (now (shadows .exit)) (now (places .exit)) (now (answers .exit))) ⌝ }
 {
-    let mut voids = [0u64; 32];
-    closure::marking::mark_voids(book, &mut voids);
     let mut e = [0u64; 65536];
     let mut d = [0u64; 65536];
     let mut t = [0u64; 65536];
-    let settled = settling::settle(
+    judge_in(
         book,
         n,
-        &voids,
+        claims,
         &mut e,
         &mut d,
         &mut t,
@@ -63,17 +93,8 @@ pub fn judge(
         marks,
         shadows,
         places,
-    );
-    match settled {
-        Settled::Clash(place) => {
-            clear_index(parens, marks, shadows, places);
-            Outcome::Refused(Refusal::Contradiction, place)
-        }
-        Settled::Free(nodes, shadowed) => {
-            answering::answer_all(book, n, &voids, claims, &mut e, &mut d, &mut t, answers);
-            Outcome::Accepted(n, nodes, shadowed)
-        }
-    }
+        answers,
+    )
 }
 
 // Row 1.

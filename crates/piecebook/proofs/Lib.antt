@@ -2,3 +2,4 @@ pub mod Results
 pub mod OpenBooks
 pub mod Listings
 pub mod Replicating
+pub mod Comparing

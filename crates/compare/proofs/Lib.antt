@@ -1,0 +1,5 @@
+pub mod Joining
+pub mod Threes
+pub mod Rows
+pub mod Demands
+pub mod Opposing

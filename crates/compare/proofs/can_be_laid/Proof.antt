@@ -1,0 +1,43 @@
+-- `compare::can_be_laid` meets its contract. Assumes nothing.
+use borrow.Author.Needs.{needs}
+use mathlib.Core.Path.{ap}
+use mathlib.Core.Bool.{not}
+use Rattle.compare.proofs.can_be_laid.Statement.{statement}
+use Rattle.compare.proofs.can_be_laid.Tie as tie
+
+slice-aggregate-mark-voids : tie.Need-slice-aggregate-mark-voids
+slice-aggregate-mark-voids c = search needs
+
+mark-voids-requires : tie.Need-mark-voids-requires
+mark-voids-requires c κs = search needs
+
+slice-aggregate-contradicts : tie.Need-slice-aggregate-contradicts
+slice-aggregate-contradicts c = search needs
+
+contradicts-requires : tie.Need-contradicts-requires
+contradicts-requires c κs = search needs
+
+same-length : tie.Need-same-length
+same-length c = search needs
+
+same-length-2 : tie.Need-same-length-2
+same-length-2 c = search needs
+
+same-length-3 : tie.Need-same-length-3
+same-length-3 c = search needs
+
+returns : tie.Need-returns
+returns c = ap not (rw (c .before .before .before .before .before .before .before .before .before .before .before .before .mark-voids .ensures .1) at (c .before .before .before .before .before .before .contradicts .ensures))
+
+pub can-be-laid-spec : {M : Type 1} → statement M
+can-be-laid-spec =
+    tie.close
+    (tie.spec
+    slice-aggregate-mark-voids
+    mark-voids-requires
+    slice-aggregate-contradicts
+    contradicts-requires
+    same-length
+    same-length-2
+    same-length-3
+    returns)

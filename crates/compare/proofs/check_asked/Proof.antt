@@ -1,0 +1,73 @@
+-- `compare::check_asked` meets its contract. Assumes nothing.
+use borrow.Author.Needs.{needs}
+use native.Mathlib.Omega.{arith}
+use mathlib.Core.Path.{sym, _∙_}
+use lib.Seq.{length-take-le}
+use Rattle.records.proofs.Accepted.{accepted-claims}
+use Rattle.compare.proofs.Rows.{asked-refused}
+use Rattle.compare.proofs.check_asked.Statement.{statement}
+use Rattle.compare.proofs.check_asked.Tie as tie
+
+larger-requires : tie.Need-larger-requires
+larger-requires c κs = search needs
+
+check-claims-requires : tie.Need-check-claims-requires
+check-claims-requires c κs = search needs
+
+enum-known-fit : tie.Need-enum-known-fit
+enum-known-fit c = search needs
+
+after-requires : tie.Need-after-requires
+after-requires c κs = search needs
+
+after-requires-2 : tie.Need-after-requires-2
+after-requires-2 c κs = search needs
+
+enum-told : tie.Need-enum-told
+enum-told c = search needs
+
+array-borrow-prefix-ours : tie.Need-array-borrow-prefix-ours
+array-borrow-prefix-ours c = omega (arith, accepted-claims _ _ (sym (c .before .before .check-claims .ensures) ∙ c .enum-told .given .1) .few)
+
+slice-aggregate-judge-both : tie.Need-slice-aggregate-judge-both
+slice-aggregate-judge-both c = sym (length-take-le _ _ (omega (arith, accepted-claims _ _ (sym (c .before .before .before .check-claims .ensures) ∙ c .before .enum-told .given .1) .few)))
+
+array-borrow-prefix-theirs : tie.Need-array-borrow-prefix-theirs
+array-borrow-prefix-theirs c = omega (arith, accepted-claims _ _ (sym (c .before .before .before .check-claims .ensures) ∙ c .before .enum-told .given .1) .few)
+
+slice-aggregate-judge-both-2 : tie.Need-slice-aggregate-judge-both-2
+slice-aggregate-judge-both-2 c = sym (length-take-le _ _ (omega (arith, accepted-claims _ _ (sym (c .before .before .before .before .check-claims .ensures) ∙ c .before .before .enum-told .given .1) .few)))
+
+judge-both-requires : tie.Need-judge-both-requires
+judge-both-requires c κs =
+    (record { sound = c .before .before .before .before .before .before .before .before .before .before .before .before .pre; fit = rw (c .before .before .before .before .before .before .larger .ensures) at (sym (c .before .before .before .before .before .check-claims .ensures) ∙ c .before .before .before .enum-told .given .1) }, length-take-le _ _ (omega (arith, accepted-claims _ _ (sym (c .before .before .before .before .before .check-claims .ensures) ∙ c .before .before .before .enum-told .given .1) .few)), length-take-le _ _ (omega (arith, accepted-claims _ _ (sym (c .before .before .before .before .before .check-claims .ensures) ∙ c .before .before .before .enum-told .given .1) .few)))
+
+returns : tie.Need-returns
+returns c =
+    let P = c .before .before .before .before .before .before .before .before .before .before .before .before .pre in
+    asked-refused _ _ _ _ (P .first) (P .second) _ _ (rw (c .before .before .before .before .before .before .larger .ensures) at (sym (c .before .before .before .before .before .check-claims .ensures) ∙ c .before .before .before .fit .given .1)) (c .before .after .ensures) (c .after2 .ensures)
+
+same-length : tie.Need-same-length
+same-length c = search needs
+
+returns-2 : tie.Need-returns-2
+returns-2 c = search needs
+
+pub check-asked-spec : {M : Type 1} → statement M
+check-asked-spec =
+    tie.close
+    (tie.spec
+    larger-requires
+    check-claims-requires
+    enum-known-fit
+    after-requires
+    after-requires-2
+    enum-told
+    array-borrow-prefix-ours
+    slice-aggregate-judge-both
+    array-borrow-prefix-theirs
+    slice-aggregate-judge-both-2
+    judge-both-requires
+    returns
+    same-length
+    returns-2)

@@ -1,0 +1,7 @@
+pub mod Joint
+pub mod Answers
+pub mod Call
+pub mod Outcome
+pub mod Demands
+pub mod Opposed
+pub mod Judging

@@ -1,0 +1,258 @@
+// Two books of one core under the same numbers: both answers to each claim, and whether their records can be laid in ice together.
+ghost use mathlib.Core.Path.{_≡_};
+ghost use mathlib.Core.Bool.{not};
+ghost use mathlib.Core.List.{[]};
+ghost use Prim.Native.Nat.{max, _+_, _*_, _≤_};
+ghost use lib.ListN.{length, getD};
+ghost use lib.Seq.{paste};
+ghost use Rattle.lists.specs.Front.{front};
+ghost use Rattle.rules.specs.Follows.{clash};
+ghost use Rattle.records.specs.Record.{records};
+ghost use Rattle.records.specs.Facts.{facts};
+ghost use Rattle.records.specs.Marked.{marked};
+ghost use Rattle.answers.specs.Fresh.{freshCall};
+ghost use Rattle.compare.specs.Answers.{agreement, threes};
+ghost use Rattle.compare.specs.Call.{byBook, Determined};
+ghost use Rattle.compare.specs.Demands.{Demanded};
+ghost use Rattle.compare.specs.Judging.{Together, Joins, Layable, Answerable, Answered, Sound, Ready, Judged};
+use answers::Outcome;
+use records::BookCheck;
+use records::ClaimsCheck;
+use records::Refusal;
+
+// What a comparison comes to: whether both books can be laid together, or the refusal of a book, 1 or 2, or of buffers and claims, 0, and its place.
+pub enum Comparison {
+    Compared(bool),
+    Refused(usize, Refusal, usize),
+}
+
+// 1 for the same answer, 2 where one alone is open, 3 for opposite ones.
+fn agreement_of(x: u8, y: u8) -> u8
+    ensures { λ r. ⌜ r ≡ agreement x y ⌝ }
+{
+    if x == y {
+        return 1;
+    }
+    if x == 3 {
+        return 2;
+    }
+    if y == 3 {
+        return 2;
+    }
+    3
+}
+
+// Three bytes for each claim.
+fn write_answers(ours: &[u8], theirs: &[u8], out: &mut [u8])
+    requires { ⌜ (length (now theirs) ≡ length (now ours)) × (3 * length (now ours) ≤ length (now out)) ⌝ }
+    ensures { λ _. ⌜ now (out .exit) ≡ front (threes (λ i. getD (now (ours .entry)) i 0) (λ i. getD (now (theirs .entry)) i 0) (length (now (ours .entry)))) (now (out .entry)) ⌝ }
+{
+    let n = ours.len();
+    let mut i: usize = 0;
+    while i < n {
+        let x = ours[i];
+        let y = theirs[i];
+        let at = 3 * i;
+        out[at] = x;
+        out[at + 1] = y;
+        out[at + 2] = agreement_of(x, y);
+        i += 1;
+    }
+}
+
+// Copies a run to place `at` on.
+fn copy(s: &[u8], at: usize, run: &mut [u8])
+    requires { ⌜ at + length (now s) ≤ length (now run) ⌝ }
+    ensures { λ _. ⌜ now (run .exit) ≡ paste (now (run .entry)) at (now (s .entry)) (length (now (s .entry))) ⌝ }
+{
+    let n = s.len();
+    let mut i: usize = 0;
+    while i < n {
+        run[at + i] = s[i];
+        i += 1;
+    }
+}
+
+// The second book behind the first, where both are as short as a book is, and how many bytes they have. A shared record stands twice, which says no more
+// than once.
+fn join(first: &[u8], second: &[u8], run: &mut [u8]) -> usize
+    requires { ⌜ length (now run) ≡ 98304 ⌝ }
+    ensures { λ r. ⌜ Joins (now (first .entry)) (now (second .entry)) (now (run .exit)) r ⌝ }
+{
+    if 49152 < first.len() {
+        return 0;
+    }
+    if 49152 < second.len() {
+        return 0;
+    }
+    let at = first.len();
+    copy(first, 0, run);
+    copy(second, at, run);
+    at + second.len()
+}
+
+// Whether the records of a run can be laid in ice, all its marks counting. The matrices are scratch.
+fn can_be_laid(run: &[u8], n: usize, e: &mut [u64], d: &mut [u64], t: &mut [u64]) -> bool
+    requires { ⌜ Layable (now run) n × (length (now e) ≡ 65536) × (length (now d) ≡ 65536) × (length (now t) ≡ 65536) ⌝ }
+    ensures { λ r. ⌜ r ≡ not (clash (marked (now (run .entry))) n (facts (now (run .entry)))) ⌝ }
+{
+    let mut voids = [0u64; 32];
+    closure::marking::mark_voids(run, &mut voids);
+    !settling::joint::contradicts(run, n, &voids, e, d, t)
+}
+
+// Row 14 of a book and its answers, among n pieces. The matrices are scratch.
+fn answer_book(
+    book: &[u8],
+    n: usize,
+    claims: &[u8],
+    e: &mut [u64],
+    d: &mut [u64],
+    t: &mut [u64],
+    answers: &mut [u8],
+) -> Outcome
+    requires { ⌜ Answerable (now book) n (now claims) (length (now answers)) × (length (now e) ≡ 65536) × (length (now d) ≡ 65536) × (length (now t) ≡ 65536) ⌝ }
+    ensures { λ r. ⌜ Answered (now (book .entry)) n (now (claims .entry)) r (now (answers .exit)) ⌝ }
+{
+    let mut parens = [0u8; 2560];
+    let mut marks = [0u8; 1280];
+    let mut shadows = [0u16; 8192];
+    let mut places = [0u16; 2048];
+    answers::judge_in(
+        book,
+        n,
+        claims,
+        e,
+        d,
+        t,
+        &mut parens,
+        &mut marks,
+        &mut shadows,
+        &mut places,
+        answers,
+    )
+}
+
+fn larger(x: usize, y: usize) -> usize
+    ensures { λ r. ⌜ r ≡ max x y ⌝ }
+{
+    if x < y { y } else { x }
+}
+
+// Both books and their answers among the pieces of the larger, for claims that fit these, then their records together, all in the same matrices. Each book's
+// answers are kept in a lent run, so that nothing is written where the second is refused.
+fn judge_both(
+    first: &[u8],
+    own: usize,
+    second: &[u8],
+    count: usize,
+    run: &[u8],
+    claims: &[u8],
+    ours: &mut [u8],
+    theirs: &mut [u8],
+    out: &mut [u8],
+) -> Comparison
+    requires { ⌜ Ready (now first) own (now second) count (now run) (now claims) (length (now out)) × (length (now ours) ≡ records (now claims)) × (length (now theirs) ≡ records (now claims)) ⌝ }
+    ensures { λ r. ⌜ Judged (now (first .entry)) (now (second .entry)) (now (claims .entry)) (now (out .entry)) r (now (out .exit)) ⌝ }
+{
+    let n = larger(own, count);
+    let mut e = [0u64; 65536];
+    let mut d = [0u64; 65536];
+    let mut t = [0u64; 65536];
+    let one = answer_book(first, n, claims, &mut e, &mut d, &mut t, ours);
+    if let Outcome::Refused(refusal, place) = one {
+        return Comparison::Refused(1, refusal, place);
+    }
+    let two = answer_book(second, n, claims, &mut e, &mut d, &mut t, theirs);
+    if let Outcome::Refused(refusal, place) = two {
+        return Comparison::Refused(2, refusal, place);
+    }
+    let laid = can_be_laid(run, n, &mut e, &mut d, &mut t);
+    write_answers(ours, theirs, out);
+    Comparison::Compared(laid)
+}
+
+// The refusal of a book by a fresh call, or what comes after it.
+fn after(k: usize, book: &[u8], rest: Comparison) -> Comparison
+    ensures { λ r. ⌜ r ≡ byBook k (freshCall (now (book .entry)) []) rest ⌝ }
+{
+    let outcome = answers::judge_run(book);
+    match outcome {
+        Outcome::Refused(refusal, place) => Comparison::Refused(k, refusal, place),
+        Outcome::Accepted(_, _, _) => rest,
+    }
+}
+
+// The claims, for two books that pass rows 3 to 9: row 14 of each comes before a refusal of theirs.
+fn check_asked(
+    first: &[u8],
+    own: usize,
+    second: &[u8],
+    count: usize,
+    run: &[u8],
+    claims: &[u8],
+    out: &mut [u8],
+) -> Comparison
+    requires { ⌜ Sound (now first) own (now second) count (now run) (now claims) (length (now out)) ⌝ }
+    ensures { λ r. ⌜ Judged (now (first .entry)) (now (second .entry)) (now (claims .entry)) (now (out .entry)) r (now (out .exit)) ⌝ }
+{
+    let fit = records::check_claims(claims, larger(own, count));
+    match fit {
+        ClaimsCheck::Refused(refusal, place) => {
+            let rest = after(2, second, Comparison::Refused(0, refusal, place));
+            after(1, first, rest)
+        }
+        ClaimsCheck::Accepted => {
+            let asked = claims.len() / 6;
+            let mut ours = [0u8; 4096];
+            let mut theirs = [0u8; 4096];
+            judge_both(
+                first,
+                own,
+                second,
+                count,
+                run,
+                claims,
+                &mut ours[..asked],
+                &mut theirs[..asked],
+                out,
+            )
+        }
+    }
+}
+
+// The rows of both books, whose records stand together in the run, then the claims.
+fn check_books(first: &[u8], second: &[u8], run: &[u8], claims: &[u8], out: &mut [u8]) -> Comparison
+    requires { ⌜ Together (now first) (now second) (now run) × (3 * records (now claims) ≤ length (now out)) ⌝ }
+    ensures { λ r. ⌜ Judged (now (first .entry)) (now (second .entry)) (now (claims .entry)) (now (out .entry)) r (now (out .exit)) ⌝ }
+{
+    let checked = records::check_book(first);
+    match checked {
+        BookCheck::Refused(refusal, place) => Comparison::Refused(1, refusal, place),
+        BookCheck::Accepted(own) => {
+            let other = records::check_book(second);
+            match other {
+                BookCheck::Refused(refusal, place) => {
+                    after(1, first, Comparison::Refused(2, refusal, place))
+                }
+                BookCheck::Accepted(count) => {
+                    check_asked(first, own, second, count, run, claims, out)
+                }
+            }
+        }
+    }
+}
+
+// Compares two books: for each claim both answers, then 1 SAME, 2 ONE OPEN or 3 OPPOSED.
+pub fn compare(first: &[u8], second: &[u8], claims: &[u8], out: &mut [u8]) -> Comparison
+    ensures determined { λ r. ⌜ Determined (now (first .entry)) (now (second .entry)) (now (claims .entry)) (now (out .entry)) r (now (out .exit)) ⌝ }
+    ensures demanded { λ r. ⌜ Demanded (now (first .entry)) (now (second .entry)) (now (claims .entry)) (length (now (out .entry))) (now (out .exit)) r ⌝ }
+{
+    let asked = claims.len() / 6;
+    if out.len() < 3 * asked {
+        return Comparison::Refused(0, Refusal::ShortBuffer, 0);
+    }
+    let mut run = [0u8; 98304];
+    let end = join(first, second, &mut run);
+    check_books(first, second, &run[..end], claims, out)
+}
