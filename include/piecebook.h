@@ -182,6 +182,32 @@ typedef struct {
 piecebook_comparison piecebook_compare(const uint8_t *first, size_t first_length, const uint8_t *second, size_t second_length,
                                        const uint8_t *claims, size_t claims_length, uint8_t *out, size_t out_length);
 
+/* The room of a chain: steps, and their bytes. */
+#define PIECEBOOK_STEPS 16400
+#define PIECEBOOK_STEP_BYTES 164000
+
+/* number is 0 for an answer, or the number of the refusal: 15 for steps_length below PIECEBOOK_STEP_BYTES, then the book's own, 10 for other than 6 bytes of
+   claim, 12, 13, 14; place is the refusal's. answer is PIECEBOOK_FOLLOWS, _DENIED or _OPEN, 0 with a refusal; steps is how many were written. */
+typedef struct {
+    size_t number;
+    size_t place;
+    size_t answer;
+    size_t steps;
+} piecebook_chain_result;
+
+/* Writes the chain behind the answer to one claim: steps of 10 bytes, numbered from 0, of which each premise stands earlier than its use. Byte 0 is 0 for a stored
+   record, 1 to 9 for the rules (a), (b), (c), (f), (a'), (b'), (c'), (d'), (e'), 10 for APART and 11 for PART of a marked piece; byte 1 the kind shown; then a, b, the first
+   premise's step or the record's number, and the second premise's step, two bytes each, low first; what is not needed is zero. The last step shows the claim where it
+   FOLLOWS, its opposite where it is DENIED. A restricted claim's steps cite records of cutting sheets only, and marks. With OPEN and with a refusal nothing is written
+   and steps is 0; bytes behind the last step stay as they are. Which of several chains is written is free. */
+piecebook_chain_result piecebook_chain(const uint8_t *book, size_t book_length, const uint8_t *claim, size_t claim_length,
+                                       uint8_t *steps, size_t steps_length);
+
+/* 1 where the steps, whoever wrote them, keep all this and each follows from the book and the premises that it names, else 0: what piecebook_chain writes passes. No
+   steps, more than PIECEBOOK_STEPS, a length that is no multiple of 10, and steps on a refused book or claim do not. */
+size_t piecebook_chain_check(const uint8_t *book, size_t book_length, const uint8_t *claim, size_t claim_length,
+                             const uint8_t *steps, size_t steps_length);
+
 #ifdef __cplusplus
 }
 #endif

@@ -3,6 +3,7 @@
 
 mod books;
 mod catalogs;
+mod chains;
 mod compare;
 mod days;
 mod piecebook;
@@ -409,6 +410,42 @@ impl Tally {
             self.count((met.larger[which] == 0).then(|| format!("which is larger: {which} never occurred")));
         }
         println!("two books: {count} pairs, {} accepted; {} failed; {:.1} s", met.numbers[0][0], self.failed - failed, start.elapsed().as_secs_f64());
+    }
+
+    /// Chains, those that the library writes and damaged ones.
+    fn chains(&mut self, count: usize) {
+        let start = Instant::now();
+        let failed = self.failed;
+        let mut random = Random(2);
+        let mut met = chains::Met::default();
+        for number in 0..count {
+            let wrong = chains::play(&mut random, number, &mut met);
+            self.count(wrong.map(|wrong| format!("chains, book {number}: {wrong}")));
+        }
+        let wrong = chains::session(&mut random, &mut met);
+        self.count(wrong.map(|wrong| format!("chains, {wrong}")));
+        let wrong = chains::deep(&mut random, &mut met);
+        self.count(wrong.map(|wrong| format!("chains, {wrong}")));
+        for number in [0, 3, 4, 5, 6, 7, 8, 9, 10, 12, 13, 14, 15, 19] {
+            let missing = met.numbers[number] == 0;
+            self.count(missing.then(|| format!("number {number} never occurred with a chain")));
+        }
+        for (rule, count) in met.rules.iter().enumerate() {
+            self.count((*count == 0).then(|| format!("rule {rule} was never cited")));
+        }
+        for (what, count) in [("claim FOLLOWS", met.answers[1]), ("claim is DENIED", met.answers[2]), ("claim is OPEN", met.answers[3]), ("damaged chain fails", met.damaged[0]), ("damaged chain passes", met.damaged[1])] {
+            self.count((count == 0).then(|| format!("no {what}")));
+        }
+        let all: usize = met.numbers.iter().sum();
+        println!(
+            "chains: {count} books, {all} claims, {} chains, the longest of {} steps; {} damaged ones, of which {} pass; {} failed; {:.1} s",
+            met.answers[1] + met.answers[2],
+            met.longest,
+            met.damaged[0] + met.damaged[1],
+            met.damaged[1],
+            self.failed - failed,
+            start.elapsed().as_secs_f64()
+        );
     }
 
     fn try_conversion(&mut self, group: &str, number: usize, book: &[u8], room: usize) -> Converted {
@@ -960,6 +997,7 @@ fn run(times: usize) -> bool {
             let case = case(random, &book, &[]);
             catalogs::ask_soundly(random, case.book, 2048, 1, case.lengths)
         });
+        tally.chains(400 * times);
     }
     tally.logs(800 * times);
     tally.pairs(2400 * times, times);

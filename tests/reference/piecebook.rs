@@ -286,6 +286,34 @@ extern "C" {
         out: *mut u8,
         out_length: usize,
     ) -> Compared;
+}
+
+/// What the writer of chains comes to: the answer, and how many steps it wrote.
+#[repr(C)]
+#[derive(Clone, Copy, Debug, PartialEq, Eq)]
+pub struct Chained {
+    pub number: usize,
+    pub place: usize,
+    pub answer: usize,
+    pub steps: usize,
+}
+
+/// Writes the chain behind the answer to one claim, ten bytes a step.
+pub fn chain(book: &[u8], claim: &[u8], steps: &mut [u8]) -> Chained {
+    // SAFETY: as above.
+    unsafe { piecebook_chain(book.as_ptr(), book.len(), claim.as_ptr(), claim.len(), steps.as_mut_ptr(), steps.len()) }
+}
+
+/// 1 where the steps are a chain behind the answer to the claim, else 0.
+pub fn chain_check(book: &[u8], claim: &[u8], steps: &[u8]) -> usize {
+    // SAFETY: as above.
+    unsafe { piecebook_chain_check(book.as_ptr(), book.len(), claim.as_ptr(), claim.len(), steps.as_ptr(), steps.len()) }
+}
+
+extern "C" {
+    fn piecebook_chain(book: *const u8, book_length: usize, claim: *const u8, claim_length: usize, steps: *mut u8, steps_length: usize) -> Chained;
+
+    fn piecebook_chain_check(book: *const u8, book_length: usize, claim: *const u8, claim_length: usize, steps: *const u8, steps_length: usize) -> usize;
 
     fn piecebook_catalog(
         book: *const u8,

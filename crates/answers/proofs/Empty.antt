@@ -21,7 +21,7 @@ use Rattle.records.specs.Facts.{entryOf, entries}
 use Rattle.records.specs.Kept.{picked}
 use Rattle.records.specs.Marked.{marked}
 use Rattle.records.specs.declared.Refusal.{Refusal}
-use Rattle.records.specs.declared.Refusal.the-variants.{ShortBuffer, BookLength, TooManyRecords, Kind, Origin, PieceNumber, Order, Repeat, ClaimsLength, TooManyClaims, ClaimFormat, ClaimPiece, Contradiction, TooManyPieces, ShortCatalog, NotStanding, VoidForm, LogLength, ReplicatePiece}
+use Rattle.records.specs.declared.Refusal.the-variants.{ShortBuffer, BookLength, TooManyRecords, Kind, Origin, PieceNumber, Order, Repeat, ClaimsLength, TooManyClaims, ClaimFormat, ClaimPiece, Contradiction, ShortSteps, TooManyPieces, ShortCatalog, NotStanding, VoidForm, LogLength, ReplicatePiece}
 use Rattle.records.specs.declared.ClaimsCheck.the-variants as claims
 use Rattle.records.proofs.Examples.{bytes}
 use Rattle.lists.specs.Numbers.{range, keep, find}
@@ -84,6 +84,7 @@ other TooManyClaims e = omega arith
 other ClaimFormat e = omega arith
 other ClaimPiece e = omega arith
 other Contradiction e = omega arith
+other ShortSteps e = omega arith
 other TooManyPieces e = omega arith
 other ShortCatalog e = omega arith
 other NotStanding e = omega arith

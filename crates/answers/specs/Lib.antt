@@ -7,3 +7,4 @@ pub mod Agree
 pub mod Fitting
 pub mod Judging
 pub mod Order
+pub mod One

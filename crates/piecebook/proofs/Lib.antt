@@ -3,3 +3,4 @@ pub mod OpenBooks
 pub mod Listings
 pub mod Replicating
 pub mod Comparing
+pub mod Chaining

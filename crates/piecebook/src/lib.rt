@@ -1,5 +1,6 @@
-// The calls of include/piecebook.h: those of `answers`, `grids`, `working`, `convert`, `catalog`, `replicates` and `compare`, with document 01's numbers for an outcome.
+// The calls of include/piecebook.h: those of `answers`, `grids`, `working`, `convert`, `catalog`, `replicates`, `compare`, `chains` and `chain_writing`, with document 01's numbers for an outcome.
 pub mod catalogs;
+pub mod chain_calls;
 pub mod comparisons;
 
 ghost use mathlib.Core.Path.{_≡_};

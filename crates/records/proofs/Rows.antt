@@ -13,7 +13,7 @@ use Rattle.records.specs.declared.Edition.the-variants.{Former, Current}
 use Rattle.records.specs.declared.Refusal.{Refusal}
 use Rattle.records.specs.declared.Finding.{Finding}
 use Rattle.records.specs.Refusal.{refusalNumber, row}
-use Rattle.records.specs.declared.Refusal.the-variants.{ShortBuffer, BookLength, TooManyRecords, Kind, Origin, PieceNumber, Order, Repeat, ClaimsLength, TooManyClaims, ClaimFormat, ClaimPiece, Contradiction, TooManyPieces, ShortCatalog, NotStanding, VoidForm, LogLength, ReplicatePiece}
+use Rattle.records.specs.declared.Refusal.the-variants.{ShortBuffer, BookLength, TooManyRecords, Kind, Origin, PieceNumber, Order, Repeat, ClaimsLength, TooManyClaims, ClaimFormat, ClaimPiece, Contradiction, ShortSteps, TooManyPieces, ShortCatalog, NotStanding, VoidForm, LogLength, ReplicatePiece}
 use Rattle.records.specs.declared.Finding.the-variants.{Fit, Unfit}
 use Rattle.records.specs.Pieces.{stated, marking, larger, largest}
 use Rattle.records.specs.Rows.{admitted, kindRow, originRow, pieceRow, badMark, voidRow, orderRow}
@@ -157,6 +157,7 @@ refused-positive TooManyClaims e = omega arith
 refused-positive ClaimFormat e = omega arith
 refused-positive ClaimPiece e = omega arith
 refused-positive Contradiction e = omega arith
+refused-positive ShortSteps e = omega arith
 refused-positive TooManyPieces e = omega arith
 refused-positive ShortCatalog e = omega arith
 refused-positive NotStanding e = omega arith

@@ -4,7 +4,7 @@
 use Prim.Native.Nat.{ℕ, zero, suc}
 use mathlib.Core.Bool.{Bool, true, false}
 use Rattle.records.specs.declared.Refusal.{Refusal}
-use Rattle.records.specs.declared.Refusal.the-variants.{ShortBuffer, BookLength, TooManyRecords, Kind, Origin, PieceNumber, Order, Repeat, ClaimsLength, TooManyClaims, ClaimFormat, ClaimPiece, Contradiction, TooManyPieces, ShortCatalog, NotStanding, VoidForm, LogLength, ReplicatePiece}
+use Rattle.records.specs.declared.Refusal.the-variants.{ShortBuffer, BookLength, TooManyRecords, Kind, Origin, PieceNumber, Order, Repeat, ClaimsLength, TooManyClaims, ClaimFormat, ClaimPiece, Contradiction, ShortSteps, TooManyPieces, ShortCatalog, NotStanding, VoidForm, LogLength, ReplicatePiece}
 use Rattle.records.specs.declared.Finding.{Finding}
 use Rattle.records.specs.declared.Finding.the-variants.{Fit, Unfit}
 
@@ -22,6 +22,7 @@ refusalNumber TooManyClaims = 11
 refusalNumber ClaimFormat = 12
 refusalNumber ClaimPiece = 13
 refusalNumber Contradiction = 14
+refusalNumber ShortSteps = 15
 refusalNumber TooManyPieces = 16
 refusalNumber ShortCatalog = 17
 refusalNumber NotStanding = 18

@@ -15,7 +15,8 @@ use Rattle.working.specs.declared.Working.{Working}
 use Rattle.working.specs.declared.Asked.{Asked}
 use Rattle.answers.specs.Fresh.{freshCall}
 use Rattle.working.specs.Standing.{standing}
-use Rattle.working.specs.Rows.{byOne, answerOf}
+use Rattle.answers.specs.One.{byOne}
+use Rattle.working.specs.Rows.{answerOf}
 use Rattle.working.specs.Kept.{Started, Answered}
 use Rattle.working.specs.Sequence.{Stands}
 use Rattle.working.specs.Day.{Operation, Reply, reply, after, replyTo, day, replies, Played, over, adds, withdraws, asks}

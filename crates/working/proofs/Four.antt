@@ -31,7 +31,8 @@ use Rattle.answers.specs.declared.Outcome.{Outcome}
 use Rattle.answers.specs.declared.Outcome.the-variants.{Accepted, Refused}
 use Rattle.answers.specs.Fresh.{freshCall}
 use Rattle.working.specs.Standing.{standing, extended}
-use Rattle.working.specs.Rows.{refuseIf, byArea, addOutcome}
+use Rattle.answers.specs.One.{refuseIf}
+use Rattle.working.specs.Rows.{byArea, addOutcome}
 
 -- number 4 is given only where B holds
 module _ (B : Type 0) where

@@ -21,7 +21,8 @@ use Rattle.answers.specs.declared.Outcome.the-variants.{Accepted, Refused}
 use Rattle.working.specs.declared.Working.{Working}
 use Rattle.answers.specs.Fresh.{freshCall}
 use Rattle.working.specs.Standing.{standing, extended, without}
-use Rattle.working.specs.Rows.{refuseIf, startOutcome, addOutcome, withdrawOutcome, answerOf}
+use Rattle.answers.specs.One.{refuseIf}
+use Rattle.working.specs.Rows.{startOutcome, addOutcome, withdrawOutcome, answerOf}
 use Rattle.working.specs.Kept.{keptState, keptArea, image, noRecords, Determined, Started, Added, Withdrawn, Answered}
 use Rattle.working.specs.declared.Asked.{Asked}
 use Rattle.records.specs.Check.{bookCheck}

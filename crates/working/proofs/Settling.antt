@@ -23,7 +23,8 @@ use Rattle.working.specs.declared.Working.{Working}
 use Rattle.working.specs.declared.Settled.{Settled}
 use Rattle.answers.specs.Fresh.{freshCall}
 use Rattle.working.specs.Standing.{standing, extended, without}
-use Rattle.working.specs.Rows.{refuseIf, byArea, byOne, askOutcome, answerOf, startOutcome, addOutcome, withdrawOutcome}
+use Rattle.answers.specs.One.{refuseIf, byOne}
+use Rattle.working.specs.Rows.{byArea, askOutcome, answerOf, startOutcome, addOutcome, withdrawOutcome}
 use Rattle.working.specs.Kept.{keptState, keptArea, image, Determined, Extended, Answered}
 use Rattle.working.specs.declared.Asked.{Asked}
 use Rattle.working.proofs.Runs.{padded-front, padded-whole}

@@ -6,7 +6,8 @@ use Rattle.records.specs.Check.{bookCheck}
 use Rattle.answers.specs.declared.Outcome.{Outcome}
 use Rattle.working.specs.declared.Working.{Working}
 use Rattle.working.specs.declared.Asked.{Asked}
-use Rattle.working.specs.Rows.{byOne, answerOf}
+use Rattle.answers.specs.One.{byOne}
+use Rattle.working.specs.Rows.{answerOf}
 use Rattle.working.specs.Kept.{Added, Withdrawn, Answered}
 use Rattle.working.specs.Sequence.{addTo, withdrawFrom, chosen}
 

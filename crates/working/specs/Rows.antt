@@ -1,25 +1,17 @@
 -- What each call comes to, row by row, from the record area, the stated record count and the rest of the input. Assumes nothing.
 use Prim.Native.Nat.{ℕ}
-use mathlib.Core.Bool.{Bool, true, false, not}
+use mathlib.Core.Bool.{not}
 use mathlib.Core.List.{List, []}
 use lib.Dec.{eqb, ltb, leb}
 use lib.ListN.{length, getD}
-use Rattle.records.specs.Check.{bookCheck, claimsCheck}
-use Rattle.records.specs.declared.Refusal.{Refusal}
-use Rattle.records.specs.declared.Refusal.the-variants.{ShortBuffer, BookLength, TooManyRecords, ClaimsLength, NotStanding}
-use Rattle.records.specs.declared.BookCheck.{BookCheck}
-use Rattle.records.specs.declared.BookCheck.the-variants as book
+use Rattle.records.specs.Check.{bookCheck}
+use Rattle.records.specs.declared.Refusal.the-variants.{ShortBuffer, BookLength, TooManyRecords, NotStanding}
 use Rattle.answering.specs.Claimed.{answersTo}
-use Rattle.answers.specs.Call.{byClaims}
 use Rattle.answers.specs.declared.Outcome.{Outcome}
 use Rattle.answers.specs.declared.Outcome.the-variants.{Accepted, Refused}
 use Rattle.answers.specs.Fresh.{freshCall}
+use Rattle.answers.specs.One.{refuseIf, byOne}
 use Rattle.working.specs.Standing.{standing, extended, without}
-
--- a row that refuses at place 0, or the rows below it
-unfoldable pub refuseIf : Bool → Refusal → Outcome → Outcome
-refuseIf true r below = Refused r 0
-refuseIf false r below = below
 
 -- the first rows of every call: 1 for an area below 49,152 bytes, 4 for a stated count above 8,192
 unfoldable pub byArea : List ℕ → ℕ → Outcome → Outcome
@@ -37,11 +29,7 @@ addOutcome area k a = byArea area k (refuseIf (not (eqb (length a) 6)) BookLengt
 unfoldable pub withdrawOutcome : List ℕ → ℕ → ℕ → Outcome
 withdrawOutcome area k i = byArea area k (refuseIf (leb k i) NotStanding (freshCall (without area k i) []))
 
--- a claim: the book's rows, then 10 for other than 6 bytes, then the claim's rows and 14
-unfoldable pub byOne : List ℕ → List ℕ → BookCheck → Outcome
-byOne s c (book.Refused r i) = Refused r i
-byOne s c (book.Accepted n) = refuseIf (not (eqb (length c) 6)) ClaimsLength (byClaims s n (claimsCheck n c))
-
+-- a claim
 unfoldable pub askOutcome : List ℕ → ℕ → List ℕ → Outcome
 askOutcome area k c = byArea area k (byOne (standing area k) c (bookCheck (standing area k)))
 

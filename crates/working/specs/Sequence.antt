@@ -12,7 +12,7 @@ use Rattle.answers.specs.declared.Outcome.the-variants.{Accepted, Refused}
 use Rattle.working.specs.declared.Working.{Working}
 use Rattle.answers.specs.Fresh.{freshCall}
 use Rattle.working.specs.Standing.{standing}
-use Rattle.working.specs.Rows.{refuseIf}
+use Rattle.answers.specs.One.{refuseIf}
 
 unfoldable pub addTo : List ℕ → List ℕ → Outcome
 addTo s a = refuseIf (not (eqb (length a) 6)) BookLength (freshCall (s ++ a) [])

@@ -1,0 +1,182 @@
+// The chain behind an answer, written: the call for one claim.
+ghost use mathlib.Core.Path.{_≡_};
+ghost use Prim.Native.Nat.{_<_, _≤_};
+ghost use lib.ListN.{length};
+ghost use Rattle.records.specs.Pieces.{stated};
+ghost use mathlib.Core.Bool.{true, false};
+ghost use Rattle.rules.specs.Fact.{Within};
+ghost use Rattle.rules.specs.Follows.{clash};
+ghost use Rattle.records.specs.Facts.{saying, facts};
+ghost use Rattle.records.specs.Marked.{marked};
+ghost use Rattle.records.specs.Check.{bookCheck};
+ghost use Rattle.records.specs.declared.BookCheck.the-variants as is;
+ghost use Rattle.answering.specs.Counted.{MarksOf};
+ghost use Rattle.chain_writing.specs.Found.{Ground};
+ghost use Rattle.chain_writing.specs.declared.Reply.the-variants.{Refused};
+ghost use Rattle.chain_writing.specs.Call.{Answering, Judged, Written};
+use closure::Answer;
+use records::BookCheck;
+use records::ClaimsCheck;
+use records::Record;
+use records::Refusal;
+use settling::Settled;
+
+pub mod facts;
+pub mod hops;
+pub mod kinds;
+pub mod search;
+pub mod writing;
+
+// What the call says: the answer, or the refusal and its place.
+pub enum Reply {
+    Answered(Answer),
+    Refused(Refusal, usize),
+}
+
+// And how many steps it wrote.
+pub struct Chain {
+    pub reply: Reply,
+    pub steps: usize,
+}
+
+// The chain for the claim, or else for its opposite. The kinds of opposite claims add up to 5.
+fn write_found(
+    n: usize,
+    claim: Record,
+    book: &[u8],
+    voids: &[u64],
+    e: &[u64],
+    d: &[u64],
+    t: &[u64],
+    c: &mut [u8],
+) -> Chain
+    requires { ⌜ Ground n claim (now book) (now voids) (now e) (now d) (now t) × (stated claim ≡ true) × Within n (saying claim) × (164000 ≤ length (now c)) ⌝ }
+    ensures { λ r. ⌜ Answering n claim (now (book .entry)) (now (c .entry)) r (now (c .exit)) ⌝ }
+{
+    let kind = claim.kind;
+    let a = claim.a;
+    let b = claim.b;
+    let m = crate::kinds::chain_for(n, claim, book, voids, e, d, t, kind, a, b, c);
+    if 0 < m {
+        return Chain {
+            reply: Reply::Answered(Answer::Follows),
+            steps: m,
+        };
+    }
+    let k = crate::kinds::chain_for(n, claim, book, voids, e, d, t, 5 - kind, a, b, c);
+    if 0 < k {
+        return Chain {
+            reply: Reply::Answered(Answer::Denied),
+            steps: k,
+        };
+    }
+    Chain {
+        reply: Reply::Answered(Answer::Open),
+        steps: 0,
+    }
+}
+
+// A restricted claim: from the steps, D and T of the cutting sheets, for which the matrices are used again. Steps cite the records by their numbers in the book.
+fn write_restricted(
+    n: usize,
+    claim: Record,
+    book: &[u8],
+    voids: &[u64],
+    e: &mut [u64],
+    d: &mut [u64],
+    t: &mut [u64],
+    c: &mut [u8],
+) -> Chain
+    requires { ⌜ (bookCheck (now book) ≡ is.Accepted n) × MarksOf (now book) (now voids) × (false ≡ clash (marked (now book)) n (facts (now book))) × (length (now e) ≡ 65536) × (length (now d) ≡ 65536) × (length (now t) ≡ 65536) × ((claim .origin ≡ 0) → ⊥) × (stated claim ≡ true) × Within n (saying claim) × (164000 ≤ length (now c)) ⌝ }
+    ensures { λ r. ⌜ Answering n claim (now (book .entry)) (now (c .entry)) r (now (c .exit)) ⌝ }
+{
+    let mut kept = [0u8; 49152];
+    let mut parens = [0u8; 2560];
+    let mut marks = [0u8; 1280];
+    let mut shadows = [0u16; 8192];
+    let mut places = [0u16; 2048];
+    let length = records::keep_sheets(book, &mut kept);
+    let run = &kept[..length];
+    settling::settle(
+        run,
+        n,
+        voids,
+        e,
+        d,
+        t,
+        &mut parens,
+        &mut marks,
+        &mut shadows,
+        &mut places,
+    );
+    write_found(n, claim, book, voids, e, d, t, c)
+}
+
+fn refuse(refusal: Refusal, place: usize) -> Chain
+    ensures { λ r. ⌜ r ≡ record { reply = Refused refusal place; steps = 0 } ⌝ }
+{
+    Chain {
+        reply: Reply::Refused(refusal, place),
+        steps: 0,
+    }
+}
+
+// Row 14 and the chain, for a book and a claim that pass the rows before.
+fn judge(book: &[u8], n: usize, claim: Record, c: &mut [u8]) -> Chain
+    requires { ⌜ (bookCheck (now book) ≡ is.Accepted n) × (stated claim ≡ true) × Within n (saying claim) × (164000 ≤ length (now c)) ⌝ }
+    ensures { λ r. ⌜ Judged n claim (now (book .entry)) (now (c .entry)) r (now (c .exit)) ⌝ }
+{
+    let mut voids = [0u64; 32];
+    closure::marking::mark_voids(book, &mut voids);
+    let mut e = [0u64; 65536];
+    let mut d = [0u64; 65536];
+    let mut t = [0u64; 65536];
+    let mut parens = [0u8; 2560];
+    let mut marks = [0u8; 1280];
+    let mut shadows = [0u16; 8192];
+    let mut places = [0u16; 2048];
+    let settled = settling::settle(
+        book,
+        n,
+        &voids,
+        &mut e,
+        &mut d,
+        &mut t,
+        &mut parens,
+        &mut marks,
+        &mut shadows,
+        &mut places,
+    );
+    match settled {
+        Settled::Clash(place) => refuse(Refusal::Contradiction, place),
+        Settled::Free(_, _) => {
+            if claim.origin == 0 {
+                return write_found(n, claim, book, &voids, &e, &d, &t, c);
+            }
+            write_restricted(n, claim, book, &voids, &mut e, &mut d, &mut t, c)
+        }
+    }
+}
+
+// Writes the chain behind the answer to the one claim about the book; which of several is free.
+pub fn write_chain(book: &[u8], claim: &[u8], steps: &mut [u8]) -> Chain
+    ensures { λ r. ⌜ Written (now (book .entry)) (now (claim .entry)) (now (steps .entry)) r (now (steps .exit)) ⌝ }
+{
+    if steps.len() < 164000 {
+        return refuse(Refusal::ShortSteps, 0);
+    }
+    let checked = records::check_book(book);
+    match checked {
+        BookCheck::Refused(refusal, place) => refuse(refusal, place),
+        BookCheck::Accepted(n) => {
+            if claim.len() != 6 {
+                return refuse(Refusal::ClaimsLength, 0);
+            }
+            let fit = records::check_claims(claim, n);
+            match fit {
+                ClaimsCheck::Refused(refusal, place) => refuse(refusal, place),
+                ClaimsCheck::Accepted => judge(book, n, records::record_at(claim, 0), steps),
+            }
+        }
+    }
+}

@@ -1,0 +1,283 @@
+//! Chains against the papers' words. The library's chain for every claim of a small book must pass the library's check and the one below, which is written from document
+//! 02 alone; then bytes of good chains are damaged, and the two checks must agree on each.
+
+use crate::books::*;
+use crate::piecebook::{chain, chain_check, Chained};
+use crate::reference::{judge, Change, Edition, Lengths};
+use crate::{damaged, many, small_contradictory, small_sound, Buffer, LEAST};
+
+const ROOM: usize = 164_000;
+
+/// What must occur: numbers, answers, rule numbers in chains that the library writes, and damaged chains that pass and that do not.
+#[derive(Default)]
+pub struct Met {
+    pub numbers: [usize; 22],
+    pub answers: [usize; 4],
+    pub rules: [usize; 12],
+    pub damaged: [usize; 2],
+    pub longest: usize,
+}
+
+fn number(bytes: &[u8], at: usize) -> usize {
+    usize::from(bytes[at]) + 256 * usize::from(bytes[at + 1])
+}
+
+/// A step as document 02 has it.
+#[derive(Clone, Copy)]
+struct Step {
+    rule: u8,
+    kind: u8,
+    a: usize,
+    b: usize,
+    first: usize,
+    second: usize,
+}
+
+impl Step {
+    fn read(bytes: &[u8]) -> Step {
+        Step { rule: bytes[0], kind: bytes[1], a: number(bytes, 2), b: number(bytes, 4), first: number(bytes, 6), second: number(bytes, 8) }
+    }
+
+    /// Unordered kinds either way round.
+    fn shows(&self, kind: u8, a: usize, b: usize) -> bool {
+        self.kind == kind && ((self.a, self.b) == (a, b) || ((kind == APART || kind == MEETS) && (self.a, self.b) == (b, a)))
+    }
+}
+
+/// Document 02's check on a book and a claim that are accepted, for a book of so many pieces.
+fn passes(book: &[u8], pieces: usize, claim: &[u8], chain: &[u8]) -> bool {
+    if chain.is_empty() || chain.len() % 10 != 0 || chain.len() > ROOM {
+        return false;
+    }
+    let records: Vec<&[u8]> = book.chunks(6).collect();
+    let void: Vec<bool> = (0..pieces).map(|piece| records.iter().any(|r| r[0] == VOID && number(r, 2) == piece)).collect();
+    let steps: Vec<Step> = chain.chunks(10).map(Step::read).collect();
+    let holds = |i: usize, s: &Step| -> bool {
+        if !(1..=4).contains(&s.kind) || s.a >= pieces || s.b >= pieces {
+            return false;
+        }
+        let marks = |piece: usize| records.get(s.first).is_some_and(|r| r[0] == VOID && number(r, 2) == piece);
+        match s.rule {
+            0 => {
+                s.second == 0
+                    && records.get(s.first).is_some_and(|r| (1..=4).contains(&r[0]) && (claim[1] == 0 || r[1] == 0) && s.shows(r[0], number(r, 2), number(r, 4)))
+            }
+            3 => (s.first, s.second) == (0, 0) && s.kind == PART && s.a == s.b,
+            4 => (s.first, s.second) == (0, 0) && s.kind == PART && s.b == 0,
+            9 => (s.first, s.second) == (0, 0) && s.kind == MEETS && s.a == s.b && !void[s.a],
+            10 => s.second == 0 && s.kind == APART && (marks(s.a) || marks(s.b)),
+            11 => s.second == 0 && s.kind == PART && marks(s.a),
+            1 | 2 | 5..=8 => {
+                if s.first >= i || s.second >= i {
+                    return false;
+                }
+                let (p, q) = (&steps[s.first], &steps[s.second]);
+                // the rule at every g, h, k that the steps name
+                let named = [s.a, s.b, p.a, p.b, q.a, q.b];
+                named.iter().any(|&g| {
+                    named.iter().any(|&h| {
+                        named.iter().any(|&k| {
+                            let (x, y, z) = match s.rule {
+                                1 => ((PART, g, h), (PART, h, k), (PART, g, k)),
+                                2 => ((PART, g, h), (APART, h, k), (APART, g, k)),
+                                5 => ((PART, g, h), (NOTPART, g, k), (NOTPART, h, k)),
+                                6 => ((NOTPART, g, k), (PART, h, k), (NOTPART, g, h)),
+                                7 => ((PART, h, k), (MEETS, g, h), (MEETS, g, k)),
+                                _ => ((MEETS, g, h), (APART, k, h), (NOTPART, g, k)),
+                            };
+                            p.shows(x.0, x.1, x.2) && q.shows(y.0, y.1, y.2) && s.shows(z.0, z.1, z.2)
+                        })
+                    })
+                })
+            }
+            _ => false,
+        }
+    };
+    let last = &steps[steps.len() - 1];
+    let (kind, a, b) = (claim[0], number(claim, 2), number(claim, 4));
+    steps.iter().enumerate().all(|(i, s)| holds(i, s)) && (last.shows(kind, a, b) || last.shows(5 - kind, a, b))
+}
+
+/// Number, place and answer of the call, from the reference's rows; and the piece count.
+fn expected(book: &[u8], claim: &[u8], room: usize) -> (usize, usize, usize, usize) {
+    if room < ROOM {
+        return (15, 0, 0, 0);
+    }
+    let alone = judge(book, Edition::InForce, None, LEAST).outcome;
+    let rows = |number: usize| (3..=9).contains(&number) || number == 19;
+    if rows(alone.number) {
+        return (alone.number, alone.place, 0, 0);
+    }
+    if claim.len() != 6 {
+        return (10, 0, 0, 0);
+    }
+    let with = judge(book, Edition::InForce, Some(claim), Lengths { answers: 1, ..LEAST });
+    let answer = match &with.change {
+        Change::IndexAndAnswers(_, answers) => usize::from(answers[0]),
+        _ => 0,
+    };
+    (with.outcome.number, with.outcome.place, answer, with.outcome.pieces)
+}
+
+/// One claim: the library's chain, held to both checks.
+fn ask(random: &mut Random, book: &[u8], claim: &[u8], room: usize, met: &mut Met) -> Result<Vec<u8>, String> {
+    let (number, place, answer, pieces) = expected(book, claim, room);
+    let mut steps = Buffer::new(random, room, |x| x as u8);
+    let mut after = steps.clone();
+    let before = (book.to_vec(), claim.to_vec());
+    let got = chain(book, claim, steps.lend());
+    met.numbers[number] += 1;
+    met.answers[answer] += 1;
+    let wanted = Chained { number, place, answer, steps: got.steps };
+    if got != wanted || got.steps > 16400 || (got.steps > 0) != (answer == 1 || answer == 2) {
+        return Err(format!("got {got:?}, expected {wanted:?}"));
+    }
+    let written = steps.lend()[..10 * got.steps].to_vec();
+    after.write(&written);
+    if let Some(at) = steps.difference(&after) {
+        return Err(format!("the steps differ behind the chain, at {at}"));
+    }
+    if before != (book.to_vec(), claim.to_vec()) {
+        return Err("the book or the claim was written to".into());
+    }
+    if !written.is_empty() {
+        if !passes(book, pieces, claim, &written) {
+            return Err(format!("a written chain does not pass the reference's check: {written:?}"));
+        }
+        let last = Step::read(&written[written.len() - 10..]);
+        let kind = if answer == 1 { claim[0] } else { 5 - claim[0] };
+        if !last.shows(kind, usize::from(claim[2]) + 256 * usize::from(claim[3]), usize::from(claim[4]) + 256 * usize::from(claim[5])) {
+            return Err("the last step shows another fact than the answer".into());
+        }
+    }
+    if chain_check(book, claim, &written) != usize::from(!written.is_empty()) {
+        return Err(format!("the library's check disagrees on what was written: {written:?}"));
+    }
+    written.chunks(10).for_each(|s| met.rules[usize::from(s[0])] += 1);
+    met.longest = met.longest.max(got.steps);
+    Ok(written)
+}
+
+/// A good chain with a few bytes changed, a step cut out or put in twice, or two exchanged.
+fn damage(random: &mut Random, chain: &[u8]) -> Vec<u8> {
+    let mut bytes = chain.to_vec();
+    let steps = bytes.len() / 10;
+    match random.below(8) {
+        0 => {
+            bytes.truncate(random.below(bytes.len() + 1));
+        }
+        1 => {
+            let at = 10 * random.below(steps);
+            bytes.drain(at..at + 10);
+        }
+        2 => {
+            let at = 10 * random.below(steps);
+            let copy = bytes[at..at + 10].to_vec();
+            bytes.splice(at..at, copy);
+        }
+        3 => {
+            let (i, j) = (random.below(steps), random.below(steps));
+            (0..10).for_each(|k| bytes.swap(10 * i + k, 10 * j + k));
+        }
+        _ => {
+            for _ in 0..1 + random.below(2) {
+                let at = random.below(bytes.len());
+                bytes[at] = if random.one_in(2) { random.below(13) as u8 } else { random.next() as u8 };
+            }
+        }
+    }
+    bytes
+}
+
+fn some_book(random: &mut Random, number: usize) -> Vec<u8> {
+    match number % 4 {
+        0 if number % 8 == 0 => small_contradictory(random).book,
+        1 | 2 => damaged(random, number).book,
+        3 if number % 100 == 3 => many(8193).concat(),
+        _ => small_sound(random).book,
+    }
+}
+
+/// Every claim of a book of few pieces, restricted or not; some of a larger one, and fewer of a refused one.
+fn claims_of(random: &mut Random, pieces: usize, refused: bool) -> Vec<Bytes> {
+    if pieces <= 5 && !refused {
+        let all = all_claims(pieces);
+        return all.iter().flat_map(|&claim| [of(SHEET, claim), of(SCANNER, claim)]).collect();
+    }
+    (0..if refused { 3 } else { 40 }).map(|_| of(random.below(2) as u8, record(random.range(1, 5) as u8, random.below(pieces), random.below(pieces)))).collect()
+}
+
+/// All claims of one book, and damaged chains; what went wrong, if anything.
+pub fn play(random: &mut Random, number: usize, met: &mut Met) -> Option<String> {
+    let book = some_book(random, number);
+    let alone = judge(&book, Edition::InForce, None, LEAST).outcome;
+    let pieces = alone.pieces.max(1);
+    let mut tried = Ok(());
+    for claim in claims_of(random, pieces, alone.number != 0) {
+        let room = if random.one_in(50) { ROOM - 1 - random.below(3) * random.below(ROOM) / 3 } else { ROOM + random.below(30) };
+        let claim = match random.below(90) {
+            0 => claim[..random.below(6)].to_vec(),
+            1 => [claim, claim].concat(),
+            2 => record(random.pick(&[0, 5, 6, 255]), 0, 0).to_vec(),
+            3 => of(2, claim).to_vec(),
+            4 => record(claim[0], pieces, 0).to_vec(),
+            _ => claim.to_vec(),
+        };
+        tried = tried.and_then(|()| {
+            let written = ask(random, &book, &claim, room, met)?;
+            for _ in 0..if written.is_empty() { 0 } else { 3 } {
+                let bytes = damage(random, &written);
+                let wanted = passes(&book, pieces, &claim, &bytes);
+                met.damaged[usize::from(wanted)] += 1;
+                if chain_check(&book, &claim, &bytes) != usize::from(wanted) {
+                    return Err(format!("the checks disagree, {wanted} by the reference: claim {claim:?}, chain {bytes:?}"));
+                }
+            }
+            Ok(())
+        });
+    }
+    tried.err().map(|wrong| format!("{wrong}; book {book:?}"))
+}
+
+/// Claims on a book of 2,048 pieces in one line, and chains of other claims and of refused books, which do not pass.
+pub fn deep(random: &mut Random, met: &mut Met) -> Option<String> {
+    let mut records: Vec<Bytes> = (1..2048).map(|part| record(PART, part, part - 1)).collect();
+    records.push(record(NOTPART, 3, 2000));
+    let book = records.concat();
+    let asked = [record(PART, 2047, 1), record(NOTPART, 1, 2047), record(MEETS, 2047, 2), record(APART, 5, 2047), record(PART, 2, 2047), record(NOTPART, 2, 2047)];
+    for claim in asked {
+        let chain = match ask(random, &book, &claim, ROOM, met) {
+            Ok(chain) => chain,
+            Err(wrong) => return Some(format!("deep book, claim {claim:?}: {wrong}")),
+        };
+        let other = record(PART, 9, 8);
+        let refused = [&book[..], &record(VOID, 0, 0)[..]].concat();
+        if !chain.is_empty() && (chain_check(&book, &other, &chain) != 0 || chain_check(&refused, &claim, &chain) != 0 || chain_check(&book, &claim[..5], &chain) != 0) {
+            return Some(format!("deep book, claim {claim:?}: its chain passes for another claim, a refused book or no claim"));
+        }
+    }
+    None
+}
+
+/// The session's ten claims, a line each with the steps of its chain; what went wrong, if anything.
+pub fn session(random: &mut Random, met: &mut Met) -> Option<String> {
+    const BOOK: &[u8] = include_bytes!("../../examples/book.rec");
+    const CLAIMS: &[u8] = include_bytes!("../../examples/claims");
+    const NAMES: [&str; 5] = ["", "PART", "APART", "MEETS", "NOTPART"];
+    for (i, claim) in CLAIMS.chunks(6).enumerate() {
+        let wanted = [1, 2, 3, 1, 2, 1, 1, 1, 1, 3][i];
+        let chain = match ask(random, BOOK, claim, ROOM, met) {
+            Ok(chain) => chain,
+            Err(wrong) => return Some(format!("session, claim {i}: {wrong}")),
+        };
+        let answer = expected(BOOK, claim, ROOM).2;
+        if answer != wanted {
+            return Some(format!("session, claim {i} has answer {answer}"));
+        }
+        let told = |s: &Step| format!("{} {} {} by {}", s.a, NAMES[usize::from(s.kind)], s.b, ["record", "a", "b", "c", "f", "a'", "b'", "c'", "d'", "e'", "d", "e"][usize::from(s.rule)]);
+        let steps: Vec<String> = chain.chunks(10).map(|s| told(&Step::read(s))).collect();
+        let name = ["", "FOLLOWS", "DENIED", "OPEN"][answer];
+        println!("chain {i} {} {} {} {name}: {}", NAMES[usize::from(claim[0])], number(claim, 2), number(claim, 4), if steps.is_empty() { "no steps".into() } else { steps.join(", ") });
+    }
+    None
+}
