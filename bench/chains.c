@@ -128,7 +128,7 @@ static void measure(const char *name, const sample *s, unsigned kind, unsigned a
 /* As many steps as a chain may have: a long chain with its last step over and over. */
 static void measure_longest(const sample *s)
 {
-    double index[RUNS], check[RUNS];
+    double index[RUNS], check[RUNS], plain[RUNS];
     uint8_t claim[6];
     write_record(claim, 1, PIECES - 1, 1);
     unsigned m = piecebook_chain(s->book, s->records * 6, claim, 6, steps, sizeof steps).steps;
@@ -139,11 +139,30 @@ static void measure_longest(const sample *s)
         index[i] = index_time(s);
         double t0 = now();
         size_t passes = piecebook_chain_check(s->book, s->records * 6, claim, 6, steps, sizeof steps);
-        check[i] = now() - t0;
-        if (passes != 1)
+        double t1 = now();
+        int plain_passes = plain_check(s->book, s->records, PIECES, claim, steps, PIECEBOOK_STEPS);
+        check[i] = t1 - t0, plain[i] = now() - t1;
+        if (passes != 1 || !plain_passes)
             printf("the longest chain does not pass\n"), exit(1);
     }
-    printf("chains: 16,400 steps checked in %.0f us beyond an index call\n", median(check, RUNS) - median(index, RUNS));
+    double more = median(check, RUNS) - median(index, RUNS);
+    printf("chains: 16,400 steps checked in %.0f us beyond an index call; C %.0f us; ratio %.2f\n", more, median(plain, RUNS), more / median(plain, RUNS));
+}
+
+/* The claim of a kind with the longest chain among some hundred. */
+static void measure_kind(const char *name, const sample *s, unsigned kind)
+{
+    unsigned most = 0, a = 0, b = 0;
+    uint8_t claim[6];
+    for (unsigned i = 0; i < 400; i++) {
+        unsigned x = below(PIECES), y = below(PIECES);
+        write_record(claim, kind, x, y);
+        piecebook_chain_result r = piecebook_chain(s->book, s->records * 6, claim, 6, steps, sizeof steps);
+        if (r.answer == PIECEBOOK_FOLLOWS && r.steps > most)
+            most = r.steps, a = x, b = y;
+    }
+    if (most > 0)
+        measure(name, s, kind, a, b);
 }
 
 int main(void)
@@ -156,6 +175,8 @@ int main(void)
         if (shape == DEEP) {
             measure("deep, PART along the whole line", &s, 1, PIECES - 1, 1);
             measure("deep, MEETS by a common piece", &s, 3, PIECES - 2, 1);
+            measure_kind("deep, APART", &s, 2);
+            measure_kind("deep, NOTPART", &s, 4);
             measure_longest(&s);
         }
     }

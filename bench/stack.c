@@ -59,6 +59,22 @@ static void *comparison(void *unused)
     return unused;
 }
 
+/* A restricted claim, for which the cutting sheets are settled too. */
+static uint8_t steps[PIECEBOOK_STEP_BYTES];
+static const uint8_t claim[6] = {PART, 1, 2047 & 255, 2047 >> 8, 1, 0};
+
+static void *chain(void *unused)
+{
+    piecebook_chain(s.book, s.records * 6, claim, sizeof claim, steps, sizeof steps);
+    return unused;
+}
+
+static void *chain_check(void *unused)
+{
+    piecebook_chain_check(s.book, s.records * 6, claim, sizeof claim, steps, sizeof steps);
+    return unused;
+}
+
 /* In the new process: runs f on a stack of the given size, below which no page can be touched. */
 static void on_stack(void *f(void *), size_t size)
 {
@@ -138,6 +154,8 @@ int main(void)
     shuffle(&s);
     measure("deep, catalog", catalog);
     measure("deep, a log", replicates);
+    measure("deep, a chain", chain);
+    measure("deep, a chain checked", chain_check);
     make_sample(&s, DEEP, 2048, 8192, 4096);
     shuffle(&s);
     restrict_half(&s);
