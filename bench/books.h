@@ -6,7 +6,8 @@
 #include <string.h>
 
 enum { PART = 1, APART, MEETS, NOTPART, TRAY };
-enum shape { TREE, DEEP, LADDER, DENSE };
+/* Containers have lower numbers up to DENSE, and any from SHUFFLED on. */
+enum shape { TREE, DEEP, LADDER, DENSE, SHUFFLED, WORST, COUPLES, EIGHTS, ROUND, WHOLE, SCATTERED };
 
 typedef struct {
     unsigned records, claims;
@@ -60,38 +61,108 @@ static void add_containers(sample *s, enum shape shape, unsigned part)
         for (unsigned i = 0; i < 3; i++)
             add(s, PART, part, part - 1 - below(part < 60 ? part : 60));
         break;
+    default:
+        break;
+    }
+}
+
+static void add_ring(sample *s, unsigned first, unsigned count)
+{
+    for (unsigned i = 0; i < count; i++)
+        add(s, PART, first + i, first + (i + 1) % count);
+}
+
+/* The tree of above under shuffled numbers. */
+static void add_shuffled(sample *s, unsigned pieces)
+{
+    uint16_t name[2048];
+    for (unsigned p = 0; p < pieces; p++)
+        name[p] = p;
+    for (unsigned p = pieces - 1; p > 1; p--) {
+        unsigned q = 1 + below(p);
+        uint16_t n = name[p];
+        name[p] = name[q], name[q] = n;
+    }
+    for (unsigned part = 1; part < pieces; part++) {
+        add(s, PART, name[part], name[(part - 1) / 3]);
+        if (below(10) == 0)
+            add(s, PART, name[part], name[below(part)]);
+    }
+}
+
+static void add_free(sample *s, enum shape shape, unsigned pieces, unsigned records)
+{
+    switch (shape) {
+    case SHUFFLED:
+        add_shuffled(s, pieces);
+        break;
+    case WORST: /* one chain, each container's number the next */
+        for (unsigned part = 1; part + 1 < pieces; part++)
+            add(s, PART, part, part + 1);
+        break;
+    case COUPLES: /* circles of two in a chain */
+        for (unsigned part = 1; part + 1 < pieces; part += 2) {
+            add_ring(s, part, 2);
+            if (part > 2)
+                add(s, PART, part, part - 2);
+        }
+        break;
+    case EIGHTS: /* circles of eight, each in two before */
+        for (unsigned part = 1; part + 7 < pieces; part += 8) {
+            add_ring(s, part, 8);
+            if (part > 8) {
+                add(s, PART, part, 1 + below(part - 1));
+                add(s, PART, part + 3, 1 + below(part - 1));
+            }
+        }
+        break;
+    case ROUND: /* one circle of all but 0 */
+        add_ring(s, 1, pieces - 1);
+        break;
+    case WHOLE: /* one circle of all */
+        add_ring(s, 0, pieces);
+        break;
+    case SCATTERED: /* as many pairs as there are records */
+        while (s->records < records)
+            add(s, PART, 1 + below(pieces - 1), 1 + below(pieces - 1));
+        break;
+    default:
+        break;
     }
 }
 
 enum { GRAINS = 512 / 64 };
 static uint64_t ice[2048][GRAINS];
 
-/* A laying of the PART records: each piece gets a grain or two, and all that its parts have. */
+static int pour(unsigned part, unsigned container)
+{
+    uint64_t more = 0;
+    for (unsigned w = 0; w < GRAINS; w++) {
+        more |= ice[part][w] & ~ice[container][w];
+        ice[container][w] |= ice[part][w];
+    }
+    return more != 0;
+}
+
+/* A laying of the PART records: each piece gets a grain or two, and all that its parts have, from the last record up and from the first down until none gets
+   more. */
 static void lay(const sample *s, unsigned pieces)
 {
-    static uint16_t container[8192], next[8192], first[2048];
     memset(ice, 0, sizeof ice);
-    memset(first, 0xff, sizeof first);
-    for (unsigned i = 0; i < s->records; i++) {
-        const uint8_t *r = s->book + i * 6;
-        unsigned part = r[2] | r[3] << 8;
-        container[i] = r[4] | r[5] << 8;
-        next[i] = first[part];
-        first[part] = i;
-    }
     for (unsigned p = 0; p < pieces; p++)
         for (unsigned i = 0; i < 2; i++) {
             unsigned grain = below(512);
             ice[p][grain / 64] |= (uint64_t)1 << grain % 64;
         }
-    for (unsigned p = pieces; p-- > 1;)
-        for (unsigned i = first[p], c = 0;; i = next[i], c = 0) {
-            c = i == 0xffff ? 0 : container[i];
-            for (unsigned w = 0; w < GRAINS; w++)
-                ice[c][w] |= ice[p][w];
-            if (i == 0xffff)
-                break;
+    for (int more = 1, rising = 0; more; rising = !rising) {
+        more = 0;
+        for (unsigned j = 0; j < s->records; j++) {
+            const uint8_t *r = s->book + (rising ? j : s->records - 1 - j) * 6;
+            more |= pour(r[2] | r[3] << 8, r[4] | r[5] << 8);
         }
+        for (unsigned p = 1; p < pieces; p++)
+            more |= pour(p, 0);
+    }
 }
 
 static int keeps(unsigned kind, unsigned a, unsigned b)
@@ -111,6 +182,7 @@ static void make_sample(sample *s, enum shape shape, unsigned pieces, unsigned r
     s->records = 0;
     for (unsigned part = 1; part < pieces; part++)
         add_containers(s, shape, part);
+    add_free(s, shape, pieces, records);
     lay(s, pieces);
     while (s->records < records) {
         unsigned kind = APART + below(3), a = below(pieces), b = below(pieces);

@@ -180,5 +180,7 @@ int main(void)
             measure_longest(&s);
         }
     }
+    make_sample(&s, ROUND, PIECES, 8192, 0);
+    measure("a circle of all but 0, PART all the way round", &s, 1, 2, 1);
     return 0;
 }

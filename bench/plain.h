@@ -24,6 +24,8 @@ piecebook_catalog_result plain_catalog(const uint8_t *book, size_t book_length, 
 size_t plain_fact_between(const uint16_t *area, size_t area_length, size_t count, size_t unordered,
                           size_t row_from, size_t row_to, size_t column_from, size_t column_to);
 
+piecebook_range plain_subtree(const uint8_t *parentheses, size_t parentheses_length, const uint16_t *places, size_t places_length, size_t piece);
+
 piecebook_replicates_result plain_replicates(const uint8_t *book, size_t book_length, piecebook_window window,
                                              const uint8_t *log, size_t log_length, uint8_t *out, size_t out_length);
 

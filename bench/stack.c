@@ -147,6 +147,16 @@ int main(void)
     measure("ladder", whole);
     restrict_half(&s);
     measure("ladder, half restricted", whole);
+    make_sample(&s, WORST, 2048, 8192, 4096);
+    shuffle(&s);
+    measure("chain in the worst order", whole);
+    restrict_half(&s);
+    measure("chain in the worst order, half restricted", whole);
+    make_sample(&s, ROUND, 2048, 8192, 4096);
+    shuffle(&s);
+    measure("a circle of all but 0", whole);
+    restrict_half(&s);
+    measure("a circle of all but 0, half restricted", whole);
     make_sample(&s, DEEP, 2048, 8192, 4096);
     contradict_late(&s);
     measure("deep, contradictory", whole);
@@ -156,6 +166,10 @@ int main(void)
     measure("deep, a log", replicates);
     measure("deep, a chain", chain);
     measure("deep, a chain checked", chain_check);
+    make_sample(&s, ROUND, 2048, 8192, 0);
+    shuffle(&s);
+    measure("a circle of all but 0, a chain", chain);
+    measure("a circle of all but 0, a chain checked", chain_check);
     make_sample(&s, DEEP, 2048, 8192, 4096);
     shuffle(&s);
     restrict_half(&s);

@@ -97,24 +97,32 @@ static void measure_convert(const char *name, const sample *s, unsigned runs)
 
 int main(void)
 {
-    static const char *accepted[] = {"tree-like", "deep", "ladder", "dense"};
-    static const char *restricted[] = {"tree-like, half restricted", "deep, half restricted", "ladder, half restricted", "dense, half restricted"};
-    static const char *contradictory[] = {"tree-like, contradictory", "deep, contradictory", "ladder, contradictory", "dense, contradictory"};
+    static const char *names[] = {"tree-like", "deep", "ladder", "dense", "tree-like, shuffled numbers", "chain in the worst order", "circles of two in a chain",
+                                  "circles of eight", "a circle of all but 0", "a circle of all", "random pairs"};
     static sample s;
-    for (unsigned shape = TREE; shape <= DENSE; shape++) {
+    char name[80];
+    for (unsigned shape = TREE; shape <= SCATTERED; shape++) {
         make_sample(&s, shape, 2048, 8192, 4096);
         shuffle(&s);
-        measure(accepted[shape], &s, 11, 0);
-        measure_restricted(restricted[shape], &s, 21);
+        measure(names[shape], &s, 11, 0);
+        snprintf(name, sizeof name, "%s, half restricted", names[shape]);
+        measure_restricted(name, &s, 21);
+        if (shape > DENSE)
+            continue; /* row 8 of the former edition refuses it */
         put_on_trays(&s, 2048);
-        measure_convert(accepted[shape], &s, 21);
+        measure_convert(names[shape], &s, 21);
     }
-    for (unsigned shape = TREE; shape <= DENSE; shape++) {
+    for (unsigned shape = TREE; shape <= SCATTERED; shape++) {
         make_sample(&s, shape, 2048, 8192, 4096);
         contradict_late(&s);
-        measure(contradictory[shape], &s, 3, 14);
+        snprintf(name, sizeof name, "%s, contradictory", names[shape]);
+        measure(name, &s, 3, 14);
     }
     make_sample(&s, TREE, 40, 100, 100);
     measure("small", &s, MOST, 0);
+    make_sample(&s, EIGHTS, 42, 100, 100);
+    measure("small, circles of eight", &s, MOST, 0);
+    make_sample(&s, WHOLE, 40, 100, 100);
+    measure("small, a circle of all", &s, MOST, 0);
     return 0;
 }

@@ -20,14 +20,15 @@ extern "C" {
 enum { PIECEBOOK_CUTTING_SHEET = 0, PIECEBOOK_SCANNER = 1 };
 enum { PIECEBOOK_ALL_FACTS = 0, PIECEBOOK_SHEETS_ONLY = 1 };
 
-/* Byte 0 of a record: a fact of a and b, or with the last kind that piece a is void, which has b zero and a not zero. A claim has one of the first four. */
+/* Byte 0 of a record: a fact of a and b, or with the last kind that piece a is void, which has b zero and a not zero. A claim has one of the first four. In PART a lies
+   wholly in its container b, which has any number: pieces that lie in each other through a circle of such records, every piece lying in 0, are the same ice. */
 enum { PIECEBOOK_PART = 1, PIECEBOOK_APART = 2, PIECEBOOK_MEETS = 3, PIECEBOOK_NOTPART = 4, PIECEBOOK_VOID = 6 };
 
 /* The answer bytes. */
 enum { PIECEBOOK_FOLLOWS = 1, PIECEBOOK_DENIED = 2, PIECEBOOK_OPEN = 3 };
 
-/* number is 0 for an accepted book, or the number of the refusal, 1, 3 to 14 or 19, whose record or claim is place; the counts are 0 for a refusal.
-   A book of no bytes is piece 0 alone: accepted, with counts 1, 1 and 0. */
+/* number is 0 for an accepted book, or the number of the refusal, 1, 3 to 7, 9 to 14 or 19, whose record or claim is place; the counts are 0 for a refusal. Pieces
+   that are the same ice have one node, and nodes counts these and the shadows. A book of no bytes is piece 0 alone: accepted, with counts 1, 1 and 0. */
 typedef struct {
     size_t number;
     size_t place;
@@ -37,7 +38,8 @@ typedef struct {
 } piecebook_result;
 
 /* Answers the claims, one byte each at the front of answers, and writes the index; what is unused of the four parts, up to the lengths above, is
-   zero. A refusal writes nothing, but that 14 zeroes the four parts up to these lengths. Later answer bytes stay as they are. */
+   zero. Pieces that are the same ice have the same place. A refusal writes nothing, but that 14 zeroes the four parts up to these lengths. Later answer bytes stay as
+   they are. */
 piecebook_result piecebook_answer(const uint8_t *book, size_t book_length, const uint8_t *claims, size_t claims_length,
                                   uint8_t *parentheses, size_t parentheses_length, uint8_t *marks, size_t marks_length,
                                   uint16_t *shadows, size_t shadows_length, uint16_t *places, size_t places_length,
@@ -90,7 +92,9 @@ piecebook_working_result piecebook_withdraw(piecebook_working *state, uint8_t *a
 
 /* Answers one claim. It writes nothing. */
 piecebook_working_result piecebook_ask(piecebook_working *state, const uint8_t *area, size_t area_length, const uint8_t *claim, size_t claim_length);
-/* number is 0 where a new book was written, whose bytes are length; or the number of the refusal, 1, 3 to 9 or 14, whose record is place. */
+
+/* number is 0 where a new book was written, whose bytes are length; or the number of the refusal, 1, 3 to 9 or 14, whose record is place. 8 is for a PART whose
+   container's number is not below the part's: the former edition alone refuses that. */
 typedef struct {
     size_t number;
     size_t place;
@@ -106,7 +110,7 @@ piecebook_converted piecebook_convert(const uint8_t *book, size_t book_length, u
 #define PIECEBOOK_LIST 2048
 #define PIECEBOOK_PAIRS 16384
 
-/* number is 0 for an accepted book, or the number of the refusal, 1, 3 to 9, 12 to 14 or 17, whose record is place; the counts are 0 for a refusal.
+/* number is 0 for an accepted book, or the number of the refusal, 1, 3 to 7, 9, 12 to 14, 17 or 19, whose record is place; the counts are 0 for a refusal.
    listed counts pieces; meets, apart and notpart count pairs. */
 typedef struct {
     size_t number;

@@ -34,11 +34,28 @@ def named(record):
     return max(a, b) if kind in NAMES else a
 
 
+def groups(pairs, pieces):
+    """The group of each piece: those that it is PART of and that are PART of it, every piece being PART of 0."""
+    inside = {piece: {piece, 0} for piece in range(pieces)}
+    for part, container in pairs:
+        inside[part].add(container)
+    changed = True
+    while changed:
+        changed = False
+        for piece, above in inside.items():
+            more = set().union(*(inside[container] for container in above))
+            changed |= not more <= above
+            above |= more
+    return [frozenset(other for other in inside[piece] if piece in inside[other]) for piece in range(pieces)]
+
+
 def counts(pairs, pieces):
-    """Nodes and shadows: one node for piece 0 and one for each pair, joins included; the first pair of each part is its node."""
-    held = {part for part, _ in pairs}
-    nodes = 1 + len(pairs) + sum(1 for piece in range(1, pieces) if piece not in held)
-    return f"PIECES {pieces} NODES {nodes} SHADOWS {nodes - pieces}\n"
+    """Nodes and shadows: one node for the group of 0 and one for each pair of groups, joins included; the first pair of each part is its node."""
+    group = groups(pairs, pieces)
+    edges = {(group[part], group[container]) for part, container in pairs if group[part] != group[container]}
+    held = {part for part, _ in edges} | {group[0]}
+    nodes = 1 + len(edges) + len(set(group) - held)
+    return f"PIECES {pieces} NODES {nodes} SHADOWS {nodes - len(set(group))}\n"
 
 
 def page(records, claims):
@@ -121,6 +138,35 @@ def cases():
     ]:
         assert line == page(records, [])
         yield name, run_of(records), b"", line
+    # R-13: a container has any number, and pieces in a circle are one node
+    about = [(kind, a, b) for a in range(4) for b in range(4) for kind in NAMES]
+    for name, records, line in [
+        ("PART 3 3", [(PART, 3, 3)], "PIECES 4 NODES 4 SHADOWS 0\n"),
+        ("PART 0 0", [(PART, 0, 0)], "PIECES 1 NODES 1 SHADOWS 0\n"),
+        ("a circle of two", [(PART, 1, 2), (PART, 2, 1), (MEETS, 3, 0)], "PIECES 4 NODES 3 SHADOWS 0\n"),
+        ("0 in a piece", [(PART, 0, 1)], "PIECES 2 NODES 1 SHADOWS 0\n"),
+        ("a bag numbered late", [(PART, 1, 3), (PART, 2, 3), (PART, 3, 0)], "PIECES 4 NODES 4 SHADOWS 0\n"),
+        ("a shadow of a circle", [(PART, 4, 3), (PART, 3, 4), (PART, 4, 2), (PART, 3, 1)], "PIECES 5 NODES 5 SHADOWS 1\n"),
+        ("a circle in two circles", [(PART, a, b) for a, b in [(1, 2), (2, 1), (3, 4), (4, 3), (5, 6), (6, 5), (5, 1), (6, 3), (5, 2)]], "PIECES 7 NODES 5 SHADOWS 1\n"),
+        ("a circle with a NOTPART in it", [(PART, 1, 2), (PART, 2, 1), (NOTPART, 1, 2)], "REFUSED 14 2\n"),
+        ("a circle that closes on a NOTPART", [(NOTPART, 3, 2), (PART, 2, 3), (PART, 3, 1), (MEETS, 0, 4), (PART, 1, 2)], "REFUSED 14 4\n"),
+        ("a circle of all pieces", [(PART, a, (a + 1) % 5) for a in range(5)], "PIECES 5 NODES 1 SHADOWS 0\n"),
+    ]:
+        assert line == page(records, []), (name, page(records, []))
+        claims = [claim for claim in about if max(claim[1:]) <= max(map(named, records))]
+        yield name, run_of(records), run_of(claims), page(records, claims)
+    words = ["0 PART 2 1 FOLLOWS", "1 NOTPART 1 2 DENIED", "2 PART 3 1 FOLLOWS", "3 PART 1 3 OPEN", "4 APART 4 2 FOLLOWS", "5 MEETS 3 4 DENIED", "6 NOTPART 2 4 FOLLOWS"]
+    circle = [(PART, 1, 2), (PART, 2, 1), (PART, 3, 2), (APART, 4, 1)]
+    asked_of_it = run_of([(PART, 2, 1), (NOTPART, 1, 2), (PART, 3, 1), (PART, 1, 3), (APART, 4, 2), (MEETS, 3, 4), (NOTPART, 2, 4)])
+    yield "claims about a circle", run_of(circle), asked_of_it, "PIECES 5 NODES 4 SHADOWS 0\n" + "".join(word + "\n" for word in words)
+    ring = run_of([(PART, a, a % 2046 + 1) for a in range(1, 2047)])
+    words = ["0 PART 1 2046 FOLLOWS", "1 PART 2046 1 FOLLOWS", "2 NOTPART 1000 999 DENIED", "3 PART 0 1 OPEN", "4 APART 1 2047 OPEN"]
+    asked_of_it = run_of([(PART, 1, 2046), (PART, 2046, 1), (NOTPART, 1000, 999), (PART, 0, 1), (APART, 1, 2047)])
+    yield "a circle of 2,046 pieces", ring + six(MEETS, 0, 2047), asked_of_it, "PIECES 2048 NODES 3 SHADOWS 0\n" + "".join(word + "\n" for word in words)
+    line = run_of([(PART, a, a + 1) for a in range(1, 2047)])
+    words = ["0 PART 1 2047 FOLLOWS", "1 PART 2047 1 OPEN", "2 MEETS 2047 1 FOLLOWS", "3 NOTPART 5 2000 DENIED"]
+    asked_of_it = run_of([(PART, 1, 2047), (PART, 2047, 1), (MEETS, 2047, 1), (NOTPART, 5, 2000)])
+    yield "a line whose containers come late", line, asked_of_it, "PIECES 2048 NODES 2048 SHADOWS 0\n" + "".join(word + "\n" for word in words)
     yield "a mark of piece 0", session + six(VOID, 0, 0), asked, "REFUSED 19 9\n"
     yield "a claim of kind 6", session, asked + six(VOID, 1, 0), "REFUSED 12 10\n"
     yield "a TRAY record", six(PART, 1, 0) + six(TRAY, 1, 7), asked, "REFUSED 5 1\n"
@@ -129,7 +175,6 @@ def cases():
         (6, six(APART, 1, 2, 9)),
         (7, six(MEETS, 2048, 1)),
         (19, six(VOID, 1, 3)),
-        (8, six(PART, 2, 3)),
         (9, six(*SESSION[4])),
     ]:
         yield f"number {number} in record 9", session + record, asked, f"REFUSED {number} 9\n"

@@ -72,8 +72,9 @@ pub fn give_origins(random: &mut Random, all: &mut [Bytes]) {
     }
 }
 
-#[derive(Clone, Copy, Debug)]
+#[derive(Clone, Copy, Debug, PartialEq)]
 pub enum Shape {
+    // Containers have lower numbers.
     /// each part in one container or two, a few levels
     Tree,
     /// one long chain, each part in its neighbour, some in earlier ones too
@@ -84,10 +85,39 @@ pub enum Shape {
     Dense,
     /// most pieces in no container
     Flat,
+    // They have any.
+    /// one of these under shuffled numbers
+    Shuffled,
+    /// one chain, each container's number the next
+    Worst,
+    /// a shuffled book with circles of 2 to 8 pieces thrown in
+    Circles,
+    /// circles of two pieces, one in the other
+    Couples,
+    /// a circle through most pieces, the others in it and around it
+    Long,
+    /// a circle through all pieces, 0 too
+    Whole,
+    /// 0 in some other pieces or in all
+    Around,
+    /// circles in two others each, and single pieces between them
+    Entwined,
+    /// pairs at random
+    Scattered,
 }
 use Shape::*;
 
-pub const SHAPES: [Shape; 5] = [Tree, Deep, Ladder, Dense, Flat];
+pub const RISING: [Shape; 5] = [Tree, Deep, Ladder, Dense, Flat];
+pub const FREE: [Shape; 9] = [Shuffled, Worst, Circles, Couples, Long, Whole, Around, Entwined, Scattered];
+
+/// Containers with lower numbers in half of the books.
+pub fn some_shape(random: &mut Random) -> Shape {
+    if random.one_in(2) {
+        random.pick(&RISING)
+    } else {
+        random.pick(&FREE)
+    }
+}
 
 fn containers(random: &mut Random, shape: Shape, part: usize, dense: usize) -> Vec<usize> {
     let mut all = vec![];
@@ -113,7 +143,7 @@ fn containers(random: &mut Random, shape: Shape, part: usize, dense: usize) -> V
                 all.push(random.below(part));
             }
         }
-        Flat => {
+        _ => {
             if random.one_in(8) {
                 all.push(random.below(part));
             }
@@ -125,21 +155,111 @@ fn containers(random: &mut Random, shape: Shape, part: usize, dense: usize) -> V
     all
 }
 
-fn pairs(random: &mut Random, shape: Shape, pieces: usize, dense: usize) -> Vec<(usize, usize)> {
-    let mut all = HashSet::new();
-    let mut list = vec![];
+type Pair = (usize, usize);
+
+fn rising_pairs(random: &mut Random, shape: Shape, pieces: usize, dense: usize) -> Vec<Pair> {
+    let mut all = vec![];
     for part in 1..pieces {
-        for container in containers(random, shape, part, dense) {
-            if all.insert((part, container)) {
-                list.push((part, container));
-            }
-        }
+        all.extend(containers(random, shape, part, dense).into_iter().map(|container| (part, container)));
     }
-    list
+    all
+}
+
+/// Each in the next, the last in the first.
+fn ring(members: &[usize]) -> Vec<Pair> {
+    (0..members.len()).map(|i| (members[i], members[(i + 1) % members.len()])).collect()
+}
+
+/// Circles and single pieces, each in some of those before it.
+fn entwined(random: &mut Random, names: &[usize]) -> Vec<Pair> {
+    let mut all = vec![];
+    let mut groups: Vec<&[usize]> = vec![];
+    let mut rest = names;
+    while !rest.is_empty() {
+        let (group, others) = rest.split_at(random.range(1, 5).min(rest.len()));
+        if group.len() > 1 {
+            all.extend(ring(group));
+        }
+        for _ in 0..if groups.is_empty() { 0 } else { random.below(4) } {
+            let near = random.below(groups.len().min(6));
+            let container = groups[groups.len() - 1 - near];
+            all.push((random.pick(group), random.pick(container)));
+        }
+        groups.push(group);
+        rest = others;
+    }
+    all
+}
+
+/// Pairs whose containers have any number; `names` has the pieces but 0 in the order of the shape.
+fn free_pairs(random: &mut Random, shape: Shape, pieces: usize, dense: usize, names: &[usize]) -> Vec<Pair> {
+    let shuffled = |random: &mut Random, shapes: &[Shape]| {
+        let shape = random.pick(shapes);
+        let name = |piece: usize| if piece == 0 { 0 } else { names[piece - 1] };
+        rising_pairs(random, shape, pieces, dense).into_iter().map(|(part, container)| (name(part), name(container))).collect::<Vec<Pair>>()
+    };
+    let some_rings = |random: &mut Random, count: usize| {
+        let mut all = vec![];
+        for _ in 0..count {
+            let mut members = names.to_vec();
+            for i in 0..members.len().min(8) {
+                let other = random.range(i, members.len());
+                members.swap(i, other);
+            }
+            members.truncate(random.range(2, 9));
+            all.extend(ring(&members));
+        }
+        all
+    };
+    match shape {
+        Shuffled => shuffled(random, &RISING),
+        Worst => names.windows(2).map(|two| (two[0], two[1])).collect(),
+        Circles => {
+            let count = 1 + random.below(1 + pieces / 20);
+            [shuffled(random, &[Tree, Flat, Dense]), some_rings(random, count)].concat()
+        }
+        Couples => names.chunks(2).flat_map(ring).chain(names.chunks(2).zip(names.chunks(2).skip(1)).map(|(above, two)| (two[0], above[0]))).collect(),
+        Long => {
+            let (circle, others) = names.split_at(if random.one_in(2) { names.len() } else { names.len() - names.len() / 4 });
+            let more: Vec<Pair> = others.iter().map(|&other| (other, random.pick(names))).collect();
+            let mut back: Vec<Pair> = others.iter().map(|&other| (random.pick(circle), other)).collect();
+            back.retain(|_| random.one_in(3));
+            if random.one_in(4) {
+                back.push((0, random.pick(names)));
+            }
+            [ring(circle), more, back].concat()
+        }
+        Whole => ring(&[&[0], names].concat()),
+        Around => {
+            let count = if random.one_in(4) { names.len() } else { random.range(1, 4).min(names.len()) };
+            [shuffled(random, &RISING), names[..count].iter().map(|&name| (0, name)).collect()].concat()
+        }
+        Entwined => entwined(random, names),
+        _ => (0..pieces * (1 + random.below(2 * dense.min(4) + 2)) / 2).map(|_| (random.below(pieces), random.below(pieces))).collect(),
+    }
+}
+
+fn pairs(random: &mut Random, shape: Shape, pieces: usize, dense: usize) -> Vec<Pair> {
+    let mut all = if RISING.contains(&shape) || pieces == 1 {
+        rising_pairs(random, if pieces == 1 { Flat } else { shape }, pieces, dense)
+    } else {
+        let mut names: Vec<usize> = (1..pieces).collect();
+        // in order: each circle or chain the longest way round
+        if shape != Worst && (!matches!(shape, Couples | Long | Whole) || random.one_in(2)) {
+            random.shuffle(&mut names);
+        }
+        free_pairs(random, shape, pieces, dense, &names)
+    };
+    if FREE.contains(&shape) && random.one_in(3) {
+        all.extend((0..random.range(1, 4)).map(|_| random.below(pieces)).map(|piece| (piece, piece)));
+    }
+    let mut seen = HashSet::new();
+    all.retain(|pair| seen.insert(*pair));
+    all
 }
 
 /// Some pieces that can be void together: never 0, and with a piece all its parts; at most so many.
-fn some_void(random: &mut Random, pieces: usize, pairs: &[(usize, usize)], tries: usize, most: usize) -> Vec<bool> {
+fn some_void(random: &mut Random, pieces: usize, pairs: &[Pair], tries: usize, most: usize) -> Vec<bool> {
     let mut parts = vec![vec![]; pieces];
     for &(part, container) in pairs {
         parts[container].push(part);
@@ -156,7 +276,7 @@ fn some_void(random: &mut Random, pieces: usize, pairs: &[(usize, usize)], tries
                 waiting.extend(&parts[piece]);
             }
         }
-        if more.iter().filter(|&&marked| marked).count() <= most {
+        if !more[0] && more.iter().filter(|&&marked| marked).count() <= most {
             void = more;
         }
     }
@@ -164,7 +284,7 @@ fn some_void(random: &mut Random, pieces: usize, pairs: &[(usize, usize)], tries
 }
 
 /// A set of grains for each piece, a part's within its containers'; none for a void one.
-fn lay(random: &mut Random, pieces: usize, pairs: &[(usize, usize)], void: &[bool]) -> Vec<[u64; 8]> {
+fn lay(random: &mut Random, pieces: usize, pairs: &[Pair], void: &[bool]) -> Vec<[u64; 8]> {
     let mut sets = vec![[0u64; 8]; pieces];
     for (_, set) in sets.iter_mut().enumerate().filter(|(piece, _)| !void[*piece]) {
         for _ in 0..1 + random.below(2) {
@@ -181,11 +301,15 @@ fn lay(random: &mut Random, pieces: usize, pairs: &[(usize, usize)], void: &[boo
     for &(part, container) in pairs {
         up[part].push(container);
     }
-    for part in (1..pieces).rev() {
+    // until nothing changes: the pieces of a circle come to have the same ice
+    let mut waiting: Vec<usize> = (0..pieces).collect();
+    while let Some(part) = waiting.pop() {
         let set = sets[part];
         for &container in &up[part] {
-            for w in 0..8 {
-                sets[container][w] |= set[w];
+            let more: [u64; 8] = std::array::from_fn(|w| sets[container][w] | set[w]);
+            if more != sets[container] {
+                sets[container] = more;
+                waiting.push(container);
             }
         }
     }
@@ -240,11 +364,15 @@ pub fn sound(random: &mut Random, plan: Plan) -> Vec<Bytes> {
     }
     // the last piece first, so that it is named
     let mut a = plan.pieces - 1;
+    let mut tries = 0;
     while plan.fill && book.len() < plan.records || book.len() < plan.records && random.one_in(3) {
-        let next = random.pick(&[record(MEETS, a, a), record(MEETS, a, 0), record(MEETS, 0, a), record(NOTPART, 0, a)]);
-        let kept = if next[0] == MEETS { keeps(&sets, MEETS, a, a) } else { keeps(&sets, NOTPART, 0, a) };
-        if kept && seen.insert(next) {
-            book.push(next);
+        // a part meets its container, either way round; at last any piece, where these run out
+        let (part, container) = if pairs.is_empty() { (a, 0) } else { random.pick(&pairs) };
+        tries += 1;
+        let b = if tries > 8 * plan.records { random.below(plan.pieces) } else { 0 };
+        let next = random.pick(&[(MEETS, a, a), (MEETS, a, b), (MEETS, b, a), (NOTPART, 0, a), (MEETS, part, container), (MEETS, container, part)]);
+        if keeps(&sets, next.0, next.1, next.2) && seen.insert(record(next.0, next.1, next.2)) {
+            book.push(record(next.0, next.1, next.2));
         }
         a = random.below(plan.pieces);
     }
@@ -310,6 +438,21 @@ pub fn near_claims(random: &mut Random, pieces: usize, count: usize) -> Vec<Byte
         .map(|_| {
             let a = random.below(pieces);
             let b = (a + pieces - random.below(pieces.min(8))) % pieces;
+            record(1 + random.below(4) as u8, a, b)
+        })
+        .collect();
+    give_origins(random, &mut all);
+    all
+}
+
+/// Claims about pieces that one record of the book names, or two, either way round.
+pub fn named_claims(random: &mut Random, book: &[Bytes], count: usize) -> Vec<Bytes> {
+    let number = |r: Bytes, at: usize| usize::from(u16::from_le_bytes([r[at], r[at + 1]]));
+    let mut all: Vec<Bytes> = (0..if book.is_empty() { 0 } else { count })
+        .map(|_| {
+            let one = random.pick(book);
+            let other = if random.one_in(2) { one } else { random.pick(book) };
+            let (a, b) = (number(one, random.pick(&[2, 4])), number(other, random.pick(&[2, 4])));
             record(1 + random.below(4) as u8, a, b)
         })
         .collect();

@@ -1,7 +1,7 @@
 //! Catalogs against the reference: the outcome, every number of index, list and areas, and the range question on them. On altered areas the question
 //! need only be answered.
 
-use crate::books::{of, record, Random, APART, PART, SCANNER, VOID};
+use crate::books::{of, record, Random, APART, MEETS, NOTPART, PART, SCANNER, VOID};
 use crate::piecebook::{self, Areas, Cataloged, Parts, Range, LIST, PAIRS};
 use crate::reference::{catalog, ExpectedCatalog, Lengths, Lists, AREAS};
 use crate::{Buffer, Lent};
@@ -219,4 +219,24 @@ pub fn void_piece(random: &mut Random) -> Option<String> {
         (3, 0, vec![0, 2, 3]),
     ];
     by_hand(random, &book, counts, [[0; 3], [2, 3, 0], [0; 3]], &lists).map(|wrong| format!("catalog of a void piece, {wrong}"))
+}
+
+/// Pieces 1 and 2 are one piece: what is known of one is listed for both, and their stored facts have the same places.
+pub fn circle(random: &mut Random) -> Option<String> {
+    let facts = [(PART, 1, 2), (PART, 2, 1), (MEETS, 1, 3), (MEETS, 3, 2), (APART, 1, 4), (APART, 4, 2), (NOTPART, 1, 3), (NOTPART, 2, 3)];
+    let book: Vec<u8> = facts.iter().flat_map(|&(kind, a, b)| record(kind, a, b)).collect();
+    let counts = Cataloged { pieces: 5, nodes: 4, meets: 1, apart: 1, notpart: 1, ..Cataloged::default() };
+    let lists = [
+        (1, 1, vec![1, 2]),
+        (1, 2, vec![1, 2]),
+        (1, 0, vec![0, 1, 2, 3, 4]),
+        (2, 1, vec![4]),
+        (2, 2, vec![4]),
+        (2, 4, vec![1, 2]),
+        (3, 1, vec![0, 1, 2, 3]),
+        (3, 2, vec![0, 1, 2, 3]),
+        (3, 3, vec![0, 1, 2, 3]),
+        (3, 4, vec![0, 4]),
+    ];
+    by_hand(random, &book, counts, [[1, 2, 0], [1, 3, 0], [1, 2, 0]], &lists).map(|wrong| format!("catalog of a circle, {wrong}"))
 }

@@ -2,13 +2,13 @@
 //! 02 alone; then bytes of good chains are damaged, and the two checks must agree on each.
 
 use crate::books::*;
-use crate::piecebook::{chain, chain_check, Chained};
-use crate::reference::{judge, Change, Edition, Lengths};
-use crate::{damaged, many, small_contradictory, small_sound, Buffer, LEAST};
+use crate::piecebook::{chain, chain_check, Chained, Outcome};
+use crate::reference::{judge, Change, Edition, Lengths, Seen};
+use crate::{damaged, many, middle, small_contradictory, small_sound, Buffer, LEAST};
 
 const ROOM: usize = 164_000;
 
-/// What must occur: numbers, answers, rule numbers in chains that the library writes, and damaged chains that pass and that do not.
+/// What must occur: numbers, answers, rule numbers in chains that the library writes, damaged chains that pass and that do not, and circles.
 #[derive(Default)]
 pub struct Met {
     pub numbers: [usize; 22],
@@ -16,6 +16,7 @@ pub struct Met {
     pub rules: [usize; 12],
     pub damaged: [usize; 2],
     pub longest: usize,
+    pub seen: Seen,
 }
 
 fn number(bytes: &[u8], at: usize) -> usize {
@@ -98,12 +99,16 @@ fn passes(book: &[u8], pieces: usize, claim: &[u8], chain: &[u8]) -> bool {
     steps.iter().enumerate().all(|(i, s)| holds(i, s)) && (last.shows(kind, a, b) || last.shows(5 - kind, a, b))
 }
 
-/// Number, place and answer of the call, from the reference's rows; and the piece count.
-fn expected(book: &[u8], claim: &[u8], room: usize) -> (usize, usize, usize, usize) {
+/// What the book comes to without claims.
+fn alone(book: &[u8]) -> Outcome {
+    judge(book, Edition::InForce, None, LEAST).outcome
+}
+
+/// Number, place and answer of the call, from the reference's rows and from what the book comes to alone; and the piece count.
+fn expected(book: &[u8], alone: Outcome, claim: &[u8], room: usize) -> (usize, usize, usize, usize) {
     if room < ROOM {
         return (15, 0, 0, 0);
     }
-    let alone = judge(book, Edition::InForce, None, LEAST).outcome;
     let rows = |number: usize| (3..=9).contains(&number) || number == 19;
     if rows(alone.number) {
         return (alone.number, alone.place, 0, 0);
@@ -119,9 +124,9 @@ fn expected(book: &[u8], claim: &[u8], room: usize) -> (usize, usize, usize, usi
     (with.outcome.number, with.outcome.place, answer, with.outcome.pieces)
 }
 
-/// One claim: the library's chain, held to both checks.
-fn ask(random: &mut Random, book: &[u8], claim: &[u8], room: usize, met: &mut Met) -> Result<Vec<u8>, String> {
-    let (number, place, answer, pieces) = expected(book, claim, room);
+/// One claim: its answer and the library's chain, held to both checks.
+fn ask(random: &mut Random, book: &[u8], alone: Outcome, claim: &[u8], room: usize, met: &mut Met) -> Result<(usize, Vec<u8>), String> {
+    let (number, place, answer, pieces) = expected(book, alone, claim, room);
     let mut steps = Buffer::new(random, room, |x| x as u8);
     let mut after = steps.clone();
     let before = (book.to_vec(), claim.to_vec());
@@ -155,7 +160,7 @@ fn ask(random: &mut Random, book: &[u8], claim: &[u8], room: usize, met: &mut Me
     }
     written.chunks(10).for_each(|s| met.rules[usize::from(s[0])] += 1);
     met.longest = met.longest.max(got.steps);
-    Ok(written)
+    Ok((answer, written))
 }
 
 /// A good chain with a few bytes changed, a step cut out or put in twice, or two exchanged.
@@ -194,6 +199,10 @@ fn some_book(random: &mut Random, number: usize) -> Vec<u8> {
         0 if number % 8 == 0 => small_contradictory(random).book,
         1 | 2 => damaged(random, number).book,
         3 if number % 100 == 3 => many(8193).concat(),
+        3 if number % 40 == 7 => {
+            let shape = random.pick(&FREE);
+            middle(random, shape, number / 40).book
+        }
         _ => small_sound(random).book,
     }
 }
@@ -201,8 +210,7 @@ fn some_book(random: &mut Random, number: usize) -> Vec<u8> {
 /// Every claim of a book of few pieces, restricted or not; some of a larger one, and fewer of a refused one.
 fn claims_of(random: &mut Random, pieces: usize, refused: bool) -> Vec<Bytes> {
     if pieces <= 5 && !refused {
-        let all = all_claims(pieces);
-        return all.iter().flat_map(|&claim| [of(SHEET, claim), of(SCANNER, claim)]).collect();
+        return all_claims(pieces);
     }
     (0..if refused { 3 } else { 40 }).map(|_| of(random.below(2) as u8, record(random.range(1, 5) as u8, random.below(pieces), random.below(pieces)))).collect()
 }
@@ -210,7 +218,8 @@ fn claims_of(random: &mut Random, pieces: usize, refused: bool) -> Vec<Bytes> {
 /// All claims of one book, and damaged chains; what went wrong, if anything.
 pub fn play(random: &mut Random, number: usize, met: &mut Met) -> Option<String> {
     let book = some_book(random, number);
-    let alone = judge(&book, Edition::InForce, None, LEAST).outcome;
+    let alone = alone(&book);
+    met.seen.note(&book, alone.number);
     let pieces = alone.pieces.max(1);
     let mut tried = Ok(());
     for claim in claims_of(random, pieces, alone.number != 0) {
@@ -224,7 +233,7 @@ pub fn play(random: &mut Random, number: usize, met: &mut Met) -> Option<String>
             _ => claim.to_vec(),
         };
         tried = tried.and_then(|()| {
-            let written = ask(random, &book, &claim, room, met)?;
+            let (_, written) = ask(random, &book, alone, &claim, room, met)?;
             for _ in 0..if written.is_empty() { 0 } else { 3 } {
                 let bytes = damage(random, &written);
                 let wanted = passes(&book, pieces, &claim, &bytes);
@@ -239,24 +248,54 @@ pub fn play(random: &mut Random, number: usize, met: &mut Met) -> Option<String>
     tried.err().map(|wrong| format!("{wrong}; book {book:?}"))
 }
 
-/// Claims on a book of 2,048 pieces in one line, and chains of other claims and of refused books, which do not pass.
-pub fn deep(random: &mut Random, met: &mut Met) -> Option<String> {
-    let mut records: Vec<Bytes> = (1..2048).map(|part| record(PART, part, part - 1)).collect();
-    records.push(record(NOTPART, 3, 2000));
+/// Claims on a book of 2,048 pieces with the answers that they must have, and chains of other claims and of refused books, which do not pass.
+fn long(random: &mut Random, name: &str, records: &[Bytes], asked: &[(Bytes, usize)], met: &mut Met) -> Option<String> {
     let book = records.concat();
-    let asked = [record(PART, 2047, 1), record(NOTPART, 1, 2047), record(MEETS, 2047, 2), record(APART, 5, 2047), record(PART, 2, 2047), record(NOTPART, 2, 2047)];
-    for claim in asked {
-        let chain = match ask(random, &book, &claim, ROOM, met) {
-            Ok(chain) => chain,
-            Err(wrong) => return Some(format!("deep book, claim {claim:?}: {wrong}")),
+    let alone = alone(&book);
+    for (claim, wanted) in asked {
+        let chain = match ask(random, &book, alone, claim, ROOM, met) {
+            Ok((answer, chain)) if answer == *wanted => chain,
+            Ok((answer, _)) => return Some(format!("{name}, claim {claim:?}: its answer is {answer}, not {wanted}")),
+            Err(wrong) => return Some(format!("{name}, claim {claim:?}: {wrong}")),
         };
-        let other = record(PART, 9, 8);
+        let other = record(MEETS, 0, 0);
         let refused = [&book[..], &record(VOID, 0, 0)[..]].concat();
-        if !chain.is_empty() && (chain_check(&book, &other, &chain) != 0 || chain_check(&refused, &claim, &chain) != 0 || chain_check(&book, &claim[..5], &chain) != 0) {
-            return Some(format!("deep book, claim {claim:?}: its chain passes for another claim, a refused book or no claim"));
+        if !chain.is_empty() && (chain_check(&book, &other, &chain) != 0 || chain_check(&refused, claim, &chain) != 0 || chain_check(&book, &claim[..5], &chain) != 0) {
+            return Some(format!("{name}, claim {claim:?}: its chain passes for another claim, a refused book or no claim"));
         }
     }
     None
+}
+
+/// All pieces in one line.
+pub fn deep(random: &mut Random, met: &mut Met) -> Option<String> {
+    let mut records: Vec<Bytes> = (1..2048).map(|part| record(PART, part, part - 1)).collect();
+    records.push(record(NOTPART, 3, 2000));
+    let asked = [
+        (record(PART, 2047, 1), 1),
+        (record(NOTPART, 1, 2047), 1),
+        (record(MEETS, 2047, 2), 1),
+        (record(APART, 5, 2047), 2),
+        (record(PART, 2, 2047), 2),
+        (record(NOTPART, 2, 2047), 1),
+    ];
+    long(random, "deep book", &records, &asked, met)
+}
+
+/// Pieces 1 to 2,046 in one circle, 2,047 beside it: whatever is known of one of them goes all round.
+pub fn round(random: &mut Random, met: &mut Met) -> Option<String> {
+    let mut records: Vec<Bytes> = (1..2047).map(|part| record(PART, part, part % 2046 + 1)).collect();
+    records.extend([record(APART, 2047, 1000), record(NOTPART, 0, 1000)]);
+    let asked = [
+        (record(PART, 1, 2046), 1),
+        (of(SCANNER, record(PART, 3, 2)), 1),
+        (record(NOTPART, 5, 4), 2),
+        (record(MEETS, 2047, 1001), 2),
+        (record(NOTPART, 1001, 2047), 1),
+        (record(PART, 2047, 1001), 2),
+        (record(NOTPART, 0, 1001), 1),
+    ];
+    long(random, "round book", &records, &asked, met)
 }
 
 /// The session's ten claims, a line each with the steps of its chain; what went wrong, if anything.
@@ -266,11 +305,10 @@ pub fn session(random: &mut Random, met: &mut Met) -> Option<String> {
     const NAMES: [&str; 5] = ["", "PART", "APART", "MEETS", "NOTPART"];
     for (i, claim) in CLAIMS.chunks(6).enumerate() {
         let wanted = [1, 2, 3, 1, 2, 1, 1, 1, 1, 3][i];
-        let chain = match ask(random, BOOK, claim, ROOM, met) {
-            Ok(chain) => chain,
+        let (answer, chain) = match ask(random, BOOK, alone(BOOK), claim, ROOM, met) {
+            Ok(asked) => asked,
             Err(wrong) => return Some(format!("session, claim {i}: {wrong}")),
         };
-        let answer = expected(BOOK, claim, ROOM).2;
         if answer != wanted {
             return Some(format!("session, claim {i} has answer {answer}"));
         }

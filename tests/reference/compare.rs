@@ -2,16 +2,20 @@
 
 use crate::books::*;
 use crate::piecebook::{compare, Compared, OPEN};
-use crate::reference::{answer, contradiction, read_book, read_claims, Book, Edition, Refusal};
+use crate::reference::{answer, contradiction, read_book, read_claims, Book, Edition, Refusal, Seen};
 use crate::rules::Fact;
 use crate::{damaged, many, small_contradictory, small_plan, small_sound, Buffer};
+use std::collections::HashSet;
 
-/// What must occur: numbers by the book that they are of, and the third byte by whether the books can be laid together and mark the same pieces.
+/// What must occur: numbers by the book that they are of, the third byte by whether the books can be laid together and mark the same pieces, and circles in a book and
+/// in the records of both.
 #[derive(Default)]
 pub struct Met {
     pub numbers: [[usize; 22]; 3],
     pub third: [[usize; 4]; 4],
     pub larger: [usize; 3],
+    pub seen: Seen,
+    pub joined: Seen,
 }
 
 struct Pair {
@@ -59,8 +63,8 @@ impl Pair {
         let claims = read_claims(&self.claims, pieces).map_err(|refusal| (0, refusal))?;
         let first = widened(first, pieces);
         let second = widened(second, pieces);
-        let shared = |r: &[u8]| self.first.chunks(6).any(|own| own == r);
-        let others = self.second.chunks(6).zip(&second.facts).filter(|(r, _)| !shared(r)).map(|(_, fact)| *fact);
+        let shared: HashSet<&[u8]> = self.first.chunks(6).collect();
+        let others = self.second.chunks(6).zip(&second.facts).filter(|(r, _)| !shared.contains(r)).map(|(_, fact)| *fact);
         let facts: Vec<Option<Fact>> = first.facts.iter().copied().chain(others).collect();
         let void: Vec<bool> = first.void.iter().zip(&second.void).map(|(one, other)| *one || *other).collect();
         let together = contradiction(pieces, &facts, &void, doubt).is_none();
@@ -81,6 +85,15 @@ impl Pair {
             Err((book, (number, place))) => (Compared { number, place, book, together: 0 }, vec![]),
         };
         met.numbers[wanted.book][wanted.number] += 1;
+        if wanted.number == 0 {
+            met.seen.note(&self.first, 0);
+            met.seen.note(&self.second, 0);
+            let shared: HashSet<&[u8]> = self.first.chunks(6).collect();
+            let others: Vec<&[u8]> = self.second.chunks(6).filter(|r| !shared.contains(r)).collect();
+            met.joined.note(&[&self.first[..], &others.concat()].concat(), if wanted.together == 1 { 0 } else { 14 });
+        } else if wanted.book > 0 {
+            met.seen.note([&self.first, &self.second][wanted.book - 1], wanted.number);
+        }
         let mut out = Buffer::new(random, self.room, |x| x as u8);
         let mut after = out.clone();
         after.write(&bytes);
@@ -173,11 +186,11 @@ fn some_pair(random: &mut Random, number: usize) -> Pair {
         5 => (small_sound(random).book, small_sound(random).book),
         6 => (small_contradictory(random).book, small_sound(random).book),
         _ => {
-            let (one, other) = (damaged(random, number).book, small_contradictory(random).book);
-            if random.one_in(2) {
-                (one, other)
-            } else {
-                (other, one)
+            let one = damaged(random, number).book;
+            match random.below(4) {
+                0 => (one, small_contradictory(random).book),
+                1 => (small_contradictory(random).book, one),
+                _ => (small_sound(random).book, one),
             }
         }
     };
@@ -226,6 +239,10 @@ pub fn edges(random: &mut Random, met: &mut Met) -> Option<String> {
     let part = record(PART, 1, 0).to_vec();
     let meets = record(MEETS, 1, 1).to_vec();
     let too_many: Vec<u8> = claim.repeat(4097);
+    // halves of a circle, and what says that it is none
+    let (up, down) = (record(PART, 1, 2).to_vec(), record(PART, 2, 1).to_vec());
+    let other_half = [record(PART, 2, 1), record(NOTPART, 1, 2)].concat();
+    let about: Vec<u8> = all_claims(3).concat();
     let cases: Vec<(&[u8], &[u8], &[u8], usize)> = vec![
         (&most, &most, &claim, 3),
         (&most, &other, &claim, 3),
@@ -244,6 +261,9 @@ pub fn edges(random: &mut Random, met: &mut Met) -> Option<String> {
         (&void, &void, &meets, 3),
         (&[], &[], &[], 0),
         (&[], &part, &meets, 3),
+        (&up, &down, &about, about.len() / 2),
+        (&up, &other_half, &about, about.len() / 2),
+        (&up, &[], &about, about.len() / 2),
     ];
     cases.into_iter().enumerate().find_map(|(i, (first, second, claims, room))| {
         let pair = Pair { first: first.to_vec(), second: second.to_vec(), claims: claims.to_vec(), room };

@@ -2,7 +2,7 @@
 
 use crate::books::*;
 use crate::piecebook::{Working, WorkingOutcome, AREA, MARKS, PARENTHESES, PLACES, SHADOWS};
-use crate::reference::{judge, Change, Edition, Lengths};
+use crate::reference::{judge, Change, Edition, Lengths, Seen};
 
 enum Operation {
     Start,
@@ -93,11 +93,23 @@ fn alter(random: &mut Random, state: &mut Working, area: &mut [u8]) {
     }
 }
 
-/// Plays a day; the numbers that occurred, or what went wrong.
-pub fn play(random: &mut Random, numbers: &mut [usize]) -> Option<String> {
-    let pieces = random.range(2, 9);
-    let shape = random.pick(&SHAPES);
-    let mut records = sound(random, Plan { shape, pieces, records: 30, facts: 10, voids: 1, fill: false });
+/// What must occur: numbers, and books that stand or that an operation would have made.
+#[derive(Default)]
+pub struct Met {
+    pub numbers: [usize; 20],
+    pub seen: Seen,
+}
+
+/// Plays a day; what went wrong, if anything.
+pub fn play(random: &mut Random, day: usize, met: &mut Met) -> Option<String> {
+    let (shape, pieces) = match day % 3 {
+        0 => (random.pick(&RISING), random.range(2, 9)),
+        1 => (FREE[day / 3 % FREE.len()], random.range(2, 9)),
+        _ => (FREE[day / 3 % FREE.len()], random.range(11, 15)),
+    };
+    let mut records = sound(random, Plan { shape, pieces, records: 30, facts: 8, voids: 1, fill: false });
+    let together = records.clone();
+    let mut early: Vec<Bytes> = vec![];
     contradict(random, &mut records, pieces, 6);
     throw_marks(random, &mut records, pieces, 2);
     let claims = all_claims(pieces + 1);
@@ -119,11 +131,20 @@ pub fn play(random: &mut Random, numbers: &mut [usize]) -> Option<String> {
         if got != wanted || state != state_left || area[..length] != area_left[..] {
             return Some(format!("operation {number}: {got:?}, not {wanted:?}; counts {state:?}, not {state_left:?}"));
         }
-        numbers[wanted.number] += 1;
+        met.numbers[wanted.number] += 1;
+        match &next {
+            Operation::Add(record) if wanted.number == 14 => met.seen.note(&[&area[..6 * state.records], record].concat(), 14),
+            Operation::Add(_) | Operation::Withdraw(_) if wanted.number == 0 => met.seen.note(&area[..6 * state.records], 0),
+            _ => {}
+        }
         if random.one_in(25) {
             alter(random, &mut state, &mut area);
         }
-        next = operation(random, &records, &claims, state.records);
+        // from time to time the records that can stand together come in first
+        if matches!(next, Operation::Start) {
+            early = together[..random.pick(&[0, together.len() / 2, together.len()])].to_vec();
+        }
+        next = early.pop().map_or_else(|| operation(random, &records, &claims, state.records), |record| Operation::Add(record.to_vec()));
     }
     None
 }

@@ -14,8 +14,8 @@ mod sheets;
 
 use books::*;
 use piecebook::{Converted, Outcome, Parts};
-use reference::{convert, judge, Change, Edition, Expected, Lengths};
-use std::collections::BTreeMap;
+use reference::{convert, judge, Change, Edition, Expected, Lengths, Seen};
+use std::collections::{BTreeMap, BTreeSet};
 use std::time::Instant;
 
 /// A lent buffer: guard values, the lent part, guard values.
@@ -136,7 +136,7 @@ fn compare_to(expected: Expected, random: &mut Random, book: &[u8], claims: Opti
 
 /// Calls the library on a book and on the same records in another order, from equal buffers. Where no row but 14 refuses the book, all but the place
 /// of 14 is the same.
-fn reorder(random: &mut Random, case: &Case, claims: Option<&[u8]>) -> (usize, Option<String>) {
+fn reorder(random: &mut Random, case: &Case, claims: Option<&[u8]>) -> (usize, usize, Option<String>) {
     let mut records: Vec<&[u8]> = case.book.chunks(6).collect();
     random.shuffle(&mut records);
     let mut lent = Lent::new(random, case.lengths);
@@ -149,7 +149,7 @@ fn reorder(random: &mut Random, case: &Case, claims: Option<&[u8]>) -> (usize, O
     } else {
         Some(format!("{one:?} becomes {other:?}"))
     };
-    (usize::from(one.place != other.place), wrong)
+    (one.number, usize::from(one.place != other.place), wrong)
 }
 
 /// Converts the book into so much room, and says what is wrong. The new book must come to what the former one came to: index, counts and answers.
@@ -240,6 +240,9 @@ struct Tally {
     catalog_numbers: [usize; 20],
     /// answers to claims on all facts, then to restricted ones
     answers: [[usize; 4]; 2],
+    /// circles in the books of both calls, and of catalogs
+    seen: Seen,
+    catalog_seen: Seen,
 }
 
 impl Tally {
@@ -248,6 +251,7 @@ impl Tally {
         let (_, wrong_index) = compare(&mut self.random, &case.book, None, case.lengths);
         let wrong = wrong.or(wrong_index.map(|wrong| format!("index alone: {wrong}")));
         self.numbers[expected.outcome.number] += 1;
+        self.seen.note(&case.book, expected.outcome.number);
         if let Change::IndexAndAnswers(_, bytes) = &expected.change {
             case.claims.chunks(6).zip(bytes).for_each(|(claim, &byte)| self.answers[usize::from(claim[1])][usize::from(byte)] += 1);
         }
@@ -270,21 +274,31 @@ impl Tally {
         }
     }
 
-    /// Fails where a number or an answer did not occur: what never occurs is not tested. Number 2 is never given, 15 to 18 are of other calls.
+    /// Fails where just these numbers did not occur: what never occurs is not tested. Number 2 is never given, 8 by the converter alone, and its former books.
+    fn occurred(&mut self, whose: &str, given: &[usize], numbers: &[usize]) {
+        for number in 0..given.len() {
+            let wanted = numbers.contains(&number);
+            self.count((wanted != (given[number] > 0)).then(|| format!("{whose}: number {number} occurred {} times", given[number])));
+        }
+    }
+
+    /// Fails where a kind of circle did not occur.
+    fn circles_occurred(&mut self, whose: &str, seen: &Seen) {
+        for (occurred, what) in seen.all() {
+            self.count((!occurred).then(|| format!("{whose}: no {what} occurred")));
+        }
+    }
+
+    /// The same of the calls that answer, convert and catalog, and of answers.
     fn all_occurred(&mut self) {
-        for number in (0..self.numbers.len()).filter(|number| *number != 2 && !(15..19).contains(number)) {
-            let missing = self.numbers[number] == 0;
-            self.count(missing.then(|| format!("number {number} never occurred")));
-        }
-        for number in [0, 1, 3, 4, 5, 6, 7, 8, 9, 14] {
-            let missing = self.conversions[number] == 0;
-            self.count(missing.then(|| format!("number {number} never occurred in a conversion")));
-        }
-        // plain C has its catalog measured, not tried
-        for number in [0, 1, 3, 4, 5, 6, 7, 8, 9, 12, 13, 14, 17, 19] {
-            let missing = !cfg!(plain) && self.catalog_numbers[number] == 0;
-            self.count(missing.then(|| format!("number {number} never occurred in a catalog")));
-        }
+        let (numbers, conversions, catalogs) = (self.numbers, self.conversions, self.catalog_numbers);
+        self.occurred("the two calls", &numbers, &[0, 1, 3, 4, 5, 6, 7, 9, 10, 11, 12, 13, 14, 19]);
+        self.occurred("conversions", &conversions, &[0, 1, 3, 4, 5, 6, 7, 8, 9, 14]);
+        let seen = std::mem::take(&mut self.seen);
+        self.circles_occurred("the two calls", &seen);
+        self.occurred("catalogs", &catalogs, &[0, 1, 3, 4, 5, 6, 7, 9, 12, 13, 14, 17, 19]);
+        let seen = std::mem::take(&mut self.catalog_seen);
+        self.circles_occurred("catalogs", &seen);
         for (origin, answer) in [0, 1].into_iter().flat_map(|origin| (1..4).map(move |answer| (origin, answer))) {
             let missing = self.answers[origin][answer] == 0;
             self.count(missing.then(|| format!("answer {answer} to a claim of origin {origin} never occurred")));
@@ -296,31 +310,27 @@ impl Tally {
         let start = Instant::now();
         let failed = self.failed;
         let mut random = Random(9);
-        let mut numbers = [0; 20];
+        let mut met = days::Met::default();
         for day in 0..count {
-            let wrong = days::play(&mut random, &mut numbers);
+            let wrong = days::play(&mut random, day, &mut met);
             self.count(wrong.map(|wrong| format!("day {day}, {wrong}")));
         }
-        for number in [0, 1, 3, 4, 5, 9, 10, 12, 13, 14, 18, 19] {
-            let missing = numbers[number] == 0;
-            self.count(missing.then(|| format!("number {number} never occurred on a working book")));
-        }
-        println!("working books: {count} days; {} failed; {:.1} s", self.failed - failed, start.elapsed().as_secs_f64());
+        self.occurred("working books", &met.numbers, &[0, 1, 3, 4, 5, 6, 7, 9, 10, 12, 13, 14, 18, 19]);
+        self.circles_occurred("working books", &met.seen);
+        println!("working books: {count} days, {} circles; {} failed; {:.1} s", met.seen.circles(), self.failed - failed, start.elapsed().as_secs_f64());
     }
 
     /// The grids of books of few pieces.
     fn grids(&mut self, count: usize) {
         let start = Instant::now();
         let failed = self.failed;
-        let mut numbers = [0; 20];
-        for wrong in sheets::compare_all(&mut Random(64), count, &mut numbers) {
+        let (mut numbers, mut seen) = ([0; 20], Seen::default());
+        for wrong in sheets::compare_all(&mut Random(64), count, &mut numbers, &mut seen) {
             self.count(wrong.map(|wrong| format!("grids, {wrong}")));
         }
-        for number in [0, 14, 16] {
-            let missing = numbers[number] == 0;
-            self.count(missing.then(|| format!("number {number} never occurred with grids")));
-        }
-        println!("grids: {count} books, {} accepted; {} failed; {:.1} s", numbers[0], self.failed - failed, start.elapsed().as_secs_f64());
+        self.occurred("grids", &numbers, &[0, 3, 5, 6, 7, 9, 14, 16, 19]);
+        self.circles_occurred("grids", &seen);
+        println!("grids: {count} books, {} accepted, {} circles; {} failed; {:.1} s", numbers[0], seen.circles(), self.failed - failed, start.elapsed().as_secs_f64());
     }
 
     /// Catalogs of random books, and range questions on what they leave.
@@ -334,6 +344,7 @@ impl Tally {
             let (outcome, wrong) = catalogs::compare(&mut random, &case, &mut yes);
             *numbers.entry(outcome.number).or_insert(0) += 1;
             self.catalog_numbers[outcome.number] += 1;
+            self.catalog_seen.note(&case.book, outcome.number);
             self.count(wrong.map(|wrong| {
                 let bytes = if case.book.len() <= 600 { format!("{:?}", case.book) } else { format!("{} bytes", case.book.len()) };
                 format!("{name}, book {number}: {wrong}; book {bytes}, kind {}, piece {}", case.kind, case.piece)
@@ -363,10 +374,8 @@ impl Tally {
         }
         let wrong = replicates::longest(&mut random, &mut met);
         self.count(wrong.map(|wrong| format!("replicates, {wrong}")));
-        for number in [0, 1, 3, 4, 5, 6, 7, 8, 9, 14, 19, 20, 21] {
-            let missing = met.numbers[number] == 0;
-            self.count(missing.then(|| format!("number {number} never occurred with a log")));
-        }
+        self.occurred("logs", &met.numbers, &[0, 1, 3, 4, 5, 6, 7, 9, 14, 19, 20, 21]);
+        self.circles_occurred("logs", &met.seen);
         for (what, count) in [("later entry refused", met.later_entries), ("full window APART", met.full_apart), ("full window not APART", met.full_other)] {
             self.count((count == 0).then(|| format!("no {what} occurred")));
         }
@@ -386,19 +395,20 @@ impl Tally {
             let wrong = compare::play(&mut random, number, &mut met);
             self.count(wrong.map(|wrong| format!("two books, pair {number}, {wrong}")));
         }
-        for shape in SHAPES {
-            for pieces in [200, 200, 200, 1365, 2048].repeat(times) {
-                let wrong = compare::play_large(&mut random, shape, pieces, &mut met);
-                self.count(wrong.map(|wrong| format!("two books, {wrong}")));
+        for (shapes, sizes) in [(&RISING[..], &[200, 200, 1365, 2048][..]), (&FREE[..], &[60, 200, 200]), (&[Shape::Couples, Shape::Entwined], &[2048])] {
+            for &shape in shapes {
+                for pieces in sizes.repeat(times) {
+                    let wrong = compare::play_large(&mut random, shape, pieces, &mut met);
+                    self.count(wrong.map(|wrong| format!("two books, {wrong}")));
+                }
             }
         }
-        let own = [3, 4, 5, 6, 7, 8, 9, 14, 19];
-        for (book, numbers) in [(0, &[0, 1, 10, 11, 12, 13][..]), (1, &own[..]), (2, &own[..])] {
-            for &number in numbers {
-                let missing = met.numbers[book][number] == 0;
-                self.count(missing.then(|| format!("number {number} of book {book} never occurred with two books")));
-            }
+        for (book, numbers) in [(0, &[0, 1, 10, 11, 12, 13][..]), (1, &[3, 4, 5, 6, 7, 9, 14, 19]), (2, &[3, 4, 5, 6, 7, 9, 14, 19])] {
+            let given = met.numbers[book];
+            self.occurred(&format!("two books, {book}"), &given, numbers);
         }
+        self.circles_occurred("two books", &met.seen);
+        self.circles_occurred("records of two books", &met.joined);
         for (kind, thirds) in met.third.iter().enumerate() {
             for third in 1..4 {
                 // laid together and marked alike, no claim is opposed
@@ -424,12 +434,12 @@ impl Tally {
         }
         let wrong = chains::session(&mut random, &mut met);
         self.count(wrong.map(|wrong| format!("chains, {wrong}")));
-        let wrong = chains::deep(&mut random, &mut met);
-        self.count(wrong.map(|wrong| format!("chains, {wrong}")));
-        for number in [0, 3, 4, 5, 6, 7, 8, 9, 10, 12, 13, 14, 15, 19] {
-            let missing = met.numbers[number] == 0;
-            self.count(missing.then(|| format!("number {number} never occurred with a chain")));
+        for long in [chains::deep, chains::round] {
+            let wrong = long(&mut random, &mut met);
+            self.count(wrong.map(|wrong| format!("chains, {wrong}")));
         }
+        self.occurred("chains", &met.numbers, &[0, 3, 4, 5, 6, 7, 9, 10, 12, 13, 14, 15, 19]);
+        self.circles_occurred("chains", &met.seen);
         for (rule, count) in met.rules.iter().enumerate() {
             self.count((*count == 0).then(|| format!("rule {rule} was never cited")));
         }
@@ -516,20 +526,25 @@ impl Tally {
 fn reordered(tally: &mut Tally, count: usize) {
     let failed = tally.failed;
     let mut random = Random(8);
-    let mut moved = 0;
+    let (mut moved, mut seen) = (0, Seen::default());
     for number in 0..count {
         let case = match number % 50 {
-            0 => middle(&mut random, SHAPES[number / 50 % SHAPES.len()], number / 50),
+            0 => {
+                let shape = some_shape(&mut random);
+                middle(&mut random, shape, number / 50)
+            }
             n if n % 3 == 1 => small_contradictory(&mut random),
             _ => small_sound(&mut random),
         };
-        let (place, wrong) = reorder(&mut random, &case, Some(&case.claims));
-        let (_, wrong_index) = reorder(&mut random, &case, None);
+        let (number_given, place, wrong) = reorder(&mut random, &case, Some(&case.claims));
+        let (_, _, wrong_index) = reorder(&mut random, &case, None);
         moved += place;
+        seen.note(&case.book, number_given);
         tally.count(wrong.or(wrong_index).map(|wrong| format!("reordered, book {number}: {wrong}; book {:?}", case.book)));
     }
     tally.count((moved == 0).then(|| "the place of 14 never moved".into()));
-    println!("reordered: {count} books, the place of 14 moved in {moved}; {} failed", tally.failed - failed);
+    tally.circles_occurred("reordered", &seen);
+    println!("reordered: {count} books, the place of 14 moved in {moved}, {} circles; {} failed", seen.circles(), tally.failed - failed);
 }
 
 // Document 01's own examples, its numbers written out.
@@ -627,12 +642,9 @@ fn edges() -> Vec<(&'static str, Vec<Bytes>, Vec<Bytes>, (usize, usize))> {
         ("piece 2,047", one(PART, 2047, 2046), none.clone(), (0, 0)),
         ("piece 2,048 as a", one(PART, 2048, 2047), none.clone(), (7, 0)),
         ("piece 2,048 as b", one(APART, 1, 2048), none.clone(), (7, 0)),
-        ("piece 2,048 as b of PART is 7 and not 8", one(PART, 1, 2048), none.clone(), (7, 0)),
+        ("piece 2,048 as b of PART", one(PART, 1, 2048), none.clone(), (7, 0)),
         ("a TRAY record", vec![record(PART, 1, 0), record(TRAY, 1, 2)], none.clone(), (5, 1)),
         ("a TRAY record is 5 and not 7", one(TRAY, 2048, 0), none.clone(), (5, 0)),
-        ("PART 3 3", one(PART, 3, 3), none.clone(), (8, 0)),
-        ("PART 0 0", one(PART, 0, 0), none.clone(), (8, 0)),
-        ("PART 1 2", one(PART, 1, 2), none.clone(), (8, 0)),
         ("APART 3 4 and 4 3", vec![record(APART, 3, 4), record(APART, 4, 3)], all_claims(5), (0, 0)),
         ("APART 3 4 twice", vec![record(APART, 3, 4), record(MEETS, 1, 1), record(APART, 3, 4)], none.clone(), (9, 2)),
         ("APART 2 2", one(APART, 2, 2), all_claims(3), (14, 0)),
@@ -678,8 +690,8 @@ fn void_edges() -> Vec<(&'static str, Vec<Bytes>, Vec<Bytes>, (usize, usize))> {
         ("a mark of piece 0", vec![record(PART, 1, 0), scanned(0)], none.clone(), (19, 1)),
         ("a mark with b", vec![record(VOID, 1, 1)], none.clone(), (19, 0)),
         ("a mark whose b is no piece", vec![record(VOID, 1, 65535)], none.clone(), (19, 0)),
-        ("row 19 before a later row 8", vec![mark(0), record(PART, 1, 1)], none.clone(), (19, 0)),
-        ("row 8 before a later row 19", vec![record(PART, 1, 1), mark(0)], none.clone(), (8, 0)),
+        ("row 19 before a later row 9", vec![mark(1), mark(0), mark(1)], none.clone(), (19, 1)),
+        ("row 9 before a later row 19", vec![mark(1), mark(1), mark(0)], none.clone(), (9, 1)),
         ("a mark of both origins", vec![mark(1), scanned(1)], all_claims(2), (0, 0)),
         ("a mark twice", vec![scanned(1), mark(1), scanned(1)], none.clone(), (9, 2)),
         ("a claim of kind 6", vec![mark(1)], vec![mark(1)], (12, 0)),
@@ -697,6 +709,128 @@ fn void_edges() -> Vec<(&'static str, Vec<Bytes>, Vec<Bytes>, (usize, usize))> {
         ("an unmarked piece APART from itself beside a void one", vec![mark(1), record(APART, 2, 2)], all_claims(3), (14, 1)),
         ("all pieces but 0 void", vec![mark(1), mark(2), record(PART, 2, 1), record(APART, 1, 2)], all_claims(3), (0, 0)),
     ]
+}
+
+/// Books with circles and late containers, with the number and the place that document 02's R-13 gives them.
+fn circle_edges() -> Vec<(&'static str, Vec<Bytes>, Vec<Bytes>, (usize, usize))> {
+    let part = |a, b| record(PART, a, b);
+    let scanned = |a, b| of(SCANNER, record(PART, a, b));
+    let mark = |a: usize| record(VOID, a, 0);
+    vec![
+        ("a circle and a NOTPART in it", vec![part(1, 2), part(2, 1), record(NOTPART, 1, 2)], all_claims(3), (14, 2)),
+        ("a NOTPART that a circle closes on", vec![record(NOTPART, 3, 2), part(1, 2), part(2, 3), part(3, 1)], all_claims(4), (14, 3)),
+        ("a circle and an APART in it", vec![part(1, 2), record(APART, 2, 1), part(2, 1)], all_claims(3), (14, 1)),
+        ("an APART to what a circle contains", vec![part(1, 2), part(2, 1), part(3, 1), record(APART, 3, 2)], all_claims(4), (14, 3)),
+        ("a circle APART from another piece", vec![part(1, 2), part(2, 1), record(APART, 1, 3), record(MEETS, 2, 3)], all_claims(4), (14, 3)),
+        ("NOTPART 0 1 and PART 0 1", vec![record(NOTPART, 0, 1), part(0, 1)], all_claims(2), (14, 1)),
+        ("PART 0 1 and APART of two others", vec![part(0, 1), record(APART, 2, 3)], all_claims(4), (0, 0)),
+        ("PART 0 1 and APART from it", vec![part(0, 1), record(APART, 2, 1)], all_claims(3), (14, 1)),
+        ("a circle with a late bag APART from another", vec![part(1, 5), part(2, 5), record(APART, 5, 3), part(5, 4), part(4, 5)], all_claims(6), (0, 0)),
+        ("a circle of two origins", vec![part(1, 2), scanned(2, 1)], all_claims(3), (0, 0)),
+        ("a circle of two origins and a NOTPART in it", vec![part(1, 2), scanned(2, 1), record(NOTPART, 2, 1)], all_claims(3), (14, 2)),
+        ("PART 1 1 and NOTPART 1 1", vec![part(1, 1), record(NOTPART, 1, 1)], all_claims(2), (14, 1)),
+        ("PART 1 1 of both origins", vec![part(1, 1), scanned(1, 1)], all_claims(2), (0, 0)),
+        ("PART 1 1 twice", vec![part(1, 1), part(1, 1)], vec![], (9, 1)),
+        ("a void circle", vec![part(1, 2), part(2, 1), mark(1), mark(2)], all_claims(3), (0, 0)),
+        ("a circle half void", vec![part(1, 2), part(2, 1), mark(1)], all_claims(3), (14, 1)),
+        ("0 in a void piece", vec![mark(1), part(0, 1)], all_claims(2), (14, 1)),
+        ("a void piece in itself", vec![part(1, 1), mark(1)], all_claims(2), (0, 0)),
+        ("two void pieces are two groups", vec![part(1, 2), mark(1), mark(2)], all_claims(3), (0, 0)),
+        ("row 7 of a late container", vec![part(1, 2048)], vec![], (7, 0)),
+    ]
+}
+
+/// A book with its index written out from document 02's R-13.
+struct Written {
+    name: &'static str,
+    pairs: Vec<(usize, usize)>,
+    parentheses: Vec<u8>,
+    marks: u8,
+    shadows: Vec<u16>,
+    places: Vec<u16>,
+    nodes: usize,
+}
+
+fn circle_indexes() -> Vec<Written> {
+    let none = || vec![];
+    let written = |name, pairs: &[(usize, usize)], parentheses: &[u8], (marks, shadows): (u8, Vec<u16>), places: &[u16], nodes| Written {
+        name,
+        pairs: pairs.to_vec(),
+        parentheses: parentheses.to_vec(),
+        marks,
+        shadows,
+        places: places.to_vec(),
+        nodes,
+    };
+    vec![
+        // 1 10 10 10 0
+        written("PART 3 3", &[(3, 3)], &[43], (0, none()), &[0, 1, 2, 3], 4),
+        written("PART 0 0", &[(0, 0)], &[1], (0, none()), &[0], 1),
+        // 1 10 0
+        written("PART 1 2 and 2 1", &[(1, 2), (2, 1)], &[3], (0, none()), &[0, 1, 1], 2),
+        written("PART 0 1", &[(0, 1)], &[1], (0, none()), &[0, 0], 1),
+        written("a circle of all with 0", &[(0, 1), (1, 2), (2, 0)], &[1], (0, none()), &[0, 0, 0], 1),
+        // 1 1 10 10 0 0: the bag 3 in 0, 1 and 2 in it
+        written("a bag numbered late", &[(1, 3), (2, 3), (3, 0)], &[23], (0, none()), &[0, 2, 3, 1], 4),
+        // 1 1 10 1 10 0 0 0: 1 in 2 and, as a shadow, in 3, which is in 2 too
+        written("a late container of a shadow", &[(1, 3), (3, 2), (1, 2)], &[55, 0], (16, vec![2]), &[0, 2, 1, 3], 5),
+        // 1 1 1 0 0 0: three pairs between two circles are one edge
+        written("a circle in another", &[(1, 2), (2, 1), (3, 4), (4, 3), (3, 1), (4, 2), (3, 2)], &[7], (0, none()), &[0, 1, 1, 2, 2], 3),
+        // 1 1 10 0 10 0: the circle of 1 and 4 comes before 2, 3 is in it
+        written("a circle under its lowest number", &[(4, 1), (1, 4), (3, 4)], &[39], (0, none()), &[0, 1, 3, 2, 1], 4),
+        // 1 10 10 0: 0, 3 and 2 are one, 1 is joined to it, 4 is in 3
+        written("a circle with 0", &[(0, 3), (3, 2), (4, 3)], &[11], (0, none()), &[0, 1, 0, 0, 2], 3),
+        // 1 1 10 0 1 10 0 0: the circle of 3 and 4 is in 1 by the one and in 2 by the other
+        written("a shadow of a circle", &[(4, 3), (3, 4), (4, 2), (3, 1)], &[103, 0], (16, vec![2]), &[0, 1, 3, 2, 2], 5),
+        // the same: 4 is in 2, which is in a circle with 1, and in 3
+        written("a shadow of a part of a circle", &[(4, 3), (4, 2), (2, 1), (1, 2)], &[103, 0], (16, vec![2]), &[0, 1, 1, 3, 2], 5),
+    ]
+}
+
+/// The index of each, over its whole lengths.
+fn written_indexes(random: &mut Random) -> Vec<Option<String>> {
+    let compared = |w: &Written, lent: &mut Lent| {
+        let book: Vec<u8> = w.pairs.iter().flat_map(|&(part, container)| record(PART, part, container)).collect();
+        let mut after = lent.clone();
+        let got = lent.call(&book, None);
+        let wanted = Outcome { number: 0, place: 0, pieces: w.places.len(), nodes: w.nodes, shadows: w.shadows.len() };
+        let index = reference::Index { parentheses: vec![0; 2560], marks: vec![0; 1280], shadows: vec![0; 8192], places: vec![0; 2048] };
+        after.apply(&Change::Index(index));
+        after.parentheses.write(&w.parentheses);
+        after.marks.write(&[w.marks]);
+        after.shadows.write(&w.shadows);
+        after.places.write(&w.places);
+        let wrong = if got == wanted { lent.difference(&after) } else { Some(format!("got {got:?}, the papers say {wanted:?}")) };
+        let by_reference = judge(&book, Edition::InForce, None, LEAST).outcome;
+        wrong.or((by_reference != wanted).then(|| format!("the reference says {by_reference:?}"))).map(|wrong| format!("{}: {wrong}", w.name))
+    };
+    circle_indexes().iter().map(|w| compared(w, &mut Lent::new(random, LEAST))).collect()
+}
+
+/// A circle of 1 and 2 by a sheet and the scanner, 3 in 2, 4 APART from 1: answers from all facts and from the sheets.
+fn circle_claims(random: &mut Random) -> Option<String> {
+    let book = [record(PART, 1, 2), of(SCANNER, record(PART, 2, 1)), record(PART, 3, 2), record(APART, 4, 1)];
+    let asked = [
+        (PART, 1, 2, 1, 1),
+        (PART, 2, 1, 1, 3),
+        (NOTPART, 2, 1, 2, 3),
+        (PART, 3, 1, 1, 3),
+        (APART, 4, 2, 1, 3),
+        (APART, 3, 4, 1, 3),
+        (MEETS, 2, 4, 2, 3),
+        (MEETS, 1, 3, 1, 3),
+        (MEETS, 1, 2, 1, 1),
+        (NOTPART, 2, 4, 1, 1),
+        (NOTPART, 0, 2, 1, 3),
+        (PART, 0, 2, 2, 3),
+        (PART, 0, 1, 2, 2),
+        (PART, 2, 3, 3, 3),
+    ];
+    let claims: Vec<Bytes> = [SHEET, SCANNER].iter().flat_map(|&origin| asked.iter().map(move |&(kind, a, b, _, _)| of(origin, record(kind, a, b)))).collect();
+    let wanted: Vec<u8> = asked.iter().map(|&(_, _, _, all, _)| all).chain(asked.iter().map(|&(_, _, _, _, sheets)| sheets)).collect();
+    let mut lent = Lent::new(random, Lengths { answers: claims.len(), ..LEAST });
+    let number = lent.call(&book.concat(), Some(&claims.concat())).number;
+    (number != 0 || lent.answers.lend() != wanted).then(|| format!("a circle's claims: number {number}, answers {:?}", lent.answers.lend()))
 }
 
 /// Former books and what becomes of them, or the number and the place.
@@ -721,6 +855,9 @@ fn conversions() -> Vec<(&'static str, Vec<Bytes>, Result<Vec<Bytes>, (usize, us
         ("a tray twice", vec![tray(1, 1), tray(1, 2), tray(1, 1)], Err((9, 2))),
         ("a tray of both origins", vec![tray(1, 1), of(SCANNER, tray(1, 1))], Ok(one(PART, 1, 0))),
         ("PART 3 3 behind a tray", vec![tray(1, 1), record(PART, 3, 3)], Err((8, 1))),
+        ("PART 0 0", one(PART, 0, 0), Err((8, 0))),
+        ("PART 1 2 and 2 1", vec![record(PART, 2, 1), record(PART, 1, 2)], Err((8, 1))),
+        ("PART 1 2,048 is 7 and not 8", one(PART, 1, 2048), Err((7, 0))),
         ("the place of 14 counts trays", vec![tray(9, 9), tray(9, 8), record(APART, 2, 2), tray(9, 7)], Err((14, 2))),
     ]
 }
@@ -728,6 +865,18 @@ fn conversions() -> Vec<(&'static str, Vec<Bytes>, Result<Vec<Bytes>, (usize, us
 /// The most nodes that a book can have: five parts share 8,192 containers, all other pieces are joined to 0.
 fn widest() -> Vec<Bytes> {
     (1..2048).rev().flat_map(|part| (0..part).map(move |container| record(PART, part, container))).take(8192).collect()
+}
+
+/// As many pairs as a book can have, of any pieces from the given number on.
+fn scattered(random: &mut Random, first: usize) -> Vec<Bytes> {
+    let mut all = BTreeSet::new();
+    while all.len() < 8192 {
+        all.insert((random.range(first, 2048), random.range(first, 2048)));
+    }
+    let mut book: Vec<Bytes> = all.into_iter().map(|(part, container)| record(PART, part, container)).collect();
+    give_origins(random, &mut book);
+    random.shuffle(&mut book);
+    book
 }
 
 fn examples(tally: &mut Tally) {
@@ -738,8 +887,12 @@ fn examples(tally: &mut Tally) {
     tally.count(wrong);
     let wrong = void_claims(&mut tally.random);
     tally.count(wrong);
-    let edges = [edges(), void_edges()].concat();
-    let count = edges.len() + 3;
+    let wrong = circle_claims(&mut tally.random);
+    tally.count(wrong);
+    let indexes = written_indexes(&mut tally.random);
+    let edges = [edges(), void_edges(), circle_edges()].concat();
+    let count = edges.len() + indexes.len() + 4;
+    indexes.into_iter().for_each(|wrong| tally.count(wrong));
     for (i, (name, book, claims, place)) in edges.into_iter().enumerate() {
         let case = case(&mut tally.random, &book, &claims);
         let Outcome { number, place: at, .. } = tally.try_case(name, i, &case).outcome;
@@ -748,7 +901,7 @@ fn examples(tally: &mut Tally) {
             tally.failed += 1;
         }
     }
-    println!("document 01's session and edges, restricted claims and marks: {count} books; {} failed", tally.failed - failed);
+    println!("document 01's session and edges, restricted claims, marks and circles: {count} books; {} failed", tally.failed - failed);
 }
 
 fn conversion_examples(tally: &mut Tally) {
@@ -773,10 +926,24 @@ fn conversion_examples(tally: &mut Tally) {
 
 // Random groups.
 
-fn small_plan(random: &mut Random) -> Plan {
-    let pieces = random.range(1, 13);
+fn small_plan_of(random: &mut Random, shape: Shape) -> Plan {
+    let pieces = if random.one_in(2) { random.range(2, 9) } else { random.range(1, 13) };
     let (records, facts) = (random.range(1, 40), random.below(2 * pieces + 1));
-    Plan { shape: random.pick(&SHAPES), pieces, records, facts, voids: random.pick(&[0, 0, 1, 2, 4]), fill: false }
+    Plan { shape, pieces, records, facts, voids: random.pick(&[0, 0, 1, 2, 4]), fill: false }
+}
+
+fn small_plan(random: &mut Random) -> Plan {
+    let shape = some_shape(random);
+    small_plan_of(random, shape)
+}
+
+/// For a book of the former edition, in which row 8 refuses late containers.
+fn former_shape(random: &mut Random) -> Shape {
+    if random.one_in(12) {
+        random.pick(&FREE)
+    } else {
+        random.pick(&RISING)
+    }
 }
 
 /// The book with all claims about every two of its pieces.
@@ -835,7 +1002,7 @@ fn short_buffers(random: &mut Random, number: usize) -> Case {
 }
 
 fn middle_plan(random: &mut Random, shape: Shape) -> Plan {
-    let pieces = random.range(100, 301);
+    let pieces = random.range(60, 301);
     let dense = if matches!(shape, Shape::Dense) { 4 } else { 2 };
     Plan { shape, pieces, records: pieces * dense + random.below(300), facts: random.below(300), voids: random.pick(&[0, 1, 5, 20]), fill: false }
 }
@@ -854,13 +1021,14 @@ fn middle(random: &mut Random, shape: Shape, number: usize) -> Case {
     if !random.one_in(10) && book.len() < 8192 && !book.contains(&last) {
         book.push(last);
     }
-    let asked = [claims(random, plan.pieces, 500), near_claims(random, plan.pieces, 500)].concat();
+    let asked = [claims(random, plan.pieces, 400), near_claims(random, plan.pieces, 300), named_claims(random, &book, 300)].concat();
     case(random, &book, &asked)
 }
 
 /// A small former book, and room for what becomes of it.
 fn small_former(random: &mut Random, number: usize) -> (Vec<u8>, usize) {
-    let plan = Plan { voids: 0, ..small_plan(random) };
+    let shape = former_shape(random);
+    let plan = Plan { voids: 0, ..small_plan_of(random, shape) };
     let mut book = sound(random, plan);
     if number % 4 == 0 {
         let facts = random.range(1, 5);
@@ -902,15 +1070,15 @@ fn middle_former(random: &mut Random, shape: Shape, number: usize) -> (Vec<u8>, 
 /// As many pieces, records and claims as can be.
 fn largest(random: &mut Random, shape: Shape, facts: usize, voids: usize) -> Case {
     let book = sound(random, Plan { shape, pieces: 2048, records: 8192, facts, voids, fill: true });
-    let asked = [claims(random, 2048, 2048), near_claims(random, 2048, 2048)].concat();
+    let asked = [claims(random, 2048, 1500), near_claims(random, 2048, 1500), named_claims(random, &book, 1096)].concat();
     case(random, &book, &asked)
 }
 
-/// The same with a contradiction: the record of the given number says that a part and its container are APART.
+/// The same with a contradiction: the record of the given number says that a part and its container are APART, or that the part is NOTPART.
 fn largest_contradictory(random: &mut Random, shape: Shape, place: usize) -> Case {
     let mut case = largest(random, shape, 3000, 0);
     let part = case.book.chunks(6).find(|r| r[0] == PART && (r[4] > 0 || r[5] > 0)).expect("a part of another piece than 0").to_vec();
-    case.book[place * 6] = APART;
+    case.book[place * 6] = random.pick(&[APART, NOTPART]);
     case.book[place * 6 + 1..][..5].copy_from_slice(&part[1..]);
     case
 }
@@ -923,31 +1091,46 @@ fn ask(random: &mut Random, case: Case) -> catalogs::Case {
 
 /// Compares them all, `times` as many random books where that is more than once.
 fn run(times: usize) -> bool {
-    let mut tally = Tally { random: Random(1), passed: 0, failed: 0, numbers: [0; 20], conversions: [0; 20], catalog_numbers: [0; 20], answers: [[0; 4]; 2] };
+    let mut tally = Tally {
+        random: Random(1),
+        passed: 0,
+        failed: 0,
+        numbers: [0; 20],
+        conversions: [0; 20],
+        catalog_numbers: [0; 20],
+        answers: [[0; 4]; 2],
+        seen: Seen::default(),
+        catalog_seen: Seen::default(),
+    };
+    let shapes = || RISING.into_iter().chain(FREE);
     examples(&mut tally);
     tally.group("small, from a laying", 3000 * times, |random, _| small_sound(random));
     tally.group("small, facts thrown in", 3000 * times, |random, _| small_contradictory(random));
     tally.group("damaged", 4000 * times, damaged);
     tally.group("short buffers", 1000 * times, short_buffers);
     tally.group("junk", 1000 * times, |random, _| junk(random));
-    for shape in SHAPES {
-        tally.group(&format!("100 to 300 pieces, {shape:?}"), 40 * times, |random, number| middle(random, shape, number));
+    for shape in shapes() {
+        tally.group(&format!("60 to 300 pieces, {shape:?}"), 16 * times, |random, number| middle(random, shape, number));
     }
     tally.group("most nodes", 1, |random, _| {
         let asked = claims(random, 2048, 4096);
         case(random, &widest(), &asked)
     });
-    for shape in SHAPES {
-        tally.group(&format!("2,048 pieces, 8,192 records, 4,096 claims, {shape:?}"), 2 * times, |random, number| {
+    tally.group("8,192 random pairs", 2, |random, number| {
+        let (book, asked) = (scattered(random, number), claims(random, 2048, 4096));
+        case(random, &book, &asked)
+    });
+    for shape in shapes() {
+        tally.group(&format!("2,048 pieces, 8,192 records, 4,096 claims, {shape:?}"), times, |random, number| {
             largest(random, shape, 1000 + 3000 * (number % 2), 0)
         });
     }
-    for shape in SHAPES {
+    for shape in RISING.into_iter().chain([Shape::Couples, Shape::Entwined]) {
         tally.group(&format!("2,048 pieces, 8,192 records, 4,096 claims, marks, {shape:?}"), times, |random, _| largest(random, shape, 2000, 20));
     }
-    for shape in SHAPES {
-        tally.group(&format!("2,048 pieces, 8,192 records, contradictory, {shape:?}"), 3 * times, |random, number| {
-            largest_contradictory(random, shape, [8191, 4000, 100][number % 3])
+    for shape in shapes() {
+        tally.group(&format!("2,048 pieces, 8,192 records, contradictory, {shape:?}"), times, |random, number| {
+            largest_contradictory(random, shape, [8191, 4000, 100][(number + shape as usize) % 3])
         });
     }
     reordered(&mut tally, 1500 * times);
@@ -955,48 +1138,50 @@ fn run(times: usize) -> bool {
     tally.converted("converted, small", 3000 * times, small_former);
     tally.converted("converted, damaged", 3000 * times, damaged_former);
     tally.converted("converted, short outputs", 1000 * times, short_output);
-    for shape in SHAPES {
-        tally.converted(&format!("converted, 100 to 300 pieces, {shape:?}"), 20 * times, |random, number| middle_former(random, shape, number));
+    for shape in RISING {
+        tally.converted(&format!("converted, 60 to 300 pieces, {shape:?}"), 20 * times, |random, number| middle_former(random, shape, number));
     }
+    for wrong in [catalogs::session, catalogs::void_piece, catalogs::circle] {
+        let wrong = wrong(&mut tally.random);
+        tally.count(wrong);
+    }
+    for (name, make) in [
+        ("catalogs, small", small_sound as fn(&mut Random) -> Case),
+        ("catalogs, facts thrown in", small_contradictory),
+    ] {
+        tally.catalogs(name, 1500 * times, |random, _| {
+            let case = make(random);
+            ask(random, case)
+        });
+    }
+    tally.catalogs("catalogs, damaged", 1500 * times, |random, number| {
+        let case = damaged(random, number);
+        ask(random, case)
+    });
+    tally.catalogs("catalogs, short buffers", 300 * times, |random, number| {
+        let case = short_buffers(random, number);
+        ask(random, case)
+    });
+    for shape in shapes() {
+        tally.catalogs(&format!("catalogs, 60 to 300 pieces, {shape:?}"), 8 * times, |random, number| {
+            let case = middle(random, shape, number);
+            ask(random, case)
+        });
+        tally.catalogs(&format!("catalogs, 2,048 pieces, 8,192 records, {shape:?}"), times, |random, number| {
+            let number = number + shape as usize;
+            let case = largest(random, shape, 1000 + 3000 * (number % 2), 10 * (number % 3));
+            catalogs::ask_soundly(random, case.book, 2048, 1 + number % 3, case.lengths)
+        });
+    }
+    tally.catalogs("catalogs, 8,193 records", 1, |random, _| {
+        let book: Vec<Bytes> = (0..8193).map(|i| record(MEETS, i / 2048, i % 2048)).collect();
+        let case = case(random, &book, &[]);
+        catalogs::ask_soundly(random, case.book, 2048, 1, case.lengths)
+    });
+    // plain C has no working book, no grids and no chains
     if !cfg!(plain) {
         tally.days(60 * times);
         tally.grids(600 * times);
-        let wrong = catalogs::session(&mut tally.random);
-        tally.count(wrong);
-        let wrong = catalogs::void_piece(&mut tally.random);
-        tally.count(wrong);
-        for (name, make) in [
-            ("catalogs, small", small_sound as fn(&mut Random) -> Case),
-            ("catalogs, facts thrown in", small_contradictory),
-        ] {
-            tally.catalogs(name, 1500 * times, |random, _| {
-                let case = make(random);
-                ask(random, case)
-            });
-        }
-        tally.catalogs("catalogs, damaged", 1500 * times, |random, number| {
-            let case = damaged(random, number);
-            ask(random, case)
-        });
-        tally.catalogs("catalogs, short buffers", 300 * times, |random, number| {
-            let case = short_buffers(random, number);
-            ask(random, case)
-        });
-        for shape in SHAPES {
-            tally.catalogs(&format!("catalogs, 100 to 300 pieces, {shape:?}"), 20 * times, |random, number| {
-                let case = middle(random, shape, number);
-                ask(random, case)
-            });
-            tally.catalogs(&format!("catalogs, 2,048 pieces, 8,192 records, {shape:?}"), 3 * times, |random, number| {
-                let case = largest(random, shape, 1000 + 3000 * (number % 2), 10 * (number % 3));
-                catalogs::ask_soundly(random, case.book, 2048, 1 + number % 3, case.lengths)
-            });
-        }
-        tally.catalogs("catalogs, 8,193 records", 1, |random, _| {
-            let book: Vec<Bytes> = (0..8193).map(|i| record(MEETS, i / 2048, i % 2048)).collect();
-            let case = case(random, &book, &[]);
-            catalogs::ask_soundly(random, case.book, 2048, 1, case.lengths)
-        });
         tally.chains(400 * times);
     }
     tally.logs(800 * times);

@@ -3,7 +3,7 @@
 //! The slices give the C interface all that it asks for: a length with each pointer, and lent buffers that do not overlap.
 
 /// What a call returns. `number` is 0 for an accepted book, or the number of the refusal, whose record or claim is `place`; the counts are 0
-/// for a refusal.
+/// for a refusal. Pieces that lie in each other through a circle of records have one node.
 #[repr(C)]
 #[derive(Clone, Copy, Debug, PartialEq, Eq)]
 pub struct Outcome {
@@ -14,7 +14,8 @@ pub struct Outcome {
     pub shadows: usize,
 }
 
-/// What a conversion returns. `number` is 0 where a new book of `length` bytes was written, or the number of the refusal, whose record is `place`.
+/// What a conversion returns. `number` is 0 where a new book of `length` bytes was written, or the number of the refusal, whose record is `place`; number 8, for a
+/// container whose number is not below its part's, is given by no other call.
 #[repr(C)]
 #[derive(Clone, Copy, Debug, PartialEq, Eq)]
 pub struct Converted {
@@ -34,7 +35,7 @@ pub const FOLLOWS: u8 = 1;
 pub const DENIED: u8 = 2;
 pub const OPEN: u8 = 3;
 
-/// The four parts of an index, as the caller lends them.
+/// The four parts of an index, as the caller lends them. Pieces in a circle have the same place.
 pub struct Parts<'a> {
     pub parentheses: &'a mut [u8],
     pub marks: &'a mut [u8],

@@ -1,4 +1,4 @@
-//! Document 01 once more, from its words, with document 02's: which input is refused, what the index is, what each claim is answered. It knows nothing of the
+//! Document 01 once more, from its words, with document 02's: which input is refused, what the index is, what each claim is answered. It knows nothing of the
 //! library's ways.
 
 use crate::piecebook::{Cataloged, Converted, Outcome, DENIED, FOLLOWS, LIST, MARKS, OPEN, PAIRS, PARENTHESES, PLACES, SHADOWS};
@@ -84,7 +84,7 @@ pub struct Claim {
     restricted: bool,
 }
 
-/// The former edition has TRAY records, kind 5, besides the facts; the one in force has marks, kind 6.
+/// The former edition has TRAY records, kind 5, besides the facts, and containers with lower numbers only; the one in force has marks, kind 6.
 #[derive(Clone, Copy, Debug, PartialEq)]
 pub enum Edition {
     Former,
@@ -114,7 +114,7 @@ pub fn read_book(book: &[u8], edition: Edition) -> Result<Book, Refusal> {
             (6, origin > 1),
             (7, a > 2047 || b_is_piece && b > 2047),
             (19, kind == 6 && (b != 0 || a == 0)),
-            (8, kind == 1 && b >= a),
+            (8, edition == Edition::Former && kind == 1 && b >= a),
             (9, !seen.insert(bytes)),
         ];
         if let Some(&(number, _)) = rows.iter().find(|row| row.1) {
@@ -179,15 +179,150 @@ fn padded(mut numbers: Vec<u16>, length: usize) -> Vec<u16> {
     numbers
 }
 
-/// The index of the PART facts, the number of its nodes and that of its shadows.
-fn build(pieces: usize, facts: &[Option<Fact>]) -> (Index, usize, usize) {
+/// The pairs (part, container) of the PART facts.
+fn pairs_of(facts: &[Option<Fact>]) -> Vec<(usize, usize)> {
+    facts.iter().flatten().filter(|f| f.kind == Kind::Part).map(|f| (f.a, f.b)).collect()
+}
+
+/// The pieces that paths lead to from a piece, among those still to be grouped.
+fn found_from(start: usize, next: &[Vec<usize>], grouped: &[Option<usize>]) -> Vec<bool> {
+    let mut found = vec![false; next.len()];
+    found[start] = true;
+    let mut waiting = vec![start];
+    while let Some(piece) = waiting.pop() {
+        for &other in &next[piece] {
+            if grouped[other].is_none() && !found[other] {
+                found[other] = true;
+                waiting.push(other);
+            }
+        }
+    }
+    found
+}
+
+/// For each piece the lowest number of its group: those that it is PART of and that are PART of it, by the pairs and by rule (f). A path between two pieces of a
+/// group stays in the group, so that the pieces of earlier groups need not be passed again.
+pub fn lowest_members(pieces: usize, pairs: &[(usize, usize)]) -> Vec<usize> {
+    let mut containers = vec![vec![0]; pieces];
+    let mut parts = vec![vec![]; pieces];
+    parts[0].extend(0..pieces);
+    for &(part, container) in pairs {
+        containers[part].push(container);
+        parts[container].push(part);
+    }
+    let mut lowest = vec![None; pieces];
+    for piece in 0..pieces {
+        if lowest[piece].is_none() {
+            let (above, below) = (found_from(piece, &containers, &lowest), found_from(piece, &parts, &lowest));
+            (0..pieces).filter(|&other| above[other] && below[other]).for_each(|other| lowest[other] = Some(piece));
+        }
+    }
+    lowest.into_iter().map(|lowest| lowest.expect("a piece is in its own group")).collect()
+}
+
+/// The same by the rules alone.
+fn grouped_otherwise(pieces: usize, pairs: &[(usize, usize)], lowest: &[usize]) -> bool {
+    let stored: Vec<Fact> = pairs.iter().map(|&(a, b)| Fact { kind: Kind::Part, a, b }).collect();
+    let rows = Rows::derive(pieces, &stored, &vec![false; pieces]);
+    let part = |a: usize, b: usize| rows.has(Fact { kind: Kind::Part, a, b });
+    (0..pieces).any(|piece| (0..pieces).find(|&other| part(piece, other) && part(other, piece)) != Some(lowest[piece]))
+}
+
+/// What only books have whose containers have any number: how often each thing occurs.
+#[derive(Clone, Copy, Debug, Default)]
+pub struct Circles {
+    /// containers with a higher number than their part's, outside of circles
+    late: usize,
+    /// pairs of a piece with itself
+    own: usize,
+    /// groups of several pieces, those of more than eight, and those with piece 0
+    several: usize,
+    long: usize,
+    with_zero: usize,
+    /// books of several pieces that are one group
+    whole: usize,
+    /// pairs of groups behind a part's first, where the part has several pieces, and where one of its containers has: shadows that stand for a circle, and parts
+    /// whose shadow or node is in one
+    of_circles: usize,
+    in_circles: usize,
+}
+
+impl Circles {
+    fn add(&mut self, pieces: usize, pairs: &[(usize, usize)]) {
+        let lowest = lowest_members(pieces, pairs);
+        let mut members = vec![0; pieces];
+        lowest.iter().for_each(|&group| members[group] += 1);
+        let between = pairs.iter().map(|&(part, container)| (lowest[part], lowest[container])).filter(|(part, container)| part != container);
+        let mut containers = vec![BTreeSet::new(); pieces];
+        between.for_each(|(part, container)| _ = containers[part].insert(container));
+        let twice: Vec<usize> = (0..pieces).filter(|&part| containers[part].len() > 1).collect();
+        self.late += pairs.iter().filter(|&&(part, container)| part < container && lowest[part] != lowest[container]).count();
+        self.own += pairs.iter().filter(|(part, container)| part == container).count();
+        self.several += members.iter().filter(|&&count| count > 1).count();
+        self.long += members.iter().filter(|&&count| count > 8).count();
+        self.with_zero += usize::from(members[0] > 1);
+        self.whole += usize::from(members[0] > 1 && members[0] == pieces);
+        self.of_circles += twice.iter().filter(|&&part| members[part] > 1).count();
+        self.in_circles += twice.iter().filter(|&&part| containers[part].iter().any(|&container| members[container] > 1)).count();
+    }
+
+    fn counts(&self) -> [(&'static str, usize); 8] {
+        [
+            ("late container", self.late),
+            ("piece in itself", self.own),
+            ("circle", self.several),
+            ("circle of more than eight", self.long),
+            ("circle with piece 0", self.with_zero),
+            ("book that is one group", self.whole),
+            ("shadow of a circle", self.of_circles),
+            ("part twice, once in a circle", self.in_circles),
+        ]
+    }
+}
+
+/// The same of books that are accepted, and of contradictory ones.
+#[derive(Debug, Default)]
+pub struct Seen {
+    accepted: Circles,
+    contradictory: Circles,
+}
+
+impl Seen {
+    /// Counts what a book has that came to this number.
+    pub fn note(&mut self, bytes: &[u8], number: usize) {
+        if number == 0 || number == 14 {
+            let Ok(book) = read_book(bytes, Edition::InForce) else { return };
+            let circles = if number == 0 { &mut self.accepted } else { &mut self.contradictory };
+            circles.add(book.pieces, &pairs_of(&book.facts));
+        }
+    }
+
+    /// For each thing whether it occurred, with its name. A contradictory book has no shadows.
+    pub fn all(&self) -> impl Iterator<Item = (bool, String)> {
+        let accepted = self.accepted.counts().map(|(what, count)| (count > 0, format!("{what} in an accepted book")));
+        let contradictory = self.contradictory.counts().map(|(what, count)| (count > 0, format!("{what} in a contradictory book")));
+        accepted.into_iter().chain(contradictory.into_iter().take(6))
+    }
+
+    pub fn circles(&self) -> usize {
+        self.accepted.several
+    }
+}
+
+/// The index of the PART facts over groups, each under its lowest number, the number of its nodes and that of its shadows.
+fn build(pieces: usize, facts: &[Option<Fact>], doubt: &mut Option<String>) -> (Index, usize, usize) {
+    let pairs = pairs_of(facts);
+    let lowest = lowest_members(pieces, &pairs);
+    if pieces <= MIDDLE && grouped_otherwise(pieces, &pairs, &lowest) {
+        *doubt = Some("groups by searches and by the rules differ".into());
+    }
     let mut parts = vec![BTreeSet::new(); pieces];
     let mut is_part = HashSet::new();
-    for fact in facts.iter().flatten().filter(|f| f.kind == Kind::Part) {
-        parts[fact.b].insert(fact.a);
-        is_part.insert(fact.a);
+    for (part, container) in pairs.iter().map(|&(part, container)| (lowest[part], lowest[container])).filter(|(part, container)| part != container) {
+        parts[container].insert(part);
+        is_part.insert(part);
     }
-    parts[0].extend((1..pieces).filter(|piece| !is_part.contains(piece)));
+    parts[0].extend((1..pieces).filter(|&piece| lowest[piece] == piece && !is_part.contains(&piece)));
 
     // breadth first: the tree, its nodes numbered as they are met
     let mut tree = vec![Node { piece: 0, shadow: false, children: vec![] }];
@@ -226,7 +361,7 @@ fn build(pieces: usize, facts: &[Option<Fact>]) -> (Index, usize, usize) {
     for (at, &node) in preorder.iter().enumerate() {
         place[node] = at as u16;
     }
-    let place_of = |piece: usize| place[node_of[piece].expect("every piece has a node")];
+    let place_of = |piece: usize| place[node_of[lowest[piece]].expect("every group has a node")];
     let marks: Vec<bool> = preorder.iter().map(|&node| tree[node].shadow).collect();
     let shadows: Vec<u16> = preorder.iter().filter(|&&node| tree[node].shadow).map(|&node| place_of(tree[node].piece)).collect();
     let count = shadows.len();
@@ -245,6 +380,9 @@ fn cleared() -> Index {
 
 /// Books of at most this many pieces are worked out fact by fact, and by the faster ways as well; the results must agree.
 const SMALL: usize = 16;
+
+/// Those of at most this many by the rules over rows, where contradiction or the groups were found in another way.
+const MIDDLE: usize = 320;
 
 /// The last record of the shortest contradictory run from the start. The whole book's marks count in every run.
 pub fn contradiction(pieces: usize, facts: &[Option<Fact>], void: &[bool], doubt: &mut Option<String>) -> Option<usize> {
@@ -268,7 +406,7 @@ pub fn contradiction(pieces: usize, facts: &[Option<Fact>], void: &[bool], doubt
         if by_rules != by_laying {
             *doubt = Some(format!("contradiction at {by_rules:?} by the rules, at {by_laying:?} by layings"));
         }
-    } else if let Some(last) = by_laying.filter(|_| pieces <= 320) {
+    } else if let Some(last) = by_laying.filter(|_| pieces <= MIDDLE) {
         let contradictory = |length: usize| Rows::derive(pieces, &run(length), void).contradictory();
         if contradictory(last) || !contradictory(last + 1) {
             *doubt = Some(format!("contradiction at {last} by layings and not by the rules"));
@@ -333,7 +471,7 @@ fn judge_whole(book: &[u8], edition: Edition, claims: Option<&[u8]>, lengths: Le
     if let Some(last) = contradiction(pieces, &book.facts, &book.void, doubt) {
         return Ok(refused((14, last as usize), Change::Index(cleared())));
     }
-    let (index, nodes, shadows) = build(pieces, &book.facts);
+    let (index, nodes, shadows) = build(pieces, &book.facts, doubt);
     let outcome = Outcome { number: 0, place: 0, pieces: pieces as usize, nodes: nodes as usize, shadows: shadows as usize };
     let change = match claims {
         Some(claims) => Change::IndexAndAnswers(index, answer(&book, &claims, doubt)),
@@ -436,7 +574,7 @@ fn catalog_whole(book: &[u8], kind: usize, piece: usize, lengths: Lengths, list:
     if let Some(place) = contradiction(book.pieces, &book.facts, &book.void, doubt) {
         return Ok((Cataloged { number: 14, place, ..Cataloged::default() }, Change::Index(cleared()), None));
     }
-    let (index, nodes, shadows) = build(book.pieces, &book.facts);
+    let (index, nodes, shadows) = build(book.pieces, &book.facts, doubt);
     let mut lists = lists_of(&book, &index.places, |x| Fact { kind, a: x, b: piece });
     let [meets, apart, notpart] = [0, 1, 2].map(|i| lists.areas[i].len() / 2);
     let outcome = Cataloged { number: 0, place: 0, pieces: book.pieces, nodes, shadows, listed: lists.list.len(), meets, apart, notpart };

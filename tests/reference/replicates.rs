@@ -3,17 +3,18 @@
 
 use crate::books::*;
 use crate::piecebook::{replicates, Replicated, Window};
-use crate::reference::{judge, Change, Edition, Lengths};
-use crate::{damaged, many, small_contradictory, small_sound, Buffer, LEAST};
+use crate::reference::{judge, Change, Edition, Lengths, Seen};
+use crate::{damaged, many, middle, small_contradictory, small_sound, Buffer, LEAST};
 use std::collections::HashSet;
 
-/// What must occur: numbers, refused entries that are not the first, and windows of 32 entries that are pairwise APART or are not.
+/// What must occur: numbers, refused entries that are not the first, windows of 32 entries that are pairwise APART or are not, and circles.
 #[derive(Default)]
 pub struct Met {
     pub numbers: [usize; 22],
     pub later_entries: usize,
     pub full_apart: usize,
     pub full_other: usize,
+    pub seen: Seen,
 }
 
 /// A book, what its own rows come to, and which of its pieces below 60 are certainly APART.
@@ -116,11 +117,15 @@ impl Book {
     }
 }
 
-/// Pieces of which nearly every two are APART, by records or as parts of such pieces, some of them void.
+/// Pieces of which nearly every two are APART, by records or as parts of such pieces or in a circle with one, some of them void.
 fn mostly_apart(random: &mut Random) -> Vec<u8> {
     let pieces = random.range(38, 60);
     let heads = random.range(36, pieces);
-    let mut book: Vec<Bytes> = (heads..pieces).map(|part| record(PART, part, random.range(1, heads))).collect();
+    let pairs: Vec<(usize, usize)> = (heads..pieces).map(|part| (part, random.range(1, heads))).collect();
+    let mut book: Vec<Bytes> = pairs.iter().map(|&(part, container)| record(PART, part, container)).collect();
+    if random.one_in(2) {
+        book.extend(pairs.iter().filter(|_| random.one_in(3)).map(|&(part, container)| record(PART, container, part)));
+    }
     for a in 1..heads {
         for b in 1..a {
             if !random.one_in(400) {
@@ -143,6 +148,10 @@ fn some_book(random: &mut Random, number: usize) -> Vec<u8> {
         2 => small_contradictory(random).book,
         3 => damaged(random, number).book,
         4 if number % 40 == 4 => many(8193).concat(),
+        4 if number % 40 == 12 => {
+            let shape = random.pick(&FREE);
+            middle(random, shape, number / 40).book
+        }
         _ => mostly_apart(random),
     }
 }
@@ -190,6 +199,7 @@ fn some_window(random: &mut Random, pieces: usize) -> Window {
 /// Sends logs about one book; what went wrong, if anything.
 pub fn play(random: &mut Random, number: usize, met: &mut Met) -> Option<String> {
     let book = Book::new(some_book(random, number));
+    met.seen.note(&book.bytes, book.number);
     let pieces = book.pieces.max(1);
     for log in 0..4 {
         let length = random.pick(&[0, 1, 2, 20, 33, 40, 70]);

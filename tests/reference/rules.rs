@@ -167,11 +167,20 @@ impl Table {
         new != 0
     }
 
+    /// A row to which nothing can be added.
+    fn full(&self, g: usize) -> bool {
+        self.row(g).iter().map(|word| word.count_ones() as usize).sum::<usize>() == self.rows()
+    }
+
     /// Puts k into row g wherever h is in row g of `first` and k in row h of `second`; whether that was new.
     fn spread(&mut self, first: &Table, second: &Table) -> bool {
+        let some: Vec<bool> = (0..second.rows()).map(|h| second.row(h).iter().any(|&word| word != 0)).collect();
         let mut new = false;
         for g in 0..self.rows() {
-            for h in first.members(g) {
+            if self.full(g) {
+                continue;
+            }
+            for h in first.members(g).into_iter().filter(|&h| some[h]) {
                 new |= self.join(g, second.row(h));
             }
         }
@@ -234,22 +243,31 @@ impl Rows {
         }
         all.apart.mirror();
         all.meets.mirror();
+        while all.contain() {}
         while all.round() {}
         all
     }
 
-    /// Applies every rule to all rows; whether a fact was new.
-    fn round(&mut self) -> bool {
-        let Rows { part, apart, meets, notpart } = self;
-        let n = part.rows();
+    /// (a) g PART h, h PART k: g PART k. Whether a fact was new. No other rule has a PART for its result, so that these are whole before the others begin.
+    fn contain(&mut self) -> bool {
+        let part = &mut self.part;
         let mut new = false;
-        // (a) g PART h, h PART k: g PART k. From 0 up: where containers have lower numbers, their rows are whole by then.
-        for g in 0..n {
+        for g in 0..part.rows() {
+            if part.full(g) {
+                continue;
+            }
             for h in part.members(g) {
                 let row = part.row(h).to_vec();
                 new |= part.join(g, &row);
             }
         }
+        new
+    }
+
+    /// Applies every other rule to all rows; whether a fact was new.
+    fn round(&mut self) -> bool {
+        let Rows { part, apart, meets, notpart } = self;
+        let mut new = false;
         let parts = part.turned();
         new |= apart.spread(part, &apart.clone()); // (b) g PART h, h APART k: g APART k
         apart.mirror();
@@ -279,9 +297,32 @@ impl Derived for Rows {
 
 // Contradiction by way of a laying.
 
+/// All pieces, a part before its containers where no circle forbids it: the order saves rounds and decides nothing.
+fn parts_first(containers: &[Vec<usize>]) -> Vec<usize> {
+    let mut met = vec![false; containers.len()];
+    let mut left = vec![];
+    for start in 0..containers.len() {
+        let mut path = if met[start] { vec![] } else { vec![(start, 0)] };
+        met[start] = true;
+        while let Some((piece, next)) = path.pop() {
+            match containers[piece].get(next) {
+                None => left.push(piece),
+                Some(&container) => {
+                    path.push((piece, next + 1));
+                    if !std::mem::replace(&mut met[container], true) {
+                        path.push((container, 0));
+                    }
+                }
+            }
+        }
+    }
+    left.reverse();
+    left
+}
+
 /// Whether the facts have no laying. Tries the one that has least ice in common: a grain for each piece that is not marked and one for each stored
 /// MEETS, each in its pieces and in whatever contains them. Every grain in it is forced, so where it breaks an APART or a NOTPART, or gives a marked
-/// piece a grain, every laying does. Containers have lower numbers here.
+/// piece a grain, every laying does.
 pub fn has_no_laying(pieces: usize, stored: &[Fact], void: &[bool]) -> bool {
     let met: Vec<&Fact> = stored.iter().filter(|f| f.kind == Meets).collect();
     let grains = pieces + met.len();
@@ -295,18 +336,24 @@ pub fn has_no_laying(pieces: usize, stored: &[Fact], void: &[bool]) -> bool {
         put(fact.a, pieces + i);
         put(fact.b, pieces + i);
     }
-    // a part's grains go to its containers, from the highest number down
+    // a part's grains go to its containers, until each has them
     let mut containers = vec![vec![0]; pieces];
     for fact in stored.iter().filter(|f| f.kind == Part) {
-        assert!(fact.b < fact.a);
         containers[fact.a].push(fact.b);
     }
-    for part in (1..pieces).rev() {
-        let (lower, rest) = sets.split_at_mut(part);
-        for &container in &containers[part] {
-            for (mine, theirs) in lower[container].iter_mut().zip(&rest[0]) {
-                *mine |= theirs;
+    let order = parts_first(&containers);
+    let mut waiting = true;
+    while waiting {
+        waiting = false;
+        for &part in &order {
+            let set = std::mem::take(&mut sets[part]);
+            for &container in containers[part].iter().filter(|&&container| container != part) {
+                for (mine, theirs) in sets[container].iter_mut().zip(&set) {
+                    waiting |= theirs & !*mine != 0;
+                    *mine |= theirs;
+                }
             }
+            sets[part] = set;
         }
     }
     let filled_void = (0..pieces).any(|piece| void[piece] && sets[piece].iter().any(|&word| word != 0));

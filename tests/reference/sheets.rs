@@ -2,7 +2,7 @@
 
 use crate::books::*;
 use crate::piecebook::{self, Grids, Parts, FOLLOWS, MARKS, PARENTHESES, PLACES, SHADOWS};
-use crate::reference::{judge, Change, Edition, Lengths};
+use crate::reference::{judge, Change, Edition, Lengths, Seen};
 
 const KINDS: [u8; 4] = [PART, APART, MEETS, NOTPART];
 
@@ -69,7 +69,7 @@ fn some_book(random: &mut Random, number: usize) -> Vec<u8> {
         2..=4 => random.range(14, 65),
         _ => random.range(1, 14),
     };
-    let shape = random.pick(&SHAPES);
+    let shape = some_shape(random);
     let records = 4 * pieces + random.below(40);
     let facts = random.below(2 * pieces + 1);
     let voids = random.pick(&[0, 0, 1, 4]);
@@ -91,22 +91,23 @@ fn some_book(random: &mut Random, number: usize) -> Vec<u8> {
 }
 
 /// Compares the grids of one book; counts its number.
-fn compare(book: &[u8], numbers: &mut [usize]) -> Option<String> {
+fn compare(book: &[u8], numbers: &mut [usize], seen: &mut Seen) -> Option<String> {
     let wanted = match expected(book) {
         Ok(grids) => grids,
         Err(doubt) => return Some(doubt),
     };
     numbers[wanted.number] += 1;
+    seen.note(book, wanted.number);
     let got = piecebook::grid(book);
     (got != wanted).then(|| format!("got {:?}, expected {:?}, or another bit", (got.number, got.place), (wanted.number, wanted.place)))
 }
 
 /// Compares the grids of so many random books; what is wrong, a line each.
-pub fn compare_all(random: &mut Random, count: usize, numbers: &mut [usize]) -> Vec<Option<String>> {
+pub fn compare_all(random: &mut Random, count: usize, numbers: &mut [usize], seen: &mut Seen) -> Vec<Option<String>> {
     (0..count)
         .map(|number| {
             let book = some_book(random, number);
-            compare(&book, numbers).map(|wrong| format!("book {number}: {wrong}; {book:?}"))
+            compare(&book, numbers, seen).map(|wrong| format!("book {number}: {wrong}; {book:?}"))
         })
         .collect()
 }

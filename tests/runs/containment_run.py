@@ -63,11 +63,11 @@ def contents(pieces, pairs):
     return found
 
 
-def words(pieces, pairs):
-    """2,048 rows of 32 words of 64 bits: bit g of row h for a piece g that h contains."""
-    rows = contents(pieces, pairs)
+def words(groups, pieces, pairs):
+    """2,048 rows of 32 words of 64 bits: bit g of row h for a piece g that h contains. Piece g is in the group g modulo `groups`."""
+    rows = contents(groups, pairs)
     for piece in range(2048):
-        row = sum(1 << g for g in rows[piece]) if piece < pieces else 0
+        row = sum(1 << g for k in rows[piece % groups] for g in range(k, pieces, groups)) if piece < pieces else 0
         for _ in range(32):
             yield row % 2**64
             row //= 2**64
@@ -79,11 +79,11 @@ def packed(bits, length):
     return list(number.to_bytes(length, "little"))
 
 
-def lent(pieces, pairs):
+def lent(groups, pieces, pairs):
     """The four lent parts as they stand after, over document 01's lengths, and the counts of nodes and shadows."""
-    parens, marks, pointed, places = index(pieces, pairs)
+    parens, marks, pointed, places = index(groups, pairs)
     parts = [packed(parens, LENGTHS[0]), packed(marks, LENGTHS[1])]
-    for numbers, length in ((pointed, LENGTHS[2]), (places, LENGTHS[3])):
+    for numbers, length in ((pointed, LENGTHS[2]), ([places[g % groups] for g in range(pieces)], LENGTHS[3])):
         parts.append(numbers + [0] * (length - len(numbers)))
     return parts, len(marks), len(pointed)
 
@@ -132,29 +132,32 @@ def random(pieces, count):
 
 
 BOOKS = [
-    ("alone", flat, 1, 0),
-    ("joined", flat, 2048, 0),
-    ("deep", deep, 2048, 2047),
-    ("flat", flat, 2048, 2047),
-    ("bushy", bushy, 2048, 8188),
-    ("ladder", ladder, 2001, 4000),
-    ("random", random, 7, 12),
-    ("random", random, 50, 100),
-    ("random", random, 300, 1000),
-    ("random", random, 2048, 3000),
-    ("random", random, 2048, 8192),
+    ("alone", flat, 1, 1, 0),
+    ("joined", flat, 2048, 2048, 0),
+    ("deep", deep, 2048, 2048, 2047),
+    ("flat", flat, 2048, 2048, 2047),
+    ("bushy", bushy, 2048, 2048, 8188),
+    ("ladder", ladder, 2001, 2001, 4000),
+    ("random", random, 7, 7, 12),
+    ("random", random, 50, 50, 100),
+    ("random", random, 300, 300, 1000),
+    ("random", random, 2048, 2048, 3000),
+    ("random", random, 2048, 2048, 8192),
+    ("one", flat, 1, 2048, 0),
+    ("pairs", ladder, 1024, 2048, 2046),
+    ("groups", random, 300, 2000, 1000),
 ]
 
 
 def lines():
     session = [(1, 0), (2, 0), (3, 1), (4, 1), (4, 2), (5, 4)]
-    parts, nodes, shadows = lent(6, session)
+    parts, nodes, shadows = lent(6, 6, session)
     yield f"session 6 {nodes} {shadows}"
     for name, part, shown in zip(("parentheses", "marks", "shadow list", "place list"), parts, (3, 2, 2, 7)):
         yield " ".join([name] + [str(x) for x in part[:shown]])
-    yield " ".join(["rows"] + [str(word) for word in list(words(6, session))[: 6 * 32 : 32]])
-    for name, shape, pieces, count in BOOKS:
-        pairs = shape(pieces, count)
-        parts, nodes, shadows = lent(pieces, pairs)
-        parts.append([word % MODULUS for word in words(pieces, pairs)])
+    yield " ".join(["rows"] + [str(word) for word in list(words(6, 6, session))[: 6 * 32 : 32]])
+    for name, shape, groups, pieces, count in BOOKS:
+        pairs = shape(groups, count)
+        parts, nodes, shadows = lent(groups, pieces, pairs)
+        parts.append([word % MODULUS for word in words(groups, pieces, pairs)])
         yield " ".join([name, str(pieces), str(nodes), str(shadows)] + [str(checksum(part)) for part in parts])

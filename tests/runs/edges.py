@@ -1,5 +1,5 @@
 """Document 01's edges: what each book must come to, from that document's rows and its list of edges. A book of no bytes is piece 0 alone (R-1);
-byte 1 is the origin (R-5); kind 5 is no kind (R-7); kind 6 marks a piece as void (R-10)."""
+byte 1 is the origin (R-5); kind 5 is no kind (R-7); kind 6 marks a piece as void (R-10); a container has any number (R-13)."""
 
 
 def refused(number, place=0):
@@ -9,7 +9,11 @@ def refused(number, place=0):
 def accepted(pieces, pairs=0, claims=()):
     # with no PART records every piece but 0 is joined to 0: a node for each piece, and no shadow
     nodes = pieces if pairs == 0 else 1 + pairs
-    return [f"PIECES {pieces} NODES {nodes} SHADOWS {nodes - pieces}", *(f"{i} {claim}" for i, claim in enumerate(claims))]
+    return grouped(pieces, nodes, nodes - pieces, claims)
+
+
+def grouped(pieces, nodes, shadows, claims=()):
+    return [f"PIECES {pieces} NODES {nodes} SHADOWS {shadows}", *(f"{i} {claim}" for i, claim in enumerate(claims))]
 
 
 KINDS = ("PART", "APART", "MEETS", "NOTPART")
@@ -44,6 +48,22 @@ def void():
             yield f"{name}-{asked}", accepted(3, claims=[f"{kind} {pieces} {answer}" for kind, answer in zip(KINDS, answers)])
 
 
+def circles():
+    """R-13: pieces that are PART of each other are one node; 0 contains every piece, so that what contains 0 is in its group."""
+    # PART 1 2, PART 2 1: nodes 0 and {1, 2}
+    yield "circle", grouped(3, 2, 0, ["PART 1 2 FOLLOWS", "PART 2 1 FOLLOWS", "NOTPART 2 1 DENIED", "MEETS 1 2 FOLLOWS", "PART 0 1 OPEN"])
+    # the same, PART 2 1 being the scanner's: asked of the sheets
+    yield "circle-from-sheets", grouped(3, 2, 0, ["PART 1 2 FOLLOWS", "PART 2 1 OPEN", "NOTPART 2 1 OPEN", "MEETS 1 2 FOLLOWS", "PART 0 1 OPEN"])
+    # PART 1 2, PART 2 1, NOTPART 1 2
+    yield "circle-with-NOTPART", refused(14, 2)
+    # PART 0 1: one node {0, 1}
+    yield "circle-with-0", grouped(2, 1, 0, ["PART 0 1 FOLLOWS", "NOTPART 0 1 DENIED"])
+    # PART 1 3, PART 2 3, PART 3 0: nodes 0, 3, 1, 2
+    yield "late-bag", grouped(4, 4, 0, ["PART 1 3 FOLLOWS", "PART 3 1 OPEN", "PART 2 0 FOLLOWS", "MEETS 1 2 OPEN"])
+    # PART 4 3, PART 3 4, PART 4 2, PART 3 1: nodes 0, 1, {3, 4}, 2 and a shadow of {3, 4}
+    yield "shadow-of-circle", grouped(5, 5, 1, ["PART 3 2 FOLLOWS", "PART 4 1 FOLLOWS", "MEETS 1 2 FOLLOWS", "PART 1 4 OPEN"])
+
+
 EDGES = [
     ("no-bytes", accepted(1)),
     ("no-bytes-claim-piece-0", accepted(1, claims=["MEETS 0 0 FOLLOWS"])),
@@ -57,8 +77,8 @@ EDGES = [
     ("piece-2047", accepted(2048)),
     ("piece-2048", refused(7)),
     ("tray", refused(5, 1)),
-    ("PART-3-3", refused(8)),
-    ("PART-0-0", refused(8)),
+    ("PART-3-3", accepted(4)),
+    ("PART-0-0", accepted(1)),
     ("APART-3-4-and-4-3", accepted(5)),
     ("repeat", refused(9, 1)),
     ("mark", accepted(2)),
@@ -94,6 +114,7 @@ EDGES = [
     ("NOTPART-of-void", accepted(3)),
     ("void-APART-from-itself-and-0", accepted(2)),
     *void(),
+    *circles(),
     ("places-2047", refused(1)),
 ]
 

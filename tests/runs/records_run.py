@@ -1,5 +1,5 @@
 """What records_run must print: document 01's rows 3 to 13 and document 02's row 19 on books and claims that meet each of them, books by the edition in force and by the
-former one, which has TRAY records.
+former one, which has TRAY records and, alone since R-13, row 8.
 
 Every row is a condition on a whole record, taken from the table; a book's outcome is the first row that refuses its first refused record.
 """
@@ -30,7 +30,7 @@ def record_rows(record, seen, kinds):
         6: origin > 1,
         7: any(piece > 2047 for piece in named(kind, a, b)),
         19: kind == 6 and (a == 0 or b != 0),
-        8: kind == 1 and not b < a,
+        8: TRAY in kinds and kind == 1 and not b < a,
         9: record in seen,
     }
     return [row for row, refuses in tests.items() if refuses]

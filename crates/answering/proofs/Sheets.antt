@@ -16,8 +16,9 @@ use Rattle.records.specs.Facts.{facts}
 use Rattle.records.specs.Kept.{sheets}
 use Rattle.records.proofs.Accepted.{accepted}
 use Rattle.records.proofs.Keeps.{sheets-among, sheets-fewer}
+use Rattle.closure.specs.Stepped.{Stepped}
 use Rattle.settling.specs.Opened.{Opened}
-use Rattle.settling.specs.Settled.{Settleable, Settles}
+use Rattle.settling.specs.Settled.{Settleable, Settles, Steps}
 use Rattle.settling.specs.declared.Settled.{Settled}
 use Rattle.settling.specs.declared.Settled.the-variants.{Free, Clash}
 use Rattle.settling.proofs.Settling.{free-consistent}
@@ -41,7 +42,6 @@ module _ (s : List ℕ) {n : ℕ} (sound : Counted s n) where
         rw are
         (record {
           bounded = record { some = B .some; fits = B .fits; within = λ f m. B .within f (sheets-among s f m) };
-          ordered = record { lower = λ x y m. S .ordered .lower x y (sheets-among s _ m) };
           roomy =
               record {
                 few = omega (arith, R .few);
@@ -64,7 +64,13 @@ module _ (s : List ℕ) {n : ℕ} (sound : Counted s n) where
 
       -- settling them finds no contradiction
       pub sheets-opened :
-          {parens marks shadows places e d t : List ℕ} (r : Settled) → Settles void n run parens marks shadows places e d t r
-          → (nodes : ℕ) × (shadowed : ℕ) × Opened void n (facts run) parens marks shadows places nodes shadowed e d t false
+          {parens marks shadows places d t : List ℕ} (r : Settled) → Settles void n run parens marks shadows places d t r
+          → (nodes : ℕ) × (shadowed : ℕ) × Opened void n (facts run) parens marks shadows places nodes shadowed d t false
       sheets-opened (Free a b) S = (a, b, S .free a b refl)
       sheets-opened (Clash k) S = absurd (false≢true (sheets-free ∙ sym (S .clash k refl .is)))
+
+      pub sheets-stepped :
+          {parens marks shadows places d t e order lead : List ℕ} (r : Settled) → Settles void n run parens marks shadows places d t r → Steps n run e order lead r
+          → Stepped n (facts run) e order lead
+      sheets-stepped (Free a b) S W = W .free a b refl
+      sheets-stepped (Clash k) S W = absurd (false≢true (sheets-free ∙ sym (S .clash k refl .is)))

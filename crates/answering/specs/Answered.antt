@@ -15,7 +15,7 @@ use Rattle.records.specs.Check.{claimsCheck}
 use Rattle.records.specs.declared.ClaimsCheck.the-variants as claims
 use Rattle.closure.specs.Void.{voidOf, Voids}
 use Rattle.closure.specs.Bounded.{Bounded}
-use Rattle.closure.specs.Stored.{edgeBit}
+use Rattle.closure.specs.Stepped.{Stepped}
 use Rattle.closure.specs.Closed.{Holds, Closed, partBit, towardBit}
 use Rattle.answering.specs.Claimed.{claimed}
 use Rattle.answering.specs.Counted.{MarksOf, Counted}
@@ -47,27 +47,31 @@ pub record Answers (void : ℕ → Bool) (origin : ℕ) (cs d u p t q before ans
 unfoldable pub restricted : List ℕ → Bool
 restricted cs = anyBelow (λ i. ltb 0 (recordAt cs i .origin)) (records cs)
 
--- a book that is not contradictory, its marks, claims, six matrices, and room for the answers
-pub record Restrictable (s : List ℕ) (n : ℕ) (voids cs e d t u p q : List ℕ) (room : ℕ) : Type 0 where
+-- a book that is not contradictory, its marks, claims, six matrices with two lists, and room for the answers
+pub record Restrictable (s : List ℕ) (n : ℕ) (voids cs e order lead d t u p q : List ℕ) (room : ℕ) : Type 0 where
   pub sound : Counted s n
   pub void : Voids voids
   pub free : false ≡ clash (voidOf voids) n (facts s)
   pub fit : claimsCheck n cs ≡ claims.Accepted
   pub rooms : room ≡ records cs
   pub e-sized : length e ≡ 65536
+  pub order-sized : length order ≡ 2048
+  pub lead-sized : length lead ≡ 2048
   pub d-sized : length d ≡ 65536
   pub t-sized : length t ≡ 65536
   pub u-sized : length u ≡ 65536
   pub p-sized : length p ≡ 65536
   pub q-sized : length q ≡ 65536
 
--- a book that is not contradictory, claims that pass the rows before 14, the book's marks, edges, D and T
-pub record Answerable (s : List ℕ) (n : ℕ) (voids cs e d t : List ℕ) (room : ℕ) : Type 0 where
+-- a book that is not contradictory, claims that pass the rows before 14, the book's marks, steps, D and T
+pub record Answerable (s : List ℕ) (n : ℕ) (voids cs e order lead d t : List ℕ) (room : ℕ) : Type 0 where
   pub sound : Counted s n
   pub void : MarksOf s voids
   pub free : false ≡ clash (voidOf voids) n (facts s)
   pub fit : claimsCheck n cs ≡ claims.Accepted
   pub rooms : room ≡ records cs
-  pub edged : Holds e (edgeBit n (facts s))
+  pub stepped : Stepped n (facts s) e order lead
+  pub order-sized : length order ≡ 2048
+  pub lead-sized : length lead ≡ 2048
   pub parts : Holds d (partBit n (facts s))
   pub toward : Holds t (towardBit (voidOf voids) n (facts s))

@@ -72,6 +72,8 @@ fn answer_restricted(
     voids: &[u64],
     claims: &[u8],
     e: &mut [u64],
+    order: &mut [u16],
+    lead: &mut [u16],
     d: &mut [u64],
     t: &mut [u64],
     u: &mut [u64],
@@ -79,7 +81,7 @@ fn answer_restricted(
     q: &mut [u64],
     answers: &mut [u8],
 )
-    requires { ⌜ Restrictable (now book) n (now voids) (now claims) (now e) (now d) (now t) (now u) (now p) (now q) (length (now answers)) ⌝ }
+    requires { ⌜ Restrictable (now book) n (now voids) (now claims) (now e) (now order) (now lead) (now d) (now t) (now u) (now p) (now q) (length (now answers)) ⌝ }
     ensures { λ _. ⌜ AnsweredFrom (voidOf (now (voids .entry))) 1 n (facts (sheets (now (book .entry)))) (now (claims .entry)) (now (answers .entry)) (now (answers .exit)) ⌝ }
 {
     let mut kept = [0u8; 49152];
@@ -89,11 +91,13 @@ fn answer_restricted(
     let mut places = [0u16; 2048];
     let length = records::keep_sheets(book, &mut kept);
     let run = &kept[..length];
-    settling::settle(
+    settling::settle_stepped(
         run,
         n,
         voids,
         e,
+        order,
+        lead,
         d,
         t,
         &mut parens,
@@ -101,22 +105,24 @@ fn answer_restricted(
         &mut shadows,
         &mut places,
     );
-    closure::complete(run, n, voids, e, u, p, q);
+    closure::complete(run, n, voids, e, order, lead, u, p, q);
     answer_each(1, claims, voids, d, u, p, t, q, answers);
 }
 
-// Answers the claims on a book that is not contradictory: e are its edges, d and t its first two matrices. Without claims the others are not asked for.
+// Answers the claims on a book that is not contradictory: e are its steps, joined in the order that is lent, d and t its first two matrices. Without claims the others are not asked for.
 pub fn answer_all(
     book: &[u8],
     n: usize,
     voids: &[u64],
     claims: &[u8],
     e: &mut [u64],
+    order: &mut [u16],
+    lead: &mut [u16],
     d: &mut [u64],
     t: &mut [u64],
     answers: &mut [u8],
 )
-    requires { ⌜ Answerable (now book) n (now voids) (now claims) (now e) (now d) (now t) (length (now answers)) ⌝ }
+    requires { ⌜ Answerable (now book) n (now voids) (now claims) (now e) (now order) (now lead) (now d) (now t) (length (now answers)) ⌝ }
     ensures { λ _. ⌜ now (answers .exit) ≡ answersTo (now (book .entry)) n (now (claims .entry)) ⌝ }
 {
     if claims.len() < 6 {
@@ -125,7 +131,7 @@ pub fn answer_all(
     let mut u = [0u64; 65536];
     let mut p = [0u64; 65536];
     let mut q = [0u64; 65536];
-    closure::complete(book, n, voids, e, &mut u, &mut p, &mut q);
+    closure::complete(book, n, voids, e, order, lead, &mut u, &mut p, &mut q);
     answer_each(0, claims, voids, d, &u, &p, t, &q, answers);
     if !some_restricted(claims) {
         return;
@@ -136,6 +142,8 @@ pub fn answer_all(
         voids,
         claims,
         e,
+        order,
+        lead,
         d,
         t,
         &mut u,

@@ -30,12 +30,15 @@ use Rattle.index.specs.Breadth.{breadth, order, parent}
 use Rattle.index.specs.Tree.{hang, under, whole, visits}
 use Rattle.index.specs.Parts.{shape, parens, isNode, isShadow, place, marks, shadows, shadowList, placeList, value, packed}
 use Rattle.index.specs.Index.{parenthesesOf, visitsOf}
+use Rattle.groups.specs.Groups as groups
+use Rattle.groups.specs.Index.{edges, bookParens, bookVisits, bookPlaces}
+use Rattle.lists.specs.Tally.{tally}
 use Rattle.settling.specs.PartIn.{partIn}
 use Rattle.parentheses.specs.Forest.{enc}
 use Rattle.parentheses.specs.Padded.{padded}
 use Rattle.answers.specs.Lent.{Lent, lent, shortLent}
 use Rattle.answering.specs.Claimed.{claimed, answersTo}
-use Rattle.answers.specs.Call.{edges, byRuns, byClaims, byBook, outcome, indexed, left}
+use Rattle.answers.specs.Call.{byRuns, byClaims, byBook, outcome, indexed, left}
 use Rattle.answers.specs.Outcome.{number}
 use Rattle.answers.specs.declared.Outcome.{Outcome}
 use Rattle.answers.specs.declared.Outcome.the-variants.{Accepted, Refused}
@@ -47,7 +50,7 @@ alone l answers =
     (front answers (l .answers))
 
 by-runs : byRuns [] 1 ≡ Accepted 1 1 0
-unfolding byRuns edges entries factsOf shortestClash first clash any anyBelow tab table entry storing turned parting marked step rounds containment meets joined partIn visitsOf whole under hang parts keep range parent order breadth find visits shadows
+unfolding byRuns bookVisits edges groups.groups groups.pair groups.number groups.lowest groups.first-of groups.same groups.lies tally entries factsOf shortestClash first clash any anyBelow tab table entry storing turned parting marked step rounds containment meets joined partIn visitsOf whole under hang parts keep range parent order breadth find visits shadows
 by-runs = refl
 
 module _ (cs : List ℕ) (l : Lent) (long : shortLent cs l ≡ false) (fit : claimsCheck 1 cs ≡ claims.Accepted) where
@@ -56,7 +59,7 @@ module _ (cs : List ℕ) (l : Lent) (long : shortLent cs l ≡ false) (fit : cla
   empty-outcome = rw (long, outcome, fit) by-runs
 
   pub empty-left : left [] cs l (outcome [] cs l) ≡ alone l (answersTo [] 1 cs)
-  unfolding left indexed edges entries tab factsOf any anyBelow storing joined partIn parenthesesOf visitsOf whole under hang parts keep range parent order breadth find shape enc parens visits isNode isShadow place marks shadows shadowList placeList value packed padded
+  unfolding left indexed bookParens bookVisits bookPlaces edges groups.groups groups.pair groups.number groups.lowest groups.first-of groups.same groups.lies tally table entry rounds first entries tab factsOf any anyBelow storing joined partIn parenthesesOf visitsOf whole under hang parts keep range parent order breadth find shape enc parens visits isNode isShadow place marks shadows shadowList placeList value packed padded
   empty-left = rw empty-outcome refl
 
 -- PART 0 0 and MEETS 0 0 follow, and their opposites are denied

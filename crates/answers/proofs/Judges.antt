@@ -13,7 +13,7 @@ use Rattle.records.specs.Record.{records}
 use Rattle.records.specs.Facts.{entries, facts}
 use Rattle.records.specs.Marked.{marked}
 use Rattle.records.specs.declared.Refusal.the-variants.{Contradiction}
-use Rattle.index.specs.Index.{visitsOf, parenthesesOf}
+use Rattle.groups.specs.Index.{bookParens, bookVisits, bookPlaces}
 use Rattle.parentheses.specs.Padded.{padded}
 use Rattle.index.specs.Parts as on
 use Rattle.settling.specs.Opened.{Opened}
@@ -21,7 +21,7 @@ use Rattle.settling.specs.Settled.{Settleable, Clashed}
 use Rattle.settling.proofs.Settling.{settleable-in, free-beyond, clashed-within}
 use Rattle.answers.specs.Lent.{Lent, lent}
 use Rattle.answering.specs.Claimed.{answersTo}
-use Rattle.answers.specs.Call.{edges, byRuns, indexed, cleared, left}
+use Rattle.answers.specs.Call.{pairsOf, byRuns, indexed, cleared, left}
 use Rattle.answering.specs.Counted.{Counted}
 use Rattle.answers.specs.Judging.{Cleared, Exact, Judged}
 use Rattle.answers.specs.declared.Outcome.the-variants.{Accepted, Refused}
@@ -37,7 +37,7 @@ module _ (s : List ℕ) (n : ℕ) (sound : Counted s n) where
       rw (le-leb (shortestClash (marked s) n (entries s)) (records s) (clashed-within (counted-settleable s sound) (marked s) (counted-unmarked s sound) C), byRuns) (ap (Refused Contradiction) k)
 
   pub accepts :
-      (nodes shadows : ℕ) → false ≡ clash (marked s) n (facts s) → nodes ≡ length (visitsOf n (edges n s)) → shadows ≡ length (on.shadows (visitsOf n (edges n s)))
+      (nodes shadows : ℕ) → false ≡ clash (marked s) n (facts s) → nodes ≡ length (bookVisits n (pairsOf s)) → shadows ≡ length (on.shadows (bookVisits n (pairsOf s)))
       → Accepted n nodes shadows ≡ byRuns s n
   unfolding byRuns
   accepts nodes shadows c e f = rw (lt-leb (shortestClash (marked s) n (entries s)) (records s) (free-beyond (counted-settleable s sound) (marked s) (counted-unmarked s sound) c), byRuns, e, f)
@@ -69,23 +69,23 @@ module _ (s : List ℕ) (n : ℕ) (cs : List ℕ) (l : Lent) (X : Exact s n cs l
   }
 
   pub judged-accepted :
-      (nodes shadowed : ℕ) (parens marks shadows places answers e d t : List ℕ)
+      (nodes shadowed : ℕ) (parens marks shadows places answers d t : List ℕ)
       → length parens ≡ 2560 → length marks ≡ 1280 → length shadows ≡ 8192 → length places ≡ 2048
-      → Opened (marked s) n (facts s) parens marks shadows places nodes shadowed e d t false → answers ≡ answersTo s n cs
+      → Opened (marked s) n (facts s) parens marks shadows places nodes shadowed d t false → answers ≡ answersTo s n cs
       → Judged s n cs l (Accepted n nodes shadowed) (lent parens marks shadows places answers)
-  unfolding left indexed edges
-  judged-accepted nodes shadowed parens marks shadows places answers e d t lp lm ls la O a =
+  unfolding left indexed
+  judged-accepted nodes shadowed parens marks shadows places answers d t lp lm ls la O a =
       let I = O .index in
-      let sh : shadows ≡ padded 0 8192 (on.shadowList (visitsOf n (edges n s))) = I .shadows-are ∙ ap (λ (k : ℕ). padded 0 k (on.shadowList (visitsOf n (edges n s)))) ls in
-      let pl : places ≡ padded 0 2048 (on.placeList n (visitsOf n (edges n s))) = I .places-are ∙ ap (λ (k : ℕ). padded 0 k (on.placeList n (visitsOf n (edges n s)))) la in
-      let fs : length (padded 0 8192 (on.shadowList (visitsOf n (edges n s)))) ≡ 8192 = sym (ap length sh) ∙ ls in
-      let fp : length (padded 0 2048 (on.placeList n (visitsOf n (edges n s)))) ≡ 2048 = sym (ap length pl) ∙ la in
+      let sh : shadows ≡ padded 0 8192 (on.shadowList (bookVisits n (pairsOf s))) = I .shadows-are ∙ ap (λ (k : ℕ). padded 0 k (on.shadowList (bookVisits n (pairsOf s)))) ls in
+      let pl : places ≡ padded 0 2048 (bookPlaces n (pairsOf s)) = I .places-are ∙ ap (λ (k : ℕ). padded 0 k (bookPlaces n (pairsOf s))) la in
+      let fs : length (padded 0 8192 (on.shadowList (bookVisits n (pairsOf s)))) ≡ 8192 = sym (ap length sh) ∙ ls in
+      let fp : length (padded 0 2048 (bookPlaces n (pairsOf s))) ≡ 2048 = sym (ap length pl) ∙ la in
       record {
         outcome-is = accepts s n (X .sound) nodes shadowed (O .is) (I .nodes-are) (I .shadowed-are);
         left-is =
             same-lent
-            (I .parens-are ∙ ap (λ (k : ℕ). on.packed k (parenthesesOf n (edges n s))) lp ∙ sym (front-whole _ (l .parens) (packed-long 2560 _ ∙ sym (X .parens-long))))
-            (I .marks-are ∙ ap (λ (k : ℕ). on.packed k (on.marks (visitsOf n (edges n s)))) lm ∙ sym (front-whole _ (l .marks) (packed-long 1280 _ ∙ sym (X .marks-long))))
+            (I .parens-are ∙ ap (λ (k : ℕ). on.packed k (bookParens n (pairsOf s))) lp ∙ sym (front-whole _ (l .parens) (packed-long 2560 _ ∙ sym (X .parens-long))))
+            (I .marks-are ∙ ap (λ (k : ℕ). on.packed k (on.marks (bookVisits n (pairsOf s)))) lm ∙ sym (front-whole _ (l .marks) (packed-long 1280 _ ∙ sym (X .marks-long))))
             (sh ∙ sym (front-whole _ (l .shadows) (fs ∙ sym (X .shadows-long))))
             (pl ∙ sym (front-whole _ (l .places) (fp ∙ sym (X .places-long))))
             (a ∙ sym (front-whole _ (l .answers) (answers-long s n cs ∙ sym (X .answers-long))));

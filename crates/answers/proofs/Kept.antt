@@ -22,7 +22,8 @@ use Rattle.records.specs.Marked.{marked}
 use Rattle.records.proofs.Rows.{refused-positive}
 use Rattle.records.proofs.Keeps.{sheets-among}
 use Rattle.records.proofs.Accepted.{accepted}
-use Rattle.index.specs.Index.{visitsOf}
+use Rattle.groups.specs.Groups.{number}
+use Rattle.groups.specs.Index.{bookVisits, bookPlaces}
 use Rattle.index.specs.Parts as on
 use Rattle.settling.specs.Contradiction.{Contradiction}
 use Rattle.settling.specs.Settled.{Settleable}
@@ -30,7 +31,7 @@ use Rattle.settling.proofs.Settling.{settled-room, free-consistent, free-model,
 use Rattle.answers.specs.Lent.{Lent}
 use Rattle.answers.specs.Outcome as of
 use Rattle.answering.specs.Claimed.{claimed, pickedFacts, answersTo}
-use Rattle.answers.specs.Call.{edges, outcome, Passed, indexed, left, Determined}
+use Rattle.answers.specs.Call.{pairsOf, outcome, Passed, indexed, left, Determined}
 use Rattle.answers.specs.Demands.{Entailed, Demand2, Demand3, Contradicted}
 use Rattle.answers.specs.Agree.{Agree, SheetsAgree}
 use Rattle.answers.specs.Fitting.{Fits, Fitting}
@@ -74,14 +75,14 @@ module _ (s cs : List ℕ) (l : Lent) (n : ℕ) (p : Passed s cs l n) where
       }
 
   -- the index fits
-  fits : (nodes : ℕ) → nodes ≡ length (visitsOf n (edges n s)) → Fits n s nodes
-  unfolding edges on.shadowList on.placeList
+  fits : (nodes : ℕ) → nodes ≡ length (bookVisits n (pairsOf s)) → Fits n s nodes
+  unfolding bookVisits bookPlaces on.shadowList
   fits nodes e =
       let R = settled-room settles in
       record {
         nodes-fit = omega (arith, R .marks);
-        shadows-fit = rw (length-map (on.shadows (visitsOf n (edges n s))) (on.place (visitsOf n (edges n s)))) (R .shadows);
-        places-fit = rw (tab-length (on.place (visitsOf n (edges n s))) 0 n) (R .places);
+        shadows-fit = rw (length-map (on.shadows (bookVisits n (pairsOf s))) (on.place (bookVisits n (pairsOf s)))) (R .shadows);
+        places-fit = rw (tab-length (λ g. on.place (bookVisits n (pairsOf s)) (number n (pairsOf s) g)) 0 n) (settles .bounded .fits);
       }
 
 module _ (s cs : List ℕ) (l : Lent) where

@@ -8,3 +8,4 @@ pub mod Empty
 pub mod Fresh
 pub mod Orders
 pub mod Steadies
+pub mod Lower

@@ -27,8 +27,7 @@ use Rattle.records.proofs.Accepted.{accepted-claims}
 use Rattle.records.proofs.Marks.{marked-moved}
 use Rattle.records.proofs.Keeps.{picked-among}
 use Rattle.records.proofs.Orders.{facts-found, picked-found, found-moved, found-back, reordered-accepted}
-use Rattle.index.specs.Pairs.{joined}
-use Rattle.index.specs.Index.{visitsOf}
+use Rattle.groups.specs.Index.{bookVisits}
 use Rattle.index.specs.Parts as on
 use Rattle.settling.specs.PartIn.{partIn}
 use Rattle.settling.proofs.FactIndex.{part-stored, stored-part}
@@ -36,7 +35,7 @@ use Rattle.settling.proofs.Settling.{settleable, whole-unmarked, free-beyond, b
 use Rattle.answers.specs.Lent.{Lent, shortLent}
 use Rattle.answers.specs.Outcome.{number}
 use Rattle.answering.specs.Claimed.{claimed, pickedFacts, answersTo}
-use Rattle.answers.specs.Call.{edges, byRuns, byClaims, byBook, outcome, indexed, left}
+use Rattle.answers.specs.Call.{pairsOf, byRuns, byClaims, byBook, outcome, indexed, left}
 use Rattle.answers.specs.Order.{OrderFree}
 use Rattle.answers.specs.declared.Outcome.{Outcome}
 use Rattle.answers.specs.declared.Outcome.the-variants.{Accepted, Refused}
@@ -51,7 +50,7 @@ module _ (s : List ℕ) (n : ℕ) (sound : bookCheck s ≡ book.Accepted n) wher
       pick (yes h) = absurd (false≢true (beyond-free (settleable s n sound) (marked s) (whole-unmarked s n sound) h ∙ e))
       pick (no h) = rw (le-leb (shortestClash (marked s) n (entries s)) (records s) (omega arith), byRuns)
 
-  runs-free : clash (marked s) n (facts s) ≡ false → byRuns s n ≡ Accepted n (length (visitsOf n (edges n s))) (length (on.shadows (visitsOf n (edges n s))))
+  runs-free : clash (marked s) n (facts s) ≡ false → byRuns s n ≡ Accepted n (length (bookVisits n (pairsOf s))) (length (on.shadows (bookVisits n (pairsOf s))))
   unfolding byRuns
   runs-free e = rw (lt-leb (shortestClash (marked s) n (entries s)) (records s) (free-beyond (settleable s n sound) (marked s) (whole-unmarked s n sound) (sym e)), byRuns)
 
@@ -69,14 +68,12 @@ module _ (s t : List ℕ) (R : Reordered s t) (n : ℕ) (sound : bookCheck s ≡
       same-clash (marked s) n (facts s) (facts t) (S .within) (settleable t n sound′ .bounded .within) (S .some) (whole-unmarked s n sound) (facts-found s t (found-moved s t R)) (facts-found t s (found-back s t R))
       ∙ ap (λ (void : ℕ → Bool). clash void n (facts t)) (sym same-marks)
 
-  same-edges : edges n s ≡ edges n t
-  unfolding edges
-  same-edges =
-      ap (joined n)
-      (fun-ext (λ p. fun-ext (λ c.
+  same-pairs : pairsOf s ≡ pairsOf t
+  same-pairs =
+      fun-ext (λ p. fun-ext (λ c.
       same-truth (partIn (facts s) p c) (partIn (facts t) p c)
       (λ e. stored-part (facts t) p c (facts-found s t (found-moved s t R) _ (part-stored (facts s) p c e)))
-      (λ e. stored-part (facts s) p c (facts-found t s (found-back s t R) _ (part-stored (facts t) p c e))))))
+      (λ e. stored-part (facts s) p c (facts-found t s (found-back s t R) _ (part-stored (facts t) p c e)))))
 
   module _ (cs : List ℕ) (fit : claimsCheck n cs ≡ claims.Accepted) where
     same-answer : (i : ℕ) → i < records cs → verdict (marked s) n (pickedFacts s cs i) (claimed cs i) ≡ verdict (marked t) n (pickedFacts t cs i) (claimed cs i)
@@ -95,7 +92,7 @@ module _ (s t : List ℕ) (R : Reordered s t) (n : ℕ) (sound : bookCheck s ≡
 
     same-indexed : (l : Lent) → indexed s cs n l ≡ indexed t cs n l
     unfolding indexed
-    same-indexed l = rw (same-edges, same-answers)
+    same-indexed l = rw (same-pairs, same-answers)
 
   module _ (cs : List ℕ) (l : Lent) where
     abbrev Same : Outcome → Outcome → Type 0
@@ -107,7 +104,7 @@ module _ (s t : List ℕ) (R : Reordered s t) (n : ℕ) (sound : bookCheck s ≡
       where
         pick : Known (clash (marked s) n (facts s)) → Same (byRuns s n) (byRuns t n)
         pick (is-true e) = rw (runs-clash s n sound e, runs-clash t n sound′ (sym same-clashes ∙ e)) (inr (refl, refl), refl)
-        pick (is-false e) = rw (runs-free s n sound e, runs-free t n sound′ (sym same-clashes ∙ e), same-edges) (inl refl, same-indexed cs fit l)
+        pick (is-false e) = rw (runs-free s n sound e, runs-free t n sound′ (sym same-clashes ∙ e), same-pairs) (inl refl, same-indexed cs fit l)
 
     same-claims : (c : ClaimsCheck) → claimsCheck n cs ≡ c → Same (byClaims s n c) (byClaims t n c)
     unfolding byClaims left

@@ -14,7 +14,7 @@ use Rattle.records.specs.Refusal.{refusalNumber, row, judge, scan}
 use Rattle.records.specs.Rows.{ragged, moreThan, kindRow, originRow, pieceRow, voidRow, orderRow, repeatRow, beyondRow}
 use Rattle.records.specs.Check.{formFinding, recordFinding, checkBy, bookCheck, claimsCheck, claimAt, claimFinding}
 use Rattle.records.specs.Facts.{entries}
-use Rattle.index.specs.Index.{visitsOf}
+use Rattle.groups.specs.Index.{bookVisits}
 use Rattle.records.specs.declared.Record.{Record}
 use Rattle.records.specs.declared.Refusal.{Refusal}
 use Rattle.records.specs.declared.Refusal.the-variants.{ShortBuffer, BookLength, TooManyRecords, Kind, Origin, PieceNumber, VoidForm, Order, Repeat, ClaimsLength, TooManyClaims, ClaimFormat, ClaimPiece, Contradiction, NotStanding}
@@ -29,7 +29,7 @@ use Rattle.records.specs.declared.BookCheck.the-variants as book
 use Rattle.records.specs.declared.ClaimsCheck.{ClaimsCheck}
 use Rattle.records.specs.declared.ClaimsCheck.the-variants as claims
 use Rattle.answers.specs.Lent.{Lent, shortLent}
-use Rattle.answers.specs.Call.{edges, byRuns, byClaims, byBook, outcome, Passed}
+use Rattle.answers.specs.Call.{pairsOf, byRuns, byClaims, byBook, outcome, Passed}
 use Rattle.answers.specs.declared.Outcome.{Outcome}
 use Rattle.answers.specs.declared.Outcome.the-variants.{Accepted, Refused}
 
@@ -54,7 +54,7 @@ judge-other (Unfit x) g h k = h
 
 form-other : (e : Edition) (r : Record) → Others (formFinding e r)
 unfolding formFinding
-form-other e r = row-other (kindRow e r) Kind _ (omega arith) (row-other (originRow r) Origin _ (omega arith) (row-other (pieceRow r) PieceNumber _ (omega arith) (row-other (voidRow r) VoidForm _ (omega arith) (row-other (orderRow r) Order _ (omega arith) fit-other))))
+form-other e r = row-other (kindRow e r) Kind _ (omega arith) (row-other (originRow r) Origin _ (omega arith) (row-other (pieceRow r) PieceNumber _ (omega arith) (row-other (voidRow r) VoidForm _ (omega arith) (row-other (orderRow e r) Order _ (omega arith) fit-other))))
 
 record-other : (e : Edition) (s : List ℕ) (i : ℕ) → Others (recordFinding e s i)
 unfolding recordFinding
@@ -100,7 +100,7 @@ claims-other n cs =
 module _ (s cs : List ℕ) (l : Lent) where
   -- what the outcome says of the rows
   abbrev pub Told : Outcome → Type 0
-  Told (Accepted n nodes shadows) = Passed s cs l n × (leb (shortestClash (marked s) n (entries s)) (records s) ≡ false) × (nodes ≡ length (visitsOf n (edges n s)))
+  Told (Accepted n nodes shadows) = Passed s cs l n × (leb (shortestClash (marked s) n (entries s)) (records s) ≡ false) × (nodes ≡ length (bookVisits n (pairsOf s)))
   Told (Refused r i) =
       refusalNumber r ≡ 14 → (n : ℕ) × Passed s cs l n × (leb (shortestClash (marked s) n (entries s)) (records s) ≡ true) × (i ≡ shortestClash (marked s) n (entries s) - 1)
 

@@ -15,6 +15,9 @@ use Rattle.index.specs.Breadth.{breadth, order, parent}
 use Rattle.index.specs.Tree.{hang, under, whole, visits}
 use Rattle.index.specs.Parts.{isShadow, shadows}
 use Rattle.index.specs.Index.{visitsOf}
+use Rattle.groups.specs.Groups as groups
+use Rattle.groups.specs.Index.{edges, bookVisits}
+use Rattle.lists.specs.Tally.{tally}
 use Rattle.settling.specs.PartIn.{partIn}
 use Rattle.rules.specs.Fact.{factOf}
 use Rattle.rules.specs.Follows.{storing, turned, parting, table, entry, step, rounds, containment, apart, meets, notpart, derived, follows, clash}
@@ -26,7 +29,7 @@ use Rattle.records.specs.Marked.{marks, marked}
 use Rattle.records.specs.Reordered.{Reordered}
 use Rattle.records.specs.Refusal.{scan}
 use Rattle.records.specs.Pieces.{piecesUpTo, stated, largest}
-use Rattle.records.specs.Rows.{admitted, sameBytes}
+use Rattle.records.specs.Rows.{orderRow, admitted, sameBytes}
 use Rattle.records.specs.Check.{formFinding, recordFinding, checkBy, bookCheck, claimAt, claimsCheck}
 use Rattle.records.specs.Facts.{entryOf, entries}
 use Rattle.records.specs.Kept.{bytesAt, picked}
@@ -41,7 +44,7 @@ use Rattle.records.proofs.Orders.{Found, picked-found, count-found, found-befor
 use Rattle.answers.specs.Lent.{Lent}
 use Rattle.answers.specs.Outcome.{number}
 use Rattle.answering.specs.Claimed.{claimed, answersTo}
-use Rattle.answers.specs.Call.{edges, byRuns, outcome, indexed, left}
+use Rattle.answers.specs.Call.{byRuns, outcome, indexed, left}
 use Rattle.answers.specs.Order.{PlaceDiffers, Steady, MarksTurn}
 use Rattle.answers.specs.declared.Outcome.{Outcome}
 use Rattle.answers.specs.declared.Outcome.the-variants.{Accepted, Refused}
@@ -94,7 +97,7 @@ two-orders = record {
 }
 
 checks : (bookCheck early ≡ book.Accepted 3) × (bookCheck late ≡ book.Accepted 3)
-unfolding checkBy scan recordFinding formFinding admitted recordAt stated largest piecesUpTo sameBytes anyBelow
+unfolding checkBy scan recordFinding formFinding admitted orderRow recordAt stated largest piecesUpTo sameBytes anyBelow
 checks = (refl, refl)
 
 no-claims : claimsCheck 3 [] ≡ claims.Accepted
@@ -133,11 +136,11 @@ unfolding claimsCheck scan claimAt recordAt stated largest
 six-fit = refl
 
 overlaps : (bookCheck overlap ≡ book.Accepted 4) × (bookCheck (overlap ++ mark) ≡ book.Accepted 4)
-unfolding checkBy scan recordFinding formFinding admitted recordAt stated largest piecesUpTo sameBytes anyBelow
+unfolding checkBy scan recordFinding formFinding admitted orderRow recordAt stated largest piecesUpTo sameBytes anyBelow
 overlaps = (refl, refl)
 
 overlap-runs : (byRuns overlap 4 ≡ Accepted 4 5 1) × (byRuns (overlap ++ mark) 4 ≡ Accepted 4 5 1)
-unfolding byRuns entries entryOf stated recordAt factOf factsOf shortestClash first clash any anyBelow tab table entry storing turned parting marks marked step rounds containment meets edges joined partIn visitsOf whole under hang parts keep range parent order breadth find visits shadows isShadow
+unfolding byRuns entries entryOf stated recordAt factOf factsOf shortestClash first clash any anyBelow tab table entry storing turned parting marks marked step rounds containment meets bookVisits edges joined groups.groups groups.pair groups.number groups.lowest groups.first-of groups.same groups.lies tally partIn visitsOf whole under hang parts keep range parent order breadth find visits shadows isShadow
 overlap-runs = (refl, refl)
 
 overlap-answers : (answersTo overlap 4 six ≡ 1 ∷ 1 ∷ 2 ∷ 2 ∷ 3 ∷ 3 ∷ []) × (answersTo (overlap ++ mark) 4 six ≡ 3 ∷ 2 ∷ 3 ∷ 1 ∷ 1 ∷ 2 ∷ [])

@@ -18,9 +18,8 @@ use Rattle.records.specs.declared.BookCheck.{BookCheck}
 use Rattle.records.specs.declared.BookCheck.the-variants as book
 use Rattle.records.specs.declared.ClaimsCheck.{ClaimsCheck}
 use Rattle.records.specs.declared.ClaimsCheck.the-variants as claims
-use Rattle.index.specs.Pairs.{joined}
+use Rattle.groups.specs.Index.{bookParens, bookVisits, bookPlaces}
 use Rattle.settling.specs.PartIn.{partIn}
-use Rattle.index.specs.Index.{parenthesesOf, visitsOf}
 use Rattle.parentheses.specs.Padded.{padded}
 use Rattle.index.specs.Parts as on
 use Rattle.answering.specs.Claimed.{answersTo}
@@ -28,9 +27,9 @@ use Rattle.answers.specs.Lent.{Lent, shortLent}
 use Rattle.answers.specs.declared.Outcome.{Outcome}
 use Rattle.answers.specs.declared.Outcome.the-variants.{Accepted, Refused}
 
--- the pairs (part, container) of a book with n pieces, with the joins to piece 0
-unfoldable pub edges : ℕ → List ℕ → ℕ → ℕ → Bool
-edges n s = joined n (partIn (facts s))
+-- the pairs (part, container) of a book
+abbrev pub pairsOf : List ℕ → ℕ → ℕ → Bool
+pairsOf s = partIn (facts s)
 
 -- ---- the outcome: rows 1 to 14 from top to bottom
 
@@ -39,7 +38,7 @@ unfoldable pub byRuns : List ℕ → ℕ → Outcome
 byRuns s n =
     elim (leb (shortestClash (marked s) n (entries s)) (records s)) [
       | true ↦ Refused Contradiction (shortestClash (marked s) n (entries s) - 1)
-      | false ↦ Accepted n (length (visitsOf n (edges n s))) (length (on.shadows (visitsOf n (edges n s))))
+      | false ↦ Accepted n (length (bookVisits n (pairsOf s))) (length (on.shadows (bookVisits n (pairsOf s))))
     ]
 
 unfoldable pub byClaims : List ℕ → ℕ → ClaimsCheck → Outcome
@@ -63,10 +62,10 @@ pub record Passed (s cs : List ℕ) (l : Lent) (n : ℕ) : Type 0 where
 
 unfoldable pub indexed : List ℕ → List ℕ → ℕ → Lent → Lent
 indexed s cs n l = record {
-  parens = front (on.packed 2560 (parenthesesOf n (edges n s))) (l .parens);
-  marks = front (on.packed 1280 (on.marks (visitsOf n (edges n s)))) (l .marks);
-  shadows = front (padded 0 8192 (on.shadowList (visitsOf n (edges n s)))) (l .shadows);
-  places = front (padded 0 2048 (on.placeList n (visitsOf n (edges n s)))) (l .places);
+  parens = front (on.packed 2560 (bookParens n (pairsOf s))) (l .parens);
+  marks = front (on.packed 1280 (on.marks (bookVisits n (pairsOf s)))) (l .marks);
+  shadows = front (padded 0 8192 (on.shadowList (bookVisits n (pairsOf s)))) (l .shadows);
+  places = front (padded 0 2048 (bookPlaces n (pairsOf s))) (l .places);
   answers = front (answersTo s n cs) (l .answers);
 }
 

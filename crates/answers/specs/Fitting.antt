@@ -4,14 +4,14 @@ use mathlib.Core.List.{List}
 use Prim.Native.Nat.{ℕ, _≤_}
 use lib.ListN.{length}
 use Rattle.records.specs.Pieces.{pieceCount}
-use Rattle.index.specs.Index.{visitsOf}
+use Rattle.groups.specs.Index.{bookVisits, bookPlaces}
 use Rattle.index.specs.Parts as on
-use Rattle.answers.specs.Call.{edges}
+use Rattle.answers.specs.Call.{pairsOf}
 
 pub record Fits (n : ℕ) (book : List ℕ) (nodes : ℕ) : Type 0 where
   pub nodes-fit : nodes ≤ 10240
-  pub shadows-fit : length (on.shadowList (visitsOf n (edges n book))) ≤ 8192
-  pub places-fit : length (on.placeList n (visitsOf n (edges n book))) ≤ 2048
+  pub shadows-fit : length (on.shadowList (bookVisits n (pairsOf book))) ≤ 8192
+  pub places-fit : length (bookPlaces n (pairsOf book)) ≤ 2048
 
 abbrev pub Fitting : List ℕ → ℕ → ℕ → Type 0
 Fitting book number nodes = number ≡ 0 → Fits (pieceCount book) book nodes

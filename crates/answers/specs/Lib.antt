@@ -8,3 +8,4 @@ pub mod Fitting
 pub mod Judging
 pub mod Order
 pub mod One
+pub mod Lower

@@ -52,14 +52,40 @@ pub fn judge_in(
 {
     let mut voids = [0u64; 32];
     closure::marking::mark_voids(book, &mut voids);
-    let settled = settling::settle(book, n, &voids, e, d, t, parens, marks, shadows, places);
+    let mut order = [0u16; 2048];
+    let mut lead = [0u16; 2048];
+    let settled = settling::settle_stepped(
+        book,
+        n,
+        &voids,
+        e,
+        &mut order,
+        &mut lead,
+        d,
+        t,
+        parens,
+        marks,
+        shadows,
+        places,
+    );
     match settled {
         Settled::Clash(place) => {
             clear_index(parens, marks, shadows, places);
             Outcome::Refused(Refusal::Contradiction, place)
         }
         Settled::Free(nodes, shadowed) => {
-            answering::answer_all(book, n, &voids, claims, e, d, t, answers);
+            answering::answer_all(
+                book,
+                n,
+                &voids,
+                claims,
+                e,
+                &mut order,
+                &mut lead,
+                d,
+                t,
+                answers,
+            );
             Outcome::Accepted(n, nodes, shadowed)
         }
     }

@@ -19,17 +19,18 @@ use Rattle.records.proofs.Accepted.{accepted}
 use Rattle.parentheses.specs.Padded.{padded}
 use Rattle.parentheses.proofs.Paddeds.{padded-length}
 use Rattle.index.specs.Index.{visitsOf}
-use Rattle.index.specs.Pairs.{joined}
+use Rattle.groups.specs.Groups.{number, groups}
+use Rattle.groups.specs.Index.{edges, bookVisits, bookPlaces}
+use Rattle.groups.proofs.Numbered.{number-below}
 use Rattle.index.specs.Tree.{visits, whole}
 use Rattle.index.specs.Parts as on
 use Rattle.index.proofs.Packing.{padded-at}
 use Rattle.index.proofs.Standing.{place-small}
 use Rattle.closure.specs.Bounded.{Bounded}
 use Rattle.settling.specs.Opened.{Opened}
-use Rattle.settling.specs.PartIn.{partIn}
-use Rattle.settling.proofs.FactIndex as pairs-of
+use Rattle.settling.proofs.GroupIndex as of
 use Rattle.settling.proofs.Settling.{settleable, settled-room}
-use Rattle.answers.specs.Call.{edges}
+use Rattle.answers.specs.Call.{pairsOf}
 use Rattle.lists.specs.Passing.{passing}
 use Rattle.areas.specs.Area.{pairs, filled}
 use Rattle.catalog.specs.Call.{listOf, placesOf, areaOf, countsOf}
@@ -45,29 +46,31 @@ module _ (s : List ℕ) (n : ℕ) (sound : bookCheck s ≡ book.Accepted n) wher
 
   -- the place list has 2,048 numbers
   pub places-long : length (placesOf s n) ≡ 2048
-  unfolding placesOf on.placeList
-  places-long = padded-length 0 2048 (on.placeList n (visitsOf n (edges n s))) (omega (arith, book-bounded .fits, tab-length (on.place (visitsOf n (edges n s))) 0 n))
+  unfolding placesOf bookPlaces
+  places-long =
+      padded-length 0 2048 (bookPlaces n (pairsOf s)) (omega (arith, book-bounded .fits, tab-length (λ g. on.place (bookVisits n (pairsOf s)) (number n (pairsOf s) g)) 0 n))
 
   -- and those of pieces are below 10,240
   pub places-small : (x : ℕ) → x < n → getD (placesOf s n) x 0 < 10240
-  unfolding placesOf on.placeList visitsOf edges
+  unfolding placesOf bookPlaces bookVisits visitsOf
   places-small x l =
       let S = settleable s n sound in
-      let edge = joined n (partIn (facts s)) in
-      let P = on.place (visits (whole n edge)) in
-      let b = pairs-of.book n (facts s) (S .bounded .some) (S .bounded .within) (S .ordered .lower) in
-      let e = padded-at 0 2048 (tab P 0 n) x (omega (arith, S .bounded .fits)) ∙ tab-at P n x 0 l in
-      omega (arith, e, place-small n edge b x l, settled-room S .marks)
+      let B = S .bounded in
+      let k = groups n (pairsOf s) in
+      let edge = edges n (pairsOf s) in
+      let P : ℕ → ℕ = λ g. on.place (visits (whole k edge)) (number n (pairsOf s) g) in
+      let e = padded-at 0 2048 (tab P 0 n) x (omega (arith, B .fits)) ∙ tab-at P n x 0 l in
+      omega (arith, e, place-small k edge (of.book n (facts s) B) (number n (pairsOf s) x) (number-below n (pairsOf s) (of.pairs-within n (facts s) B) x l), settled-room S .marks)
 
   pub places-fit : (places : List ℕ) → places ≡ placesOf s n → (n ≤ length places) × ((x : ℕ) → x < n → getD places x 0 < 10240)
   places-fit places e = rw e (omega (arith, book-bounded .fits, places-long), places-small)
 
   -- the place list of a free book as it stands in its index
   pub places-are :
-      {parens marks shadows places e d t : List ℕ} {nodes shadowed : ℕ} {void : ℕ → Bool} → Opened void n (facts s) parens marks shadows places nodes shadowed e d t false → length places ≡ 2048
+      {parens marks shadows places d t : List ℕ} {nodes shadowed : ℕ} {void : ℕ → Bool} → Opened void n (facts s) parens marks shadows places nodes shadowed d t false → length places ≡ 2048
       → places ≡ placesOf s n
-  unfolding placesOf edges
-  places-are O l = O .index .places-are ∙ ap (λ (k : ℕ). padded 0 k (on.placeList n (visitsOf n (joined n (partIn (facts s)))))) l
+  unfolding placesOf
+  places-are O l = O .index .places-are ∙ ap (λ (k : ℕ). padded 0 k (bookPlaces n (pairsOf s))) l
 
 -- the list, the areas and the counts
 pub filled-all :

@@ -16,8 +16,7 @@ use Rattle.records.specs.declared.Refusal.the-variants.{ShortBuffer, ShortCatal
 use Rattle.records.specs.declared.BookCheck.{BookCheck}
 use Rattle.records.specs.declared.BookCheck.the-variants as book
 use Rattle.parentheses.specs.Padded.{padded}
-use Rattle.index.specs.Index.{visitsOf}
-use Rattle.index.specs.Parts as on
+use Rattle.groups.specs.Index.{bookPlaces}
 use Rattle.answers.specs.Lent.{shortLent}
 use Rattle.answers.specs.Call as answers
 use Rattle.answers.specs.declared.Outcome.{Outcome}
@@ -37,7 +36,7 @@ listOf s n k g = passing (λ x. follows (marked s) n (facts s) (factOf k x g)) n
 
 -- the place list, as it stands in the index
 unfoldable pub placesOf : List ℕ → ℕ → List ℕ
-placesOf s n = padded 0 2048 (on.placeList n (visitsOf n (answers.edges n s)))
+placesOf s n = padded 0 2048 (bookPlaces n (answers.pairsOf s))
 
 -- the pairs of places of its stored facts of kind k
 unfoldable pub areaOf : List ℕ → ℕ → ℕ → List ℕ

@@ -29,6 +29,8 @@ use Rattle.records.specs.Marked.{marked}
 use Rattle.records.specs.Check.{bookCheck, claimsCheck}
 use Rattle.records.proofs.Accepted.{accepted-claims, says-left, says-right}
 use Rattle.closure.specs.Void.{voidOf}
+use Rattle.closure.specs.Stored.{edgeBit}
+use Rattle.closure.specs.Closed.{Holds}
 use Rattle.settling.specs.Opened.{Opened}
 use Rattle.settling.specs.Settled.{Clashed}
 use Rattle.closure.specs.Answers.{answerByte}
@@ -36,7 +38,7 @@ use Rattle.closure.specs.declared.Answer.{Answer}
 use Rattle.closure.specs.declared.Answer.the-variants.{Follows, Denied, Open}
 use Rattle.answering.specs.Counted.{MarksOf}
 use Rattle.answering.proofs.Counts.{own-count}
-use Rattle.answers.specs.Call.{edges, byRuns}
+use Rattle.answers.specs.Call.{byRuns}
 use Rattle.answers.specs.One.{refuseIf}
 use Rattle.answers.specs.declared.Outcome.the-variants as call
 use Rattle.answers.proofs.Judges.{refuses, accepts}
@@ -201,20 +203,20 @@ module _ (n : ℕ) (claim : Record) (s c : List ℕ) (room : 164000 ≤ length c
 
 pub ground-of :
     (n : ℕ) (claim : Record) (s voids run : List ℕ) {parens marks shadows places e d t : List ℕ} {nodes shadowed : ℕ} → bookCheck s ≡ book.Accepted n → MarksOf s voids → run ≡ picked s claim
-    → Opened (voidOf voids) n (facts run) parens marks shadows places nodes shadowed e d t false → Ground n claim s voids e d t
-ground-of n claim s voids run sound M q O =
+    → Opened (voidOf voids) n (facts run) parens marks shadows places nodes shadowed d t false → Holds e (edgeBit n (facts run)) → Ground n claim s voids e d t
+ground-of n claim s voids run sound M q O E =
     record {
       sound = sound;
       void = M;
       free = rw (M .1, q) at (O .is);
-      steps = rw q at (O .steps);
+      steps = rw q at E;
       parts = rw q at (O .parts);
       toward = rw (M .1, q) at (O .toward);
     }
 
 pub by-marks :
-    {n : ℕ} (s voids run : List ℕ) {parens marks shadows places e d t : List ℕ} {nodes shadowed : ℕ} → MarksOf s voids → Opened (voidOf voids) n (facts run) parens marks shadows places nodes shadowed e d t false
-    → Opened (marked s) n (facts run) parens marks shadows places nodes shadowed e d t false
+    {n : ℕ} (s voids run : List ℕ) {parens marks shadows places d t : List ℕ} {nodes shadowed : ℕ} → MarksOf s voids → Opened (voidOf voids) n (facts run) parens marks shadows places nodes shadowed d t false
+    → Opened (marked s) n (facts run) parens marks shadows places nodes shadowed d t false
 by-marks s voids run M O = rw (M .1) at O
 
 module _ (n : ℕ) (claim : Record) (s c : List ℕ) (sound : bookCheck s ≡ book.Accepted n) where
@@ -226,9 +228,9 @@ module _ (n : ℕ) (claim : Record) (s c : List ℕ) (sound : bookCheck s ≡ bo
   judged-clash place r q C = silent (Refused Contradiction place) refl r q (ap (replyOf claim s) (refuses s n (own-count sound) place C))
 
   pub judged-free :
-      {parens marks shadows places e d t : List ℕ} {nodes shadowed : ℕ} → Opened (marked s) n (facts s) parens marks shadows places nodes shadowed e d t false → (r : Chain) {c′ : List ℕ}
+      {parens marks shadows places d t : List ℕ} {nodes shadowed : ℕ} → Opened (marked s) n (facts s) parens marks shadows places nodes shadowed d t false → (r : Chain) {c′ : List ℕ}
       → Answering n claim s c r c′ → Judged n claim s c r c′
-  unfolding replyOf edges
+  unfolding replyOf
   judged-free {nodes = nodes} {shadowed = shadowed} O r A =
       record {
         reply-is = A .reply-is ∙ ap (replyOf claim s) (accepts s n (own-count sound) nodes shadowed (O .is) (O .index .nodes-are) (O .index .shadowed-are));

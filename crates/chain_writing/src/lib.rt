@@ -109,6 +109,7 @@ fn write_restricted(
         &mut shadows,
         &mut places,
     );
+    closure::edges(run, n, e);
     write_found(n, claim, book, voids, e, d, t, c)
 }
 
@@ -121,7 +122,7 @@ fn refuse(refusal: Refusal, place: usize) -> Chain
     }
 }
 
-// Row 14 and the chain, for a book and a claim that pass the rows before.
+// Row 14 and the chain, for a book and a claim that pass the rows before. To settling e is scratch: the stored steps are put there behind it.
 fn judge(book: &[u8], n: usize, claim: Record, c: &mut [u8]) -> Chain
     requires { ⌜ (bookCheck (now book) ≡ is.Accepted n) × (stated claim ≡ true) × Within n (saying claim) × (164000 ≤ length (now c)) ⌝ }
     ensures { λ r. ⌜ Judged n claim (now (book .entry)) (now (c .entry)) r (now (c .exit)) ⌝ }
@@ -151,6 +152,7 @@ fn judge(book: &[u8], n: usize, claim: Record, c: &mut [u8]) -> Chain
         Settled::Clash(place) => refuse(Refusal::Contradiction, place),
         Settled::Free(_, _) => {
             if claim.origin == 0 {
+                closure::edges(book, n, &mut e);
                 return write_found(n, claim, book, &voids, &e, &d, &t, c);
             }
             write_restricted(n, claim, book, &voids, &mut e, &mut d, &mut t, c)

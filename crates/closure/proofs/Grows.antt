@@ -7,7 +7,9 @@ use native.Mathlib.Decide.{ℕ-discrete, decLt}
 use native.Mathlib.Omega.{arith}
 use borrow.Author.Tests.{eq-eqb, ne-eqb, lt-ltb, le-ltb}
 use lib.Dec.{eqb, ltb}
+use lib.ListN.{getD}
 use Rattle.relation.specs.Matrix.{bitOf, Inserted}
+use Rattle.closure.specs.Stored.{stepping}
 use Rattle.closure.specs.Closed.{Grown}
 
 pub grown-none : (m : List ℕ) (f : ℕ → ℕ → Bool) → ((x y : ℕ) → f x y ≡ false) → Grown m m f
@@ -75,6 +77,26 @@ crown-more k x y l = pick (ℕ-discrete x 0) (ℕ-discrete k y) (decLt y k)
     pick (yes e) (no f) (yes h) = simp (eq-eqb x 0 e, eq-eqb 0 x (sym e), ne-eqb k y f, lt-ltb y k h, lt-ltb y (k + 1) (omega arith), or-false)
     pick (yes e) (no f) (no h) = simp (eq-eqb x 0 e, eq-eqb 0 x (sym e), ne-eqb k y f, le-ltb y k (omega arith), le-ltb y (k + 1) (omega arith), or-false)
 
+-- and by one that may not lead
+pub leaders-none : (lead : ℕ → Bool) (x y : ℕ) → (eqb x 0 && (ltb 0 y && (ltb y 1 && lead y))) ≡ false
+leaders-none lead x y = ap (λ (t : Bool). eqb x 0 && t) (pick (decLt 0 y)) ∙ and-false (eqb x 0)
+  where
+    pick : Dec (0 < y) → (ltb 0 y && (ltb y 1 && lead y)) ≡ false
+    pick (yes h) = ap (λ (t : Bool). ltb 0 y && (t && lead y)) (le-ltb y 1 (omega arith)) ∙ and-false (ltb 0 y)
+    pick (no h) = ap (λ (t : Bool). t && (ltb y 1 && lead y)) (le-ltb 0 y (omega arith))
+
+pub leaders-more : (lead : ℕ → Bool) (k x y : ℕ) → 1 ≤ k
+    → ((eqb x 0 && (ltb 0 y && (ltb y k && lead y))) || (lead k && (eqb 0 x && eqb k y))) ≡ (eqb x 0 && (ltb 0 y && (ltb y (k + 1) && lead y)))
+leaders-more lead k x y l = pick (ℕ-discrete x 0) (ℕ-discrete k y) (decLt y k)
+  where
+    pick : Dec (x ≡ 0) → Dec (k ≡ y) → Dec (y < k)
+        → ((eqb x 0 && (ltb 0 y && (ltb y k && lead y))) || (lead k && (eqb 0 x && eqb k y))) ≡ (eqb x 0 && (ltb 0 y && (ltb y (k + 1) && lead y)))
+    pick (no e) d d′ = simp (ne-eqb x 0 e, ne-eqb 0 x (λ q. e (sym q)), and-false)
+    pick (yes e) (yes f) d′ =
+        simp (eq-eqb x 0 e, eq-eqb 0 x (sym e), eq-eqb k y f, lt-ltb 0 y (omega arith), le-ltb y k (omega arith), lt-ltb y (k + 1) (omega arith), and-true) (ap lead f)
+    pick (yes e) (no f) (yes h) = simp (eq-eqb x 0 e, eq-eqb 0 x (sym e), ne-eqb k y f, lt-ltb y k h, lt-ltb y (k + 1) (omega arith), and-false, or-false)
+    pick (yes e) (no f) (no h) = simp (eq-eqb x 0 e, eq-eqb 0 x (sym e), ne-eqb k y f, le-ltb y k (omega arith), le-ltb y (k + 1) (omega arith), and-false)
+
 -- bits that are asked only where a test holds
 pub grown-off : (m : List ℕ) (f : ℕ → ℕ → Bool) (on : Bool) → on ≡ false → Grown m m (λ x y. on && f x y)
 grown-off m f on e = grown-none m (λ x y. on && f x y) (λ x y. ap (λ (t : Bool). t && f x y) e)
@@ -89,3 +111,10 @@ pub grown-record :
 grown-record m m′ m″ on straight swapped a b e F G =
     grown-on (λ x y. (straight && (eqb a x && eqb b y)) || (swapped && (eqb a y && eqb b x))) on e
     (grown-same (λ x y. ap (λ (t : Bool). (straight && (eqb a x && eqb b y)) || (swapped && t)) (and-comm (eqb b x) (eqb a y))) (grown-two F G))
+
+-- the step of a record between leaders
+pub grown-step :
+    (m m′ lead : List ℕ) (on : Bool) (a b p c : ℕ) → on ≡ true → p ≡ getD lead a 0 → c ≡ getD lead b 0 → Grown m m′ (λ x y. not (eqb p c) && (eqb c x && eqb p y))
+    → Grown m m′ (λ x y. on && stepping lead x y a b)
+unfolding stepping
+grown-step m m′ lead on a b p c e q r G = grown-on (λ x y. stepping lead x y a b) on e (rw (q, r) at G)

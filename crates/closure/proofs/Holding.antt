@@ -8,7 +8,7 @@ use native.Mathlib.Decide.{decLt}
 use native.Mathlib.Omega.{arith}
 use borrow.Author.Tests.{le-ltb, eqb-true}
 use lib.Dec.{eqb, ltb}
-use lib.ListN.{length, replicate}
+use lib.ListN.{length, replicate, getD}
 use Rattle.lists.specs.Any.{anyBelow}
 use Rattle.lists.proofs.Bools.{and-both, both-and, or-either, left-or, right-or, eqb-self, same-truth, not-true}
 use Rattle.lists.proofs.Anys.{below-find, below-hit}
@@ -16,11 +16,11 @@ use Rattle.relation.specs.Matrix.{bitOf, common, through, Multiplied}
 use Rattle.relation.specs.Flow.{Carried}
 use Rattle.relation.proofs.Cleared.{cleared}
 use Rattle.rules.specs.Fact.{Fact, PART, factOf, Within, AllWithin, unmarked}
-use Rattle.rules.specs.Follows.{follows}
+use Rattle.rules.specs.Follows.{storing, follows}
 use Rattle.rules.proofs.Facts.{storing-find}
 use Rattle.records.specs.declared.Record.{Record}
 use Rattle.records.proofs.Accepted.{says-left, says-right}
-use Rattle.closure.specs.Stored.{storedBit, meetBit, edgeBit}
+use Rattle.closure.specs.Stored.{storedBit, meetBit, edgeBit, stepping, stepBit}
 use Rattle.closure.specs.Bounded.{Bounded}
 use Rattle.closure.specs.Closed.{partBit, wholeBit, towardBit, awayBit, outBit, Holds, Grown}
 
@@ -131,6 +131,13 @@ module _ (n : ℕ) (fs : List Fact) where
   unfolding edgeBit
   edge-holds z X G =
       record { sized = z; bits = λ a b la lb. G .bits a b la lb ∙ ap (λ (t : Bool). t || (eqb a 0 && (ltb 0 b && ltb b n))) (X .bits a b la lb) }
+
+  pub step-holds :
+      (lead : List ℕ) {x x′ : List ℕ} → length x′ ≡ 65536 → Holds x (λ a b. storing fs 1 (stepping lead a b)) → Grown x x′ (λ a b. eqb a 0 && (ltb 0 b && (ltb b n && eqb (getD lead b 0) b)))
+      → Holds x′ (stepBit n fs lead)
+  unfolding stepBit
+  step-holds lead z X G =
+      record { sized = z; bits = λ a b la lb. G .bits a b la lb ∙ ap (λ (t : Bool). t || (eqb a 0 && (ltb 0 b && (ltb b n && eqb (getD lead b 0) b)))) (X .bits a b la lb) }
 
   -- rows joined along the steps, or against them
   carried :

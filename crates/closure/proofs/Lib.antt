@@ -5,7 +5,7 @@ pub mod Storing
 pub mod Products
 pub mod Holding
 pub mod Answering
-pub mod Steps
-pub mod Orders
+pub mod Leading
+pub mod Spans
 pub mod VoidRows
 pub mod Aparts

@@ -11,10 +11,10 @@ use Rattle.lists.specs.Any.{anyBelow}
 use Rattle.relation.specs.Matrix.{bitOf}
 use Rattle.relation.proofs.Cleared.{cleared}
 use Rattle.rules.specs.Fact.{AllWithin}
+use Rattle.rules.specs.Follows.{storing}
 use Rattle.records.specs.Record.{recordAt, records}
 use Rattle.records.specs.declared.Record.{Record}
 use Rattle.records.specs.Facts.{facts}
-use Rattle.closure.specs.Stored.{storedBit}
 use Rattle.closure.specs.Closed.{Grown, Holds}
 use Rattle.closure.proofs.Runs.{hits, storing-records, record-within}
 
@@ -22,40 +22,39 @@ use Rattle.closure.proofs.Runs.{hits, storing-records, record-within}
 abbrev pub sets : Bool → Bool → ℕ → ℕ → ℕ → ℕ → Bool
 sets straight swapped x y a b = (straight && (eqb a x && eqb b y)) || (swapped && (eqb a y && eqb b x))
 
--- m has the bits of the first i records
-pub record Storing (s : List ℕ) (k : ℕ) (straight swapped : Bool) (m : List ℕ) (i : ℕ) : Type 0 where
-  pub bits : (x y : ℕ) → x < 2048 → y < 2048 → bitOf m x y ≡ anyBelow (hits s k (sets straight swapped x y)) i
+-- m has the bits that the first i records set
+pub record Storing (s : List ℕ) (k : ℕ) (test : ℕ → ℕ → ℕ → ℕ → Bool) (m : List ℕ) (i : ℕ) : Type 0 where
+  pub bits : (x y : ℕ) → x < 2048 → y < 2048 → bitOf m x y ≡ anyBelow (hits s k (test x y)) i
 
-module _ (s : List ℕ) (k : ℕ) (straight swapped : Bool) where
-  pub storing-none : (m : List ℕ) (l : ℕ) → m ≡ replicate l 0 → Storing s k straight swapped m 0
+-- a record of the kind names pieces
+pub storing-asks :
+    (s : List ℕ) (k n : ℕ) → AllWithin n (facts s) → 1 ≤ k → k ≤ 4 → (i : ℕ) (r : Record) → r ≡ recordAt s i → i < records s → r .kind ≡ k → (r .a < n) × (r .b < n)
+storing-asks s k n w l h i r e li q =
+    let q′ : recordAt s i .kind ≡ k = sym (ap (λ (r : Record). r .kind) e) ∙ q in
+    let b = record-within s n w i li (omega arith) (omega arith) in
+    rw e b
+
+module _ (s : List ℕ) (k : ℕ) (test : ℕ → ℕ → ℕ → ℕ → Bool) where
+  pub storing-none : (m : List ℕ) (l : ℕ) → m ≡ replicate l 0 → Storing s k test m 0
   unfolding anyBelow
   storing-none m l e = record { bits = λ x y _ _. rw e (cleared l x y) }
 
   pub storing-more :
-      (m m′ : List ℕ) (i : ℕ) (r : Record) → r ≡ recordAt s i → Storing s k straight swapped m i
-      → Grown m m′ (λ x y. eqb (r .kind) k && sets straight swapped x y (r .a) (r .b)) → Storing s k straight swapped m′ (i + 1)
+      (m m′ : List ℕ) (i : ℕ) (r : Record) → r ≡ recordAt s i → Storing s k test m i
+      → Grown m m′ (λ x y. eqb (r .kind) k && test x y (r .a) (r .b)) → Storing s k test m′ (i + 1)
   unfolding anyBelow hits
   storing-more m m′ i r e S G =
       record {
         bits = λ x y l h.
-            G .bits x y l h ∙ ap (λ (r : Record). bitOf m x y || (eqb (r .kind) k && sets straight swapped x y (r .a) (r .b))) e
-            ∙ ap (λ (t : Bool). t || hits s k (sets straight swapped x y) i) (S .bits x y l h)
-            ∙ or-comm (anyBelow (hits s k (sets straight swapped x y)) i) (hits s k (sets straight swapped x y) i)
-            ∙ sym (ap (anyBelow (hits s k (sets straight swapped x y))) (add-one i));
+            G .bits x y l h ∙ ap (λ (r : Record). bitOf m x y || (eqb (r .kind) k && test x y (r .a) (r .b))) e
+            ∙ ap (λ (t : Bool). t || hits s k (test x y) i) (S .bits x y l h)
+            ∙ or-comm (anyBelow (hits s k (test x y)) i) (hits s k (test x y) i)
+            ∙ sym (ap (anyBelow (hits s k (test x y))) (add-one i));
       }
 
-  -- a record of the kind names pieces
-  pub storing-asks :
-      AllWithin 2048 (facts s) → 1 ≤ k → k ≤ 4 → (i : ℕ) (r : Record) → r ≡ recordAt s i → i < records s → r .kind ≡ k → (r .a < 2048) × (r .b < 2048)
-  storing-asks w l h i r e li q =
-      let q′ : recordAt s i .kind ≡ k = sym (ap (λ (r : Record). r .kind) e) ∙ q in
-      let b = record-within s 2048 w i li (omega arith) (omega arith) in
-      rw e b
-
-  pub storing-all : (m : List ℕ) (i : ℕ) → 1 ≤ k → k ≤ 4 → length m ≡ 65536 → i ≡ records s → Storing s k straight swapped m i → Holds m (storedBit (facts s) k straight swapped)
-  unfolding storedBit
+  pub storing-all : (m : List ℕ) (i : ℕ) → 1 ≤ k → k ≤ 4 → length m ≡ 65536 → i ≡ records s → Storing s k test m i → Holds m (λ x y. storing (facts s) k (test x y))
   storing-all m i l h z e S =
       record {
         sized = z;
-        bits = λ x y lx ly. S .bits x y lx ly ∙ ap (anyBelow (hits s k (sets straight swapped x y))) e ∙ sym (storing-records s k (sets straight swapped x y) l h);
+        bits = λ x y lx ly. S .bits x y lx ly ∙ ap (anyBelow (hits s k (test x y))) e ∙ sym (storing-records s k (test x y) l h);
       }

@@ -2,10 +2,9 @@ pub mod Void
 pub mod Stored
 pub mod Closed
 pub mod Bounded
-pub mod Ordered
 pub mod Opposed
 pub mod ByMarks
 pub mod Tells
 pub mod Answers
-pub mod Order
+pub mod Stepped
 pub mod Apart

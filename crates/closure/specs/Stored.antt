@@ -3,6 +3,7 @@ use Prim.Native.Nat.{ℕ}
 use mathlib.Core.Bool.{Bool, true, false, not, _&&_, _||_}
 use mathlib.Core.List.{List}
 use lib.Dec.{eqb, ltb}
+use lib.ListN.{getD}
 use Rattle.rules.specs.Fact.{Fact}
 use Rattle.rules.specs.Follows.{storing}
 
@@ -17,3 +18,11 @@ meetBit void n fs x y = (eqb x y && (ltb x n && not (void x))) || storedBit fs 3
 -- the steps of containment, row by container: y PART x is stored, or x is piece 0, of which every other piece is part
 unfoldable pub edgeBit : ℕ → List Fact → ℕ → ℕ → Bool
 edgeBit n fs x y = storedBit fs 1 false true x y || (eqb x 0 && (ltb 0 y && ltb y n))
+
+-- a PART of the pieces a and b is a step from x to y between their leaders
+unfoldable pub stepping : List ℕ → ℕ → ℕ → ℕ → ℕ → Bool
+stepping lead x y a b = not (eqb (getD lead a 0) (getD lead b 0)) && (eqb (getD lead b 0) x && eqb (getD lead a 0) y)
+
+-- the steps between leaders: by a stored PART, or from piece 0 to every other leader
+unfoldable pub stepBit : ℕ → List Fact → List ℕ → ℕ → ℕ → Bool
+stepBit n fs lead x y = storing fs 1 (stepping lead x y) || (eqb x 0 && (ltb 0 y && (ltb y n && eqb (getD lead y 0) y)))

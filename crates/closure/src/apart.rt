@@ -7,8 +7,7 @@ ghost use Rattle.rules.specs.Follows.{clash};
 ghost use Rattle.records.specs.Facts.{facts};
 ghost use Rattle.closure.specs.Void.{voidOf, Voids};
 ghost use Rattle.closure.specs.Bounded.{Bounded};
-ghost use Rattle.closure.specs.Ordered.{Ordered};
-ghost use Rattle.closure.specs.Stored.{edgeBit};
+ghost use Rattle.closure.specs.Stepped.{Stepped};
 ghost use Rattle.closure.specs.Closed.{Grown, Holds, partBit};
 ghost use Rattle.closure.specs.Apart.{markedApart, apartBit, Aparts};
 
@@ -41,15 +40,17 @@ pub fn apart_rows(
     n: usize,
     voids: &[u64],
     e: &[u64],
+    order: &[u16],
+    lead: &[u16],
     d: &[u64],
     m: &mut [u64],
     a: &mut [u64],
 )
-    requires { ⌜ Bounded n (facts (now run)) × Voids (now voids) × Ordered (facts (now run)) × Holds (now e) (edgeBit n (facts (now run))) × Holds (now d) (partBit n (facts (now run))) × (length (now m) ≡ 65536) × (length (now a) ≡ 65536) × (clash (voidOf (now voids)) n (facts (now run)) ≡ false) ⌝ }
+    requires { ⌜ Bounded n (facts (now run)) × Voids (now voids) × Stepped n (facts (now run)) (now e) (now order) (now lead) × Holds (now d) (partBit n (facts (now run))) × (length (now m) ≡ 65536) × (length (now a) ≡ 65536) × (clash (voidOf (now voids)) n (facts (now run)) ≡ false) ⌝ }
     ensures { λ _. ⌜ Aparts (voidOf (now (voids .entry))) n (facts (now (run .entry))) (now (a .exit)) ⌝ }
 {
     apart_told(run, n, voids, m);
     relation::clear(a);
     relation::product(a, m, d, n);
-    crate::join_wholes(n, e, a);
+    crate::join_wholes(n, e, order, lead, a);
 }

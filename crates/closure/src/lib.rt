@@ -1,21 +1,22 @@
 // Every answer from one closure: containment and the stored facts as bit matrices, their products, and what those say of claims.
 ghost use mathlib.Core.Path.{_≡_};
-ghost use mathlib.Core.Bool.{Bool, true, not, _&&_, _||_};
+ghost use mathlib.Core.Bool.{true, not, _&&_, _||_};
 ghost use mathlib.Core.List.{List};
 ghost use Prim.Native.Nat.{ℕ, _<_, _≤_};
 ghost use lib.Dec.{eqb, ltb};
-ghost use lib.ListN.{length};
-ghost use Rattle.rules.specs.Fact.{factOf, AllWithin};
+ghost use lib.ListN.{length, getD};
+ghost use Rattle.rules.specs.Fact.{Fact, factOf, AllWithin};
+ghost use Rattle.rules.specs.Follows.{storing};
 ghost use Rattle.records.specs.Facts.{facts};
 ghost use Rattle.closure.specs.Void.{voidOf, Voids};
 ghost use Rattle.closure.specs.ByMarks.{byMarks};
-ghost use Rattle.closure.specs.Stored.{storedBit, meetBit, edgeBit};
+ghost use Rattle.closure.specs.Stored.{storedBit, meetBit, edgeBit, stepping, stepBit};
 ghost use Rattle.closure.specs.Closed.{Grown, Holds, partBit, wholeBit, towardBit, awayBit, outBit};
 ghost use Rattle.closure.specs.Bounded.{Bounded};
 ghost use Rattle.relation.specs.Matrix.{bitOf};
-ghost use Rattle.relation.specs.Flow.{Reached, Carried, along, against};
-ghost use Rattle.closure.specs.Order.{Rising, Falling};
-ghost use Rattle.closure.specs.Ordered.{Ordered};
+ghost use Rattle.relation.specs.Flow.{Sorted, Carried};
+ghost use Rattle.relation.specs.Led.{Led};
+ghost use Rattle.closure.specs.Stepped.{Stepped};
 ghost use Rattle.closure.specs.Opposed.{opposed};
 ghost use Rattle.closure.specs.Tells.{Derived, Answered, Clashing};
 ghost use Rattle.closure.specs.Answers.{answerByte};
@@ -105,13 +106,69 @@ fn crown(n: usize, e: &mut [u64])
     }
 }
 
-// The steps of containment, along which rows are joined: the same as a product with D or U, at the cost of a row for each step.
+// The steps of containment.
 pub fn edges(run: &[u8], n: usize, e: &mut [u64])
     requires { ⌜ Bounded n (facts (now run)) × (length (now e) ≡ 65536) ⌝ }
     ensures { λ _. ⌜ Holds (now (e .exit)) (edgeBit n (facts (now (run .entry)))) ⌝ }
 {
     store(run, 1, false, true, e);
     crown(n, e);
+}
+
+fn leader(lead: &[u16], g: usize) -> usize
+    requires { ⌜ g < length (now lead) ⌝ }
+    ensures { λ h. ⌜ h ≡ getD (now (lead .entry)) g 0 ⌝ }
+{
+    lead[g] as usize
+}
+
+// Sets the step that a record makes between the leaders of its pieces, where they differ.
+fn step_record(r: Record, lead: &[u16], e: &mut [u64])
+    requires { ⌜ (length (now e) ≡ 65536) × (r .kind ≡ 1 → (r .a < length (now lead)) × (r .b < length (now lead)) × (getD (now lead) (r .a) 0 < 2048) × (getD (now lead) (r .b) 0 < 2048)) ⌝ }
+    ensures { λ _. ⌜ Grown (now (e .entry)) (now (e .exit)) (λ x y. eqb (r .kind) 1 && stepping (now (lead .entry)) x y (r .a) (r .b)) ⌝ }
+{
+    if r.kind != 1 {
+        return;
+    }
+    let p = leader(lead, r.a);
+    let c = leader(lead, r.b);
+    insert_where(p != c, e, c, p);
+}
+
+// The stored PARTs, container to part, between pieces that go by different names: their leaders, or the numbers of their groups.
+pub fn step_stored(run: &[u8], lead: &[u16], n: usize, e: &mut [u64])
+    requires { ⌜ Bounded n (facts (now run)) × (n ≤ length (now lead)) × ((g : ℕ) → g < n → getD (now lead) g 0 < n) × (length (now e) ≡ 65536) ⌝ }
+    ensures { λ _. ⌜ Holds (now (e .exit)) (λ x y. storing (facts (now (run .entry))) 1 (stepping (now (lead .entry)) x y)) ⌝ }
+{
+    relation::clear(e);
+    let count = run.len() / 6;
+    let mut i: usize = 0;
+    while i < count {
+        let r = records::record_at(run, i);
+        step_record(r, lead, e);
+        i += 1;
+    }
+}
+
+// Every leader but 0 as a part of piece 0.
+fn crown_leaders(lead: &[u16], n: usize, e: &mut [u64])
+    requires { ⌜ (length (now e) ≡ 65536) × (n ≤ 2048) × (0 < n) × (n ≤ length (now lead)) ⌝ }
+    ensures { λ _. ⌜ Grown (now (e .entry)) (now (e .exit)) (λ x y. eqb x 0 && (ltb 0 y && (ltb y n && eqb (getD (now (lead .entry)) y 0) y))) ⌝ }
+{
+    let mut p: usize = 1;
+    while p < n {
+        insert_where(leader(lead, p) == p, e, 0, p);
+        p += 1;
+    }
+}
+
+// The steps between leaders, along which rows are joined: the same as a product with D or U, at the cost of a row for each step.
+pub fn steps(run: &[u8], lead: &[u16], n: usize, e: &mut [u64])
+    requires { ⌜ Bounded n (facts (now run)) × Led n (now lead) × (length (now e) ≡ 65536) ⌝ }
+    ensures { λ _. ⌜ Holds (now (e .exit)) (stepBit n (facts (now (run .entry))) (now (lead .entry))) ⌝ }
+{
+    step_stored(run, lead, n, e);
+    crown_leaders(lead, n, e);
 }
 
 // M: the stored MEETS, and each piece that is not marked with itself.
@@ -123,65 +180,71 @@ fn meets(run: &[u8], n: usize, voids: &[u64], m: &mut [u64])
     diagonal_unmarked(n, voids, m);
 }
 
-// The pieces from the last to the first: parts before their containers.
-fn last_first(n: usize, order: &mut [u16])
-    requires { ⌜ (n ≤ 2048) × (n ≤ length (now order)) ⌝ }
-    ensures { λ _. ⌜ Falling n (now (order .exit)) ⌝ }
+// Each row below n becomes the union of the rows of its parts: followers' rows are joined at their leaders.
+fn join_parts(n: usize, e: &[u64], order: &[u16], lead: &[u16], m: &mut [u64])
+    requires { ⌜ (length (now m) ≡ 65536) × (length (now e) ≡ 65536) × (n ≤ 2048) × Sorted (now e) n (now order) × Led n (now lead) ⌝ }
+    ensures { λ _. ⌜ ((fs : List Fact) → Bounded n fs → Stepped n fs (now (e .entry)) (now (order .entry)) (now (lead .entry)) → Carried (partBit n fs) n (now (m .entry)) (now (m .exit))) ⌝ }
 {
-    let mut i: usize = 0;
-    while i < n {
-        order[i] = (n - 1 - i) as u16;
-        i += 1;
-    }
+    relation::pool_rows(lead, n, m);
+    relation::join_along(e, order, n, m);
+    relation::share_rows(lead, n, m);
 }
 
-// Each row below n becomes the union of the rows that it reaches along the steps.
-fn join_parts(n: usize, e: &[u64], m: &mut [u64])
-    requires { ⌜ (length (now e) ≡ 65536) × (length (now m) ≡ 65536) × (n ≤ 2048) × Rising (now e) n ⌝ }
-    ensures { λ _. ⌜ ((r : ℕ → ℕ → Bool) → Reached (along (now (e .entry))) n r → Carried r n (now (m .entry)) (now (m .exit))) ⌝ }
+// Each row below n becomes the union of the rows of what it is part of.
+fn join_wholes(n: usize, e: &[u64], order: &[u16], lead: &[u16], m: &mut [u64])
+    requires { ⌜ (length (now m) ≡ 65536) × (length (now e) ≡ 65536) × (n ≤ 2048) × Sorted (now e) n (now order) × Led n (now lead) ⌝ }
+    ensures { λ _. ⌜ ((fs : List Fact) → Bounded n fs → Stepped n fs (now (e .entry)) (now (order .entry)) (now (lead .entry)) → Carried (wholeBit n fs) n (now (m .entry)) (now (m .exit))) ⌝ }
 {
-    let mut order = [0u16; 2048];
-    last_first(n, &mut order);
-    relation::join_along(e, &order, n, m);
-}
-
-// Each row below n becomes the union of the rows that it reaches against the steps.
-fn join_wholes(n: usize, e: &[u64], m: &mut [u64])
-    requires { ⌜ (length (now e) ≡ 65536) × (length (now m) ≡ 65536) × (n ≤ 2048) × Rising (now e) n ⌝ }
-    ensures { λ _. ⌜ ((r : ℕ → ℕ → Bool) → Reached (against (now (e .entry))) n r → Carried r n (now (m .entry)) (now (m .exit))) ⌝ }
-{
-    let mut order = [0u16; 2048];
-    last_first(n, &mut order);
-    relation::join_against(e, &order, n, m);
+    relation::pool_rows(lead, n, m);
+    relation::join_against(e, order, n, m);
+    relation::share_rows(lead, n, m);
 }
 
 // T = D·M.
-pub fn meeting(run: &[u8], n: usize, voids: &[u64], e: &[u64], t: &mut [u64])
-    requires { ⌜ Bounded n (facts (now run)) × Voids (now voids) × Ordered (facts (now run)) × Holds (now e) (edgeBit n (facts (now run))) × (length (now t) ≡ 65536) ⌝ }
+pub fn meeting(
+    run: &[u8],
+    n: usize,
+    voids: &[u64],
+    e: &[u64],
+    order: &[u16],
+    lead: &[u16],
+    t: &mut [u64],
+)
+    requires { ⌜ Bounded n (facts (now run)) × Voids (now voids) × Stepped n (facts (now run)) (now e) (now order) (now lead) × (length (now t) ≡ 65536) ⌝ }
     ensures { λ _. ⌜ Holds (now (t .exit)) (towardBit (voidOf (now (voids .entry))) n (facts (now (run .entry)))) ⌝ }
 {
     meets(run, n, voids, t);
-    join_parts(n, e, t);
+    join_parts(n, e, order, lead, t);
 }
 
 // P = U·A.
-fn parting(run: &[u8], n: usize, e: &[u64], p: &mut [u64])
-    requires { ⌜ Bounded n (facts (now run)) × Ordered (facts (now run)) × Holds (now e) (edgeBit n (facts (now run))) × (length (now p) ≡ 65536) ⌝ }
+fn parting(run: &[u8], n: usize, e: &[u64], order: &[u16], lead: &[u16], p: &mut [u64])
+    requires { ⌜ Bounded n (facts (now run)) × Stepped n (facts (now run)) (now e) (now order) (now lead) × (length (now p) ≡ 65536) ⌝ }
     ensures { λ _. ⌜ Holds (now (p .exit)) (awayBit n (facts (now (run .entry)))) ⌝ }
 {
     store(run, 2, true, true, p);
-    join_wholes(n, e, p);
+    join_wholes(n, e, order, lead, p);
 }
 
 // Q = D·N ∪ T·P, as D·(N ∪ M·P): M has few bits. m is scratch.
-fn outing(run: &[u8], n: usize, voids: &[u64], e: &[u64], p: &[u64], m: &mut [u64], q: &mut [u64])
-    requires { ⌜ Bounded n (facts (now run)) × Voids (now voids) × Ordered (facts (now run)) × Holds (now e) (edgeBit n (facts (now run))) × Holds (now p) (awayBit n (facts (now run))) × (length (now m) ≡ 65536) × (length (now q) ≡ 65536) ⌝ }
+fn outing(
+    run: &[u8],
+    n: usize,
+    voids: &[u64],
+    e: &[u64],
+    order: &[u16],
+    lead: &[u16],
+    p: &[u64],
+    m: &mut [u64],
+    q: &mut [u64],
+)
+    requires { ⌜ Bounded n (facts (now run)) × Voids (now voids) × Stepped n (facts (now run)) (now e) (now order) (now lead) × Holds (now p) (awayBit n (facts (now run))) × (length (now m) ≡ 65536) × (length (now q) ≡ 65536) ⌝ }
     ensures { λ _. ⌜ Holds (now (q .exit)) (outBit (voidOf (now (voids .entry))) n (facts (now (run .entry)))) ⌝ }
 {
     meets(run, n, voids, m);
     store(run, 4, true, false, q);
     relation::product(q, m, p, n);
-    join_parts(n, e, q);
+    join_parts(n, e, order, lead, q);
 }
 
 // U, P and Q.
@@ -190,18 +253,20 @@ pub fn complete(
     n: usize,
     voids: &[u64],
     e: &[u64],
+    order: &[u16],
+    lead: &[u16],
     u: &mut [u64],
     p: &mut [u64],
     q: &mut [u64],
 )
-    requires { ⌜ Bounded n (facts (now run)) × Voids (now voids) × Ordered (facts (now run)) × Holds (now e) (edgeBit n (facts (now run))) × (length (now u) ≡ 65536) × (length (now p) ≡ 65536) × (length (now q) ≡ 65536) ⌝ }
+    requires { ⌜ Bounded n (facts (now run)) × Voids (now voids) × Stepped n (facts (now run)) (now e) (now order) (now lead) × (length (now u) ≡ 65536) × (length (now p) ≡ 65536) × (length (now q) ≡ 65536) ⌝ }
     ensures { λ _. ⌜ Holds (now (u .exit)) (wholeBit n (facts (now (run .entry)))) × Holds (now (p .exit)) (awayBit n (facts (now (run .entry)))) × Holds (now (q .exit)) (outBit (voidOf (now (voids .entry))) n (facts (now (run .entry)))) ⌝ }
 {
-    parting(run, n, e, p);
-    outing(run, n, voids, e, p, u, q);
+    parting(run, n, e, order, lead, p);
+    outing(run, n, voids, e, order, lead, p, u, q);
     relation::clear(u);
     diagonal(n, u);
-    join_wholes(n, e, u);
+    join_wholes(n, e, order, lead, u);
 }
 
 // Whether one of two pieces is marked.

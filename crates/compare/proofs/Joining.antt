@@ -11,7 +11,7 @@ use lib.Dec.{eqb}
 use lib.ListN.{length, length-append}
 use Rattle.lists.proofs.Bools.{and-both, same-truth, not-true, not-is-true, Known, is-true, is-false, known}
 use Rattle.lists.proofs.Anys.{below-find}
-use Rattle.rules.specs.Fact.{Fact, PART, Within, AllWithin}
+use Rattle.rules.specs.Fact.{Fact, Within, AllWithin}
 use Rattle.rules.specs.Derives.{Contradictory}
 use Rattle.rules.specs.Follows.{clash}
 use Rattle.rules.specs.Model.{Model, keepsAll}
@@ -30,7 +30,7 @@ use Rattle.records.proofs.Runs.{fact-here, fact-from}
 use Rattle.records.proofs.Keeps.{kept-records, kept-from, record-there}
 use Rattle.records.proofs.Orders.{Found, record-early, record-late, found-before, found-behind, found-both, found-through, facts-found}
 use Rattle.records.proofs.Marks.{marked-found, marked-append}
-use Rattle.records.proofs.Accepted.{accepted, accepted-within, accepted-order, accepted-positive, accepted-pieces}
+use Rattle.records.proofs.Accepted.{accepted, accepted-within, accepted-positive, accepted-pieces}
 use Rattle.closure.specs.Void.{Markable}
 use Rattle.settling.specs.Settled.{Settleable}
 use Rattle.closure.proofs.VoidRows.{accepted-markable}
@@ -136,13 +136,6 @@ module _ (s t : List ℕ) (a b : ℕ) (first : bookCheck s ≡ book.Accepted a) 
       pick (inl h) = let c = accepted-within (accepted s a first) f h in (omega (arith, c .0), omega (arith, c .1))
       pick (inr h) = let c = accepted-within (accepted t b second) f h in (omega (arith, c .0), omega (arith, c .1))
 
-  lower : (x y : ℕ) → List·Memᴰ (PART x y) (facts (s ++ t)) → y < x
-  lower x y m = pick (fact-split s t whole (PART x y) m)
-    where
-      pick : List·Memᴰ (PART x y) (facts s) ⊎ List·Memᴰ (PART x y) (facts t) → y < x
-      pick (inl h) = accepted-order (accepted s a first) x y h
-      pick (inr h) = accepted-order (accepted t b second) x y h
-
   settles : Settleable (max a b) (s ++ t) 4608 2304 16384 2048
   settles =
       let A = accepted s a first in
@@ -151,7 +144,6 @@ module _ (s t : List ℕ) (a b : ℕ) (first : bookCheck s ≡ book.Accepted a) 
       let small : max a b ≤ 2048 = omega (arith, accepted-pieces A, accepted-pieces B) in
       record {
         bounded = record { some = omega (arith, accepted-positive A); fits = small; within = within };
-        ordered = record { lower = lower };
         roomy = record { few = omega arith; parens = omega arith; marks = omega arith; shadows = few; places = small };
       }
 

@@ -18,7 +18,7 @@ use Rattle.rules.proofs.More.{Among, weaken}
 use Rattle.records.specs.Record.{recordAt, records}
 use Rattle.records.specs.Refusal.{scan}
 use Rattle.records.specs.Pieces.{piecesUpTo, stated, largest}
-use Rattle.records.specs.Rows.{admitted, sameBytes}
+use Rattle.records.specs.Rows.{orderRow, admitted, sameBytes}
 use Rattle.records.specs.Check.{formFinding, recordFinding, checkBy, claimAt, claimsCheck}
 use Rattle.records.specs.Facts.{entryOf, entries, facts}
 use Rattle.records.specs.Kept.{bytesAt, bytesWhere, keptUpTo, picked}
@@ -133,5 +133,5 @@ abbrev meeting : List ℕ
 meeting = bytes 3 0 1 1
 
 pub marks-oppose : MarksOppose
-unfolding outcome byRows byBook byClaims freshCall calls.byBook calls.byClaims byRuns calls.edges checkBy scan recordFinding formFinding admitted recordAt stated largest piecesUpTo sameBytes anyBelow claimsCheck claimAt entries entryOf factOf factsOf shortestClash first clash any tab table entry storing turned parting marks marked step rounds containment apart meets notpart derived follows verdict judge laid jointRun has same keptUpTo bytesWhere bytesAt bytesOf threes answerOf agreement claimed picked
+unfolding outcome byRows byBook byClaims freshCall calls.byBook calls.byClaims byRuns checkBy scan recordFinding formFinding admitted orderRow recordAt stated largest piecesUpTo sameBytes anyBelow claimsCheck claimAt entries entryOf factOf factsOf shortestClash first clash any tab table entry storing turned parting marks marked step rounds containment apart meets notpart derived follows verdict judge laid jointRun has same keptUpTo bytesWhere bytesAt bytesOf threes answerOf agreement claimed picked
 marks-oppose = (marking, stating, meeting, refl, refl)

@@ -28,11 +28,11 @@ use Rattle.records.specs.declared.BookCheck.the-variants as book
 use Rattle.records.specs.declared.ClaimsCheck.the-variants as claims
 use Rattle.records.proofs.Accepted.{accepted, accepted-within, accepted-positive, accepted-pieces}
 use Rattle.records.proofs.Marks.{accepted-whole-unmarked}
-use Rattle.index.specs.Index.{visitsOf}
+use Rattle.groups.specs.Index.{bookVisits}
 use Rattle.index.specs.Parts as parts
 use Rattle.answers.specs.Call as calls
 use Rattle.answering.specs.Claimed.{answersTo, claimed, pickedFacts}
-use Rattle.answers.specs.Call.{byRuns}
+use Rattle.answers.specs.Call.{pairsOf, byRuns}
 use Rattle.answers.specs.Fresh.{freshCall}
 use Rattle.answers.specs.Lent.{Lent}
 use Rattle.answers.specs.Judging as judging
@@ -69,7 +69,7 @@ module _ (s : List ℕ) (n : ℕ) where
 
   pub runs-free :
       leb (shortestClash (marked s) n (entries s)) (records s) ≡ false
-      → byRuns s n ≡ on.Accepted n (length (visitsOf n (calls.edges n s))) (length (parts.shadows (visitsOf n (calls.edges n s))))
+      → byRuns s n ≡ on.Accepted n (length (bookVisits n (pairsOf s))) (length (parts.shadows (bookVisits n (pairsOf s))))
   unfolding byRuns
   runs-free e = rw (e, byRuns)
 

@@ -1,9 +1,9 @@
--- The table of the piece at each place: the place list turned round, and then the shadows. Assumes nothing.
+-- The table of the leader at each place: the place list turned round, and then the shadows. Assumes nothing.
 use mathlib.Core.Path.{_≡_, refl, sym, ap, subst, _∙_}
 use mathlib.Core.Bool.{Bool, true, false}
 use mathlib.Core.List.{List}
 use Prim.Native.Nat.{ℕ, _+_, _≤_, _<_}
-use native.Mathlib.Decide.{decLt}
+use native.Mathlib.Decide.{decLt, ℕ-discrete}
 use native.Mathlib.Omega.{arith}
 use borrow.Author.Count.{below-more}
 use lib.ListN.{length, getD, set}
@@ -11,19 +11,23 @@ use lib.Seq.{getD-set-same, getD-set-other}
 use Rattle.lists.specs.Tally.{num}
 use Rattle.parentheses.specs.Rank.{rank}
 use Rattle.parentheses.proofs.Ranks.{rank-suc, rank-zero}
-use Rattle.containment.specs.Contents.{leads, Apart, StandsFor}
+use Rattle.containment.specs.Contents.{leads, Turnable, StandsFor}
 
 -- ---- nodes
--- the pieces below g stand at their places
-abbrev pub Turned : List ℕ → List ℕ → ℕ → Type 0
-Turned places pieces g = (k : ℕ) → k < g → getD pieces (getD places k 0) 0 ≡ k
+-- the leaders of the pieces below g stand at the pieces' places
+abbrev pub Turned : List ℕ → List ℕ → List ℕ → ℕ → Type 0
+Turned places lead turned g = (k : ℕ) → k < g → getD turned (getD places k 0) 0 ≡ getD lead k 0
 
-pub turned-more : (n wide : ℕ) (places pieces : List ℕ) (g q : ℕ) → Apart n places wide → g < n → q < length pieces → q ≡ getD places g 0 → Turned places pieces g
-    → Turned places (set pieces q g) (g + 1)
-turned-more n wide places pieces g q A l h e T =
-    below-more (λ k. getD (set pieces q g) (getD places k 0) 0 ≡ k) g
-    (λ k a. getD-set-other pieces q (getD places k 0) g 0 (λ z. let w = A .apart k g (omega arith) l (z ∙ e) in omega arith) ∙ T k a)
-    (subst (λ (p : ℕ). getD (set pieces q g) p 0 ≡ g) e (getD-set-same pieces q g 0 h))
+pub turned-more : (n wide : ℕ) (places lead turned : List ℕ) (g q x : ℕ) → Turnable n places lead wide → g < n → q < length turned → q ≡ getD places g 0 → x ≡ getD lead g 0 → Turned places lead turned g
+    → Turned places lead (set turned q x) (g + 1)
+turned-more n wide places lead turned g q x A l h e f T =
+    below-more (λ k. getD (set turned q x) (getD places k 0) 0 ≡ getD lead k 0) g
+    (λ k a. pick k a (ℕ-discrete (getD places k 0) q))
+    (subst (λ (p : ℕ). getD (set turned q x) p 0 ≡ getD lead g 0) e (getD-set-same turned q x 0 h ∙ f))
+  where
+    pick : (k : ℕ) → k < g → Dec (getD places k 0 ≡ q) → getD (set turned q x) (getD places k 0) 0 ≡ getD lead k 0
+    pick k a (yes z) = rw z (getD-set-same turned q x 0 h ∙ f ∙ sym (A .alike k g (omega arith) l (z ∙ e)))
+    pick k a (no z) = getD-set-other turned q (getD places k 0) x 0 z ∙ T k a
 
 -- ---- shadows
 pub leads-node : (marks : List Bool) (shadows : List ℕ) (s : ℕ) → getD marks s false ≡ false → leads marks shadows s ≡ s

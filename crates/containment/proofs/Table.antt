@@ -1,4 +1,4 @@
--- The table of pieces is right for the index that the lent parts hold, so the rows say what the index says. Assumes nothing.
+-- The table of leaders is right for the index that the lent parts hold, so the rows say what the index says. Assumes nothing.
 use mathlib.Core.Path.{_≡_, refl, sym, ap, subst, _∙_}
 use mathlib.Core.Logic.{_⊎_, inl, inr}
 use mathlib.Core.Bool.{Bool, true, false, true≢false}
@@ -7,7 +7,7 @@ use Prim.Native.Nat.{ℕ, zero, suc, _+_, _*_, _/_, _-_, _≤_, _<_}
 use native.Mathlib.Omega.{arith}
 use lib.ListN.{length, getD, take, replicate, length-map, List·getD-map, List·getD-append}
 use lib.Seq.{length-take-le}
-use Rattle.lists.proofs.Bools.{Known, is-true, is-false, known, not-true}
+use Rattle.lists.proofs.Bools.{or-either, right-or, not-true}
 use Rattle.lists.proofs.Members.{at-member}
 use Rattle.parentheses.specs.Bits.{bits}
 use Rattle.parentheses.specs.Padded.{padded}
@@ -16,19 +16,20 @@ use Rattle.parentheses.specs.Subtree.{after}
 use Rattle.parentheses.proofs.Ranks.{rank-zero, rank-mono}
 use Rattle.parentheses.proofs.Trees.{rank-cons, rank-front}
 use Rattle.relation.specs.Matrix.{bitOf}
-use Rattle.index.specs.Pairs.{Within, self, step}
+use Rattle.relation.specs.Led.{Shared}
+use Rattle.index.specs.Pairs.{Within}
 use Rattle.index.specs.Tree.{Visit, node, shadow, under, whole, visits}
 use Rattle.index.specs.Parts as on
 use Rattle.index.specs.Parts.{place, isShadow, shadowList}
 use Rattle.index.specs.Index.{parenthesesOf, visitsOf}
-use Rattle.containment.specs.Contents.{Stored, Contents, leads, Apart, StandsFor}
-use Rattle.containment.specs.Filling.{visited, Setting, FilledTo}
+use Rattle.containment.specs.Contents.{Stored, Contents, leads, Turnable, StandsFor}
+use Rattle.containment.specs.Filling.{visited, Setting, Leads, FilledTo}
 use Rattle.lists.proofs.Numbers.{_∈_}
 use Rattle.index.proofs.Nodes.{once}
 use Rattle.index.proofs.Below.{piece, under-mem}
 use Rattle.index.proofs.Standing.{node-at, place-small, place-only}
 use Rattle.containment.proofs.Contains.{shadow-at}
-use Rattle.containment.proofs.Lent.{cut-bits, marks-bits, placed, contains-lent}
+use Rattle.containment.proofs.Lent.{cut-bits, marks-bits, placed, inside-within}
 use Rattle.index.proofs.Ranges.{parens-length, ones-parens}
 use Rattle.containment.proofs.Pieces.{leads-node, leads-shadow}
 
@@ -50,68 +51,66 @@ kind : (v : Visit) → Kind v
 kind (node k) = of-node k refl
 kind (shadow k) = of-shadow k refl
 
--- the table of pieces is right, and rows that are filled by it are those of the index
-pub record Table (n : ℕ) (parens marks shadows places ends pieces : List ℕ) : Type 0 where
-  pub setting : Setting places ends pieces
+-- the table of leaders is right, and rows that are filled by it and shared are those of the index
+pub record Table (n : ℕ) (parens marks shadows places lead ends turned : List ℕ) : Type 0 where
+  pub setting : Setting places ends turned
   pub count : n ≡ setting .n
-  pub hold : (rows : List ℕ) → FilledTo setting rows n → Contents n parens marks shadows places rows
+  pub leads : Leads setting lead
+  pub hold : (rows rows′ : List ℕ) → FilledTo setting rows n → Shared n lead rows rows′ → Contents n parens marks shadows places rows′
 
-module _ (n nodes : ℕ) (parens marks shadows places : List ℕ) (S : Stored n nodes parens marks shadows places) where
+module _ (n nodes : ℕ) (parens marks shadows places lead : List ℕ) (S : Stored n nodes parens marks shadows places lead) where
   abbrev W : List Visit
-  W = visits (whole n (S .edge))
+  W = visits (whole (S .groups) (S .edge))
 
   abbrev at : ℕ → Visit
   at s = getD W s (node 0)
 
   many : nodes ≡ length W
   unfolding visitsOf
-  many = S .index .nodes-are
+  many = S .nodes-are
 
   -- the laws of `Lent` for these parts
   marks-are : bits marks ≡ on.marks W ++ replicate (8 * length marks - length (on.marks W)) false
   unfolding padded
-  marks-are = marks-bits n (S .edge) (S .book) parens marks shadows places nodes (S .shadowed) (S .room) (S .index)
-
-  pub place-is : (g : ℕ) → g < n → getD places g 0 ≡ place W g
-  place-is = placed n (S .edge) (S .book) parens marks shadows places nodes (S .shadowed) (S .room) (S .index)
+  marks-are = marks-bits (S .groups) (S .edge) (S .book) parens marks shadows (length places) (S .room) (S .marks-are)
 
   -- the bytes that hold the parentheses
-  long : length (on.parens (whole n (S .edge))) ≡ 2 * nodes
-  long = omega (arith, parens-length (whole n (S .edge)), many)
+  long : length (on.parens (whole (S .groups) (S .edge))) ≡ 2 * nodes
+  long = omega (arith, parens-length (whole (S .groups) (S .edge)), many)
 
   pub cut-room : (nodes + 3) / 4 ≤ length parens
   unfolding parenthesesOf
   cut-room = omega (arith, S .room .parens, long)
 
   cut-are : bits (take ((nodes + 3) / 4) parens)
-      ≡ on.parens (whole n (S .edge)) ++ replicate (8 * ((nodes + 3) / 4) - length (on.parens (whole n (S .edge)))) false
+      ≡ on.parens (whole (S .groups) (S .edge)) ++ replicate (8 * ((nodes + 3) / 4) - length (on.parens (whole (S .groups) (S .edge)))) false
   unfolding padded
-  cut-are = cut-bits n (S .edge) (S .book) parens marks shadows places nodes (S .shadowed) (S .room) (S .index) ((nodes + 3) / 4) cut-room (omega (arith, long))
+  cut-are = cut-bits (S .groups) (S .edge) (S .book) parens marks shadows (length places) (S .room) (S .parens-are) ((nodes + 3) / 4) cut-room (omega (arith, long))
 
   -- as many open there as there are nodes
   pub all-open : nodes ≤ rank (bits (take ((nodes + 3) / 4) parens)) (8 * length (take ((nodes + 3) / 4) parens))
   all-open =
-      let w = on.parens (whole n (S .edge)) in
+      let w = on.parens (whole (S .groups) (S .edge)) in
       rw (length-take-le ((nodes + 3) / 4) parens cut-room, cut-are)
       (omega (
         arith,
         many,
-        ones-parens (whole n (S .edge)),
+        ones-parens (whole (S .groups) (S .edge)),
         rank-front w (replicate (8 * ((nodes + 3) / 4) - length w) false) (length w) (omega arith),
         rank-mono (w ++ replicate (8 * ((nodes + 3) / 4) - length w) false) (length w) (8 * ((nodes + 3) / 4)) (omega (arith, long)),
       ))
 
-  -- what is visited is a piece
-  visit-small : (s : ℕ) → s < length W → piece (at s) < n
+  -- what is visited is a group
+  visit-small : (s : ℕ) → s < length W → piece (at s) < S .groups
   unfolding whole visits
   visit-small s l = go (List·Memᴰ·cases-cons (at-member W (node 0) s l))
     where
-      go : (at s ≡ node 0) ⊎ (at s ∈ visits (under n (S .edge) n 0) ++ []) → piece (at s) < n
+      go : (at s ≡ node 0) ⊎ (at s ∈ visits (under (S .groups) (S .edge) (S .groups) 0) ++ []) → piece (at s) < S .groups
       go (inl e) = rw e (unfold piece in S .book .some)
-      go (inr m) = pick (List·Memᴰ·append-cases (visits (under n (S .edge) n 0)) m)
+      go (inr m) = pick (List·Memᴰ·append-cases (visits (under (S .groups) (S .edge) (S .groups) 0)) m)
         where
-          pick : (at s ∈ visits (under n (S .edge) n 0)) ⊎ (at s ∈ []) → piece (at s) < n
-          pick (inl i) = let f = under-mem n (S .edge) (S .book) n 0 i in S .book .piece (piece (at s)) (f .0) (f .1)
+          pick : (at s ∈ visits (under (S .groups) (S .edge) (S .groups) 0)) ⊎ (at s ∈ []) → piece (at s) < S .groups
+          pick (inl i) = let f = under-mem (S .groups) (S .edge) (S .book) (S .groups) 0 i in S .book .piece (piece (at s)) (f .0) (f .1)
           pick (inr i) = absurd (List·Memᴰ·not-nil i)
 
   -- the marks
@@ -131,20 +130,21 @@ module _ (n nodes : ℕ) (parens marks shadows places : List ℕ) (S : Stored n 
   target-at : (s k : ℕ) → at s ≡ shadow k → getD shadows (rank (bits marks) s) 0 ≡ place W k
   unfolding padded visitsOf
   target-at s k e =
-      ap (λ (l : List ℕ). getD l (rank (bits marks) s) 0) (S .index .shadows-are)
+      ap (λ (l : List ℕ). getD l (rank (bits marks) s) 0) (S .shadows-are)
       ∙ ap (λ (b : List Bool). getD (shadowList W ++ replicate (length shadows - length (shadowList W)) 0) (rank b s) 0) marks-are
       ∙ (unfold shadowList in shadow-at (place W) W (replicate (8 * length marks - length (on.marks W)) false) (replicate (length shadows - length (shadowList W)) 0) s k e)
 
-  pub places-apart : (wide : ℕ) → nodes ≤ wide → Apart n places wide
-  places-apart wide room =
+  pub places-turn : (wide : ℕ) → nodes ≤ wide → Turnable n places lead wide
+  places-turn wide room =
       record {
-        listed = S .room .places;
-        small = λ g l. omega (arith, place-is g l, place-small n (S .edge) (S .book) g l, many);
-        apart = λ g h a b e.
-            let same : place W g ≡ place W h = sym (place-is g a) ∙ e ∙ place-is h b in
-            let one = node-at n (S .edge) (S .book) g a in
-            let two = node-at n (S .edge) (S .book) h b in
-            cc;
+        listed = S .listed;
+        led = S .led;
+        small = λ g l. omega (arith, placed S g l, place-small (S .groups) (S .edge) (S .book) (S .number g) (S .below g l), many);
+        alike = λ g h a b e.
+            let same : place W (S .number g) ≡ place W (S .number h) = sym (placed S g a) ∙ e ∙ placed S h b in
+            let one = node-at (S .groups) (S .edge) (S .book) (S .number g) (S .below g a) in
+            let two = node-at (S .groups) (S .edge) (S .book) (S .number h) (S .below h b) in
+            S .leads g h a b cc;
       }
 
   pub marked-room : nodes ≤ 8 * length marks
@@ -173,63 +173,84 @@ module _ (n nodes : ℕ) (parens marks shadows places : List ℕ) (S : Stored n 
           → (getD shadows (rank (bits marks) s) 0 < nodes) × (getD (bits marks) (getD shadows (rank (bits marks) s) 0) false ≡ false)
       aim s l m (of-node k e) = absurd (true≢false (sym m ∙ mark-node s k l e))
       aim s l m (of-shadow k e) =
-          let small : k < n = subst (λ (v : Visit). piece v < n) e (visit-small s l) in
-          let in-tree = place-small n (S .edge) (S .book) k small in
-          (omega (arith, target-at s k e, many), rw (target-at s k e) (mark-node (place W k) k in-tree (node-at n (S .edge) (S .book) k small)))
+          let small : k < S .groups = subst (λ (v : Visit). piece v < S .groups) e (visit-small s l) in
+          let in-tree = place-small (S .groups) (S .edge) (S .book) k small in
+          (omega (arith, target-at s k e, many), rw (target-at s k e) (mark-node (place W k) k in-tree (node-at (S .groups) (S .edge) (S .book) k small)))
 
   -- what the walk reads
   module _
-      (few : n ≤ 2048) (ends pieces₁ pieces₂ : List ℕ) (ends-room : nodes ≤ length ends) (room : nodes ≤ length pieces₂)
-      (ended : (q : ℕ) → q < nodes → getD ends q 0 ≡ after (bits (take ((nodes + 3) / 4) parens)) q) (turned : (g : ℕ) → g < n → getD pieces₁ (getD places g 0) 0 ≡ g)
-      (led : (s : ℕ) → s < nodes → getD pieces₂ s 0 ≡ getD pieces₁ (leads (bits marks) shadows s) 0) where
-    right : (s : ℕ) → s < length W → Kind (at s) → getD pieces₂ s 0 ≡ visited (at s)
-    unfolding piece visited
-    right s l (of-node k e) =
-        let small : k < n = subst (λ (v : Visit). piece v < n) e (visit-small s l) in
-        led s (omega (arith, many)) ∙ ap (λ (v : ℕ). getD pieces₁ v 0) (leads-node (bits marks) shadows s (mark-node s k l e)
-        ∙ sym (place-only k W s (once n (S .edge) (S .book) k small) l e) ∙ sym (place-is k small)) ∙ turned k small ∙ sym (ap visited e)
-    right s l (of-shadow k e) =
-        let small : k < n = subst (λ (v : Visit). piece v < n) e (visit-small s l) in
-        led s (omega (arith, many)) ∙ ap (λ (v : ℕ). getD pieces₁ v 0) (leads-shadow (bits marks) shadows s (mark-shadow s k l e)
-        ∙ target-at s k e ∙ sym (place-is k small)) ∙ turned k small ∙ sym (ap visited e)
+      (few : n ≤ 2048) (ends turned₁ turned₂ : List ℕ) (ends-room : nodes ≤ length ends) (room : nodes ≤ length turned₂)
+      (ended : (q : ℕ) → q < nodes → getD ends q 0 ≡ after (bits (take ((nodes + 3) / 4) parens)) q) (turned : (g : ℕ) → g < n → getD turned₁ (getD places g 0) 0 ≡ getD lead g 0)
+      (led : (s : ℕ) → s < nodes → getD turned₂ s 0 ≡ getD turned₁ (leads (bits marks) shadows s) 0) where
+    -- the leader of a group stands at its place
+    leader : ℕ → ℕ
+    leader k = getD turned₁ (place W k) 0
 
-    setting : Setting places ends pieces₂
+    lead-is : (g : ℕ) → g < n → getD lead g 0 ≡ leader (S .number g)
+    unfolding leader
+    lead-is g l = sym (turned g l) ∙ ap (λ (q : ℕ). getD turned₁ q 0) (placed S g l)
+
+    leading : (k : ℕ) → k < S .groups → (leader k < n) × (S .number (leader k) ≡ k)
+    leading k l =
+        let o = S .onto k l in
+        let e : leader k ≡ getD lead (o .0) 0 = ap leader (sym (o .2)) ∙ sym (lead-is (o .0) (o .1)) in
+        (rw e (S .led .below (o .0) (o .1)), ap (S .number) e ∙ S .same (o .0) (o .1) ∙ o .2)
+
+    right : (s : ℕ) → s < length W → Kind (at s) → getD turned₂ s 0 ≡ leader (visited (at s))
+    unfolding piece visited leader
+    right s l (of-node k e) =
+        let small : k < S .groups = subst (λ (v : Visit). piece v < S .groups) e (visit-small s l) in
+        led s (omega (arith, many)) ∙ ap (λ (v : ℕ). getD turned₁ v 0) (leads-node (bits marks) shadows s (mark-node s k l e)
+        ∙ sym (place-only k W s (once (S .groups) (S .edge) (S .book) k small) l e)) ∙ sym (ap (λ (v : Visit). leader (visited v)) e)
+    right s l (of-shadow k e) =
+        led s (omega (arith, many)) ∙ ap (λ (v : ℕ). getD turned₁ v 0) (leads-shadow (bits marks) shadows s (mark-shadow s k l e)
+        ∙ target-at s k e) ∙ sym (ap (λ (v : Visit). leader (visited v)) e)
+
+    setting : Setting places ends turned₂
     setting =
         record {
           n = n;
+          groups = S .groups;
           edge = S .edge;
           book = S .book;
           few = few;
-          zeros = replicate (8 * ((nodes + 3) / 4) - length (on.parens (whole n (S .edge)))) false;
-          room = S .room .places;
-          places-are = place-is;
+          number = S .number;
+          leader = leader;
+          below = S .below;
+          leads = leading;
+          zeros = replicate (8 * ((nodes + 3) / 4) - length (on.parens (whole (S .groups) (S .edge)))) false;
+          room = S .listed;
+          places-are = placed S;
           ends-room = omega (arith, many);
           ends-are = λ q l. ended q (omega (arith, many)) ∙ ap (λ (b : List Bool). after b q) cut-are;
-          pieces-room = omega (arith, many);
-          pieces-are = λ q l. right q l (kind (at q));
+          turned-room = omega (arith, many);
+          turned-are = λ q l. right q l (kind (at q));
         }
 
     -- the rows say what the index says
-    rows-hold : (rows : List ℕ) → FilledTo setting rows n → Contents n parens marks shadows places rows
-    unfolding setting
-    rows-hold rows F =
-        record {
-          inside = λ h g a b.
-              let f = F .from h (omega arith) .filled (F .own h a) .1 g (omega arith) in
-              let i = contains-lent n (S .edge) (S .book) parens marks shadows places nodes (S .shadowed) (S .room) (S .index) h g a b in
-              (λ t. i .1 (f .0 t), λ t. f .1 (i .0 t));
-          no-row = λ h g a b d. bare h g b d a (known (bitOf rows h h));
-          no-column = λ h g a b d. not-true (bitOf rows h g) (λ t. let l = small (F .from h (omega arith) .filled (F .own h a) .1 g d .0 t) a in omega arith);
-        }
-      where
-        small : {g h : ℕ} → Within (S .edge) g h → h < n → g < n
-        small self l = l
-        small (step {g = g} {c = c} e w) l = S .book .piece g c e
+    module _ (rows rows′ : List ℕ) (F : FilledTo setting rows n) (H : Shared n lead rows rows′) where
+      sound : (h g : ℕ) → h < n → g < 2048 → bitOf rows′ h g ≡ true → (g < n) × Within (S .edge) (S .number g) (S .number h)
+      unfolding setting
+      sound h g a b t = go (or-either (bitOf rows h g) (bitOf rows (getD lead h 0) g) (sym (H .row h g a b) ∙ t))
+        where
+          go : (bitOf rows h g ≡ true) ⊎ (bitOf rows (getD lead h 0) g ≡ true) → (g < n) × Within (S .edge) (S .number g) (S .number h)
+          go (inl i) = let f = F .from h (omega arith) .sound g b i in (f .1, f .2)
+          go (inr i) = let f = F .from (getD lead h 0) (omega (arith, S .led .below h a)) .sound g b i in (f .1, rw (S .same h a) at (f .2))
 
-        bare : (h g : ℕ) → h < 2048 → g < 2048 → n ≤ h → Known (bitOf rows h h) → bitOf rows h g ≡ false
-        bare h g b d a (is-true t) = let l = F .from h b .filled t .0 in absurd (omega arith)
-        bare h g b d a (is-false t) = F .from h b .empty t g d
+      complete : (h g : ℕ) → h < n → g < n → Within (S .edge) (S .number g) (S .number h) → bitOf rows′ h g ≡ true
+      unfolding setting
+      complete h g a b w =
+          H .row h g a (omega arith) ∙ right-or (bitOf rows h g) (F .from (getD lead h 0) (omega (arith, S .led .below h a)) .filled (rw (lead-is h a) (F .own h a)) g b (rw (S .same h a) w))
 
-    pub table : Table n parens marks shadows places ends pieces₂
+      rows-hold : Contents n parens marks shadows places rows′
+      unfolding setting
+      rows-hold =
+          record {
+            inside = λ h g a b. let i = inside-within S h g a b in (λ t. i .1 (sound h g a (omega arith) t .1), λ t. complete h g a b (i .0 t));
+            no-row = λ h g a b d. H .other h g a b d ∙ not-true (bitOf rows h g) (λ t. let l = F .from h b .sound g d t .0 in omega arith);
+            no-column = λ h g a b d. not-true (bitOf rows′ h g) (λ t. let l = sound h g a d t .0 in omega arith);
+          }
+
+    pub table : Table n parens marks shadows places lead ends turned₂
     unfolding setting
-    table = record { setting = setting; count = refl; hold = rows-hold }
+    table = record { setting = setting; count = refl; leads = (S .led .room, lead-is); hold = rows-hold }

@@ -6,19 +6,34 @@ use mathlib.Core.List.{List}
 use Prim.Native.Nat.{ℕ, _≤_, _<_}
 use lib.ListN.{length, getD}
 use Rattle.parentheses.specs.Bits.{bits}
+use Rattle.parentheses.specs.Padded.{padded}
 use Rattle.parentheses.specs.Rank.{rank}
 use Rattle.relation.specs.Matrix.{bitOf}
+use Rattle.relation.specs.Led.{Led}
 use Rattle.index.specs.Pairs.{Book}
-use Rattle.index.specs.Index.{Room, Indexed}
+use Rattle.index.specs.Parts as on
+use Rattle.index.specs.Index.{parenthesesOf, visitsOf, Room}
 use Rattle.containment.specs.Inside.{Inside}
 
--- the parts hold the index of some pairs
-pub record Stored (n nodes : ℕ) (parens marks shadows places : List ℕ) : Type 0 where
+-- the parts hold the index of some groups of pieces: `number` says which group a piece is in, and a piece has the place of its group
+pub record Stored (n nodes : ℕ) (parens marks shadows places lead : List ℕ) : Type 0 where
+  pub groups : ℕ
   pub edge : ℕ → ℕ → Bool
-  pub book : Book n edge
-  pub room : Room n edge (length parens) (length marks) (length shadows) (length places)
-  pub shadowed : ℕ
-  pub index : Indexed n edge parens marks shadows places nodes shadowed
+  pub number : ℕ → ℕ
+  pub book : Book groups edge
+  pub below : (g : ℕ) → g < n → number g < groups
+  pub onto : (k : ℕ) → k < groups → (g : ℕ) × (g < n) × (number g ≡ k)
+  pub room : Room groups edge (length parens) (length marks) (length shadows) (length places)
+  pub listed : n ≤ length places
+  pub parens-are : parens ≡ on.packed (length parens) (parenthesesOf groups edge)
+  pub marks-are : marks ≡ on.packed (length marks) (on.marks (visitsOf groups edge))
+  pub shadows-are : shadows ≡ padded 0 (length shadows) (on.shadowList (visitsOf groups edge))
+  pub nodes-are : nodes ≡ length (visitsOf groups edge)
+  pub places-are : (g : ℕ) → g < n → getD places g 0 ≡ on.place (visitsOf groups edge) (number g)
+  -- one piece of each group leads
+  pub led : Led n lead
+  pub leads : (g h : ℕ) → g < n → h < n → number g ≡ number h → getD lead g 0 ≡ getD lead h 0
+  pub same : (g : ℕ) → g < n → number (getD lead g 0) ≡ number g
 
 -- bit g of row h: g is inside h. Every other bit is 0
 pub record Contents (n : ℕ) (parens marks shadows places rows : List ℕ) : Type 0 where
@@ -30,11 +45,12 @@ pub record Contents (n : ℕ) (parens marks shadows places rows : List ℕ) : Ty
 unfoldable pub leads : List Bool → List ℕ → ℕ → ℕ
 leads marks shadows s = elim (getD marks s false) [ true ↦ getD shadows (rank marks s) 0 | false ↦ s ]
 
--- the places of the pieces below n are apart, and below `wide`
-pub record Apart (n : ℕ) (places : List ℕ) (wide : ℕ) : Type 0 where
+-- the places of the pieces below n are below `wide`, and pieces at one place have one leader
+pub record Turnable (n : ℕ) (places lead : List ℕ) (wide : ℕ) : Type 0 where
   pub listed : n ≤ length places
+  pub led : Led n lead
   pub small : (g : ℕ) → g < n → getD places g 0 < wide
-  pub apart : (g h : ℕ) → g < n → h < n → getD places g 0 ≡ getD places h 0 → g ≡ h
+  pub alike : (g h : ℕ) → g < n → h < n → getD places g 0 ≡ getD places h 0 → getD lead g 0 ≡ getD lead h 0
 
 -- each shadow below `nodes` stands for a place there that is no shadow
 pub record StandsFor (nodes : ℕ) (marks : List Bool) (shadows : List ℕ) : Type 0 where

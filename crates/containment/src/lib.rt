@@ -3,8 +3,9 @@ ghost use mathlib.Core.Path.{_≡_};
 ghost use mathlib.Core.Bool.{true, false, not};
 ghost use Prim.Native.Nat.{ℕ, _+_, _*_, _<_, _≤_};
 ghost use lib.ListN.{length, getD, set};
-ghost use Rattle.containment.specs.Filling.{Setting, Fillable, From, All, Filled, FilledTo, Ready};
-ghost use Rattle.containment.specs.Contents.{Stored, Contents, leads, Apart, StandsFor};
+ghost use Rattle.containment.specs.Filling.{Setting, Leads, Seeded, Fillable, From, All, Filled, FilledTo, Ready};
+ghost use Rattle.containment.specs.Contents.{Stored, Contents, leads, Turnable, StandsFor};
+ghost use Rattle.relation.specs.Led.{Led};
 ghost use Rattle.parentheses.specs.Rank.{rank};
 ghost use Rattle.parentheses.specs.Ranked.{Ranked};
 ghost use Rattle.parentheses.specs.Subtree.{after};
@@ -13,7 +14,16 @@ use index::DatasetId;
 use index::TreeId;
 use parentheses::Found;
 
-// The piece at a place: `turned` is the place list turned round, with the shadows put in.
+// The piece that stands for all pieces at the place of g.
+fn leader_of(lead: &[u16], g: DatasetId) -> DatasetId
+    requires { ⌜ g .0 < length (now lead) ⌝ }
+    ensures { λ r. ⌜ r .0 ≡ getD (now (lead .entry)) (g .0) 0 ⌝ }
+{
+    let k = g.0;
+    DatasetId(index::wide(lead[k]))
+}
+
+// The leader of the pieces at a place: `turned` is the place list turned round, with the shadows put in.
 fn piece_at(turned: &[u16], q: TreeId) -> DatasetId
     requires { ⌜ q .0 < length (now turned) ⌝ }
     ensures { λ r. ⌜ r .0 ≡ getD (now (turned .entry)) (q .0) 0 ⌝ }
@@ -22,12 +32,12 @@ fn piece_at(turned: &[u16], q: TreeId) -> DatasetId
     DatasetId(index::wide(turned[k]))
 }
 
-// Fills the row of h, unless it is filled: h itself, and the row of each part that hangs from its node. A part that hangs there
-// as a shadow is the piece that the shadow stands for, so containment calls itself through shadow targets. Levels rise
-// from container to part, and a row that is filled is filled for good.
+// Fills the row of a leader h, unless it is filled: h itself, and the row of the leader of each part that hangs from its node. The
+// pieces that follow h are there. A part that hangs as a shadow is the one that the shadow stands for, so containment calls itself
+// through shadow targets. Levels rise from container to part, and a row that is filled is filled for good.
 fn fill(places: &[u16], ends: &[u16], turned: &[u16], rows: &mut [u64], h: DatasetId)
     requires { ⌜ (length (now rows) ≡ 65536) × Fillable (now places) (now ends) (now turned) (now rows) (h .0) ⌝ }
-    ensures { λ _. ⌜ ((s : Setting (now (places .entry)) (now (ends .entry)) (now (turned .entry))) → From s (now (rows .entry)) (h .0) → h .0 < s .n → Filled s (now (rows .entry)) (now (rows .exit)) (h .0)) ⌝ }
+    ensures { λ _. ⌜ ((s : Setting (now (places .entry)) (now (ends .entry)) (now (turned .entry))) → From s (now (rows .entry)) (h .0) → h .0 < s .n → s .leader (s .number (h .0)) ≡ h .0 → Filled s (now (rows .entry)) (now (rows .exit)) (h .0)) ⌝ }
 {
     let x = h.0;
     if relation::test(rows, x, x) {
@@ -62,20 +72,21 @@ fn set_piece(turned: &mut [u16], q: TreeId, g: DatasetId)
     turned[k] = index::narrow(g.0);
 }
 
-// Of the place of each piece below n, the piece: the place list turned round.
-fn number_nodes(n: usize, places: &[u16], turned: &mut [u16])
-    requires { ⌜ (n ≤ 2048) × Apart n (now places) (length (now turned)) ⌝ }
-    ensures { λ _. ⌜ ((g : ℕ) → g < n → getD (now (turned .exit)) (getD (now (places .entry)) g 0) 0 ≡ g) ⌝ }
+// Of the place of each piece below n, the leader there: the place list turned round.
+fn number_nodes(n: usize, places: &[u16], lead: &[u16], turned: &mut [u16])
+    requires { ⌜ (n ≤ 2048) × Turnable n (now places) (now lead) (length (now turned)) ⌝ }
+    ensures { λ _. ⌜ ((g : ℕ) → g < n → getD (now (turned .exit)) (getD (now (places .entry)) g 0) 0 ≡ getD (now (lead .entry)) g 0) ⌝ }
 {
     let mut g: usize = 0;
     while g < n {
         let place = index::place_of(places, DatasetId(g));
-        set_piece(turned, place, DatasetId(g));
+        let leader = leader_of(lead, DatasetId(g));
+        set_piece(turned, place, leader);
         g += 1;
     }
 }
 
-// Of the place of each shadow, the piece at the place for which it stands.
+// Of the place of each shadow, the leader at the place for which it stands.
 fn number_shadows(nodes: usize, marks: &[u8], shadows: &[u16], turned: &mut [u16])
     requires { ⌜ (nodes ≤ length (now turned)) × (nodes ≤ 8 * length (now marks)) × StandsFor nodes (bits (now marks)) (now shadows) ⌝ }
     ensures { λ _. ⌜ ((s : ℕ) → s < nodes → getD (now (turned .exit)) s 0 ≡ getD (now (turned .entry)) (leads (bits (now (marks .entry))) (now (shadows .entry)) s) 0) ⌝ }
@@ -151,20 +162,39 @@ fn subtree_ends(nodes: usize, parens: &[u8], ends: &mut [u16])
     ends_by(nodes, parens, &ranks, ends);
 }
 
-// Fills the row of each piece below n.
-fn fill_all(n: usize, places: &[u16], ends: &[u16], turned: &[u16], rows: &mut [u64])
-    requires { ⌜ (length (now rows) ≡ 65536) × Ready n (now places) (now ends) (now turned) (now rows) ⌝ }
-    ensures { λ _. ⌜ ((s : Setting (now (places .entry)) (now (ends .entry)) (now (turned .entry))) → n ≡ s .n → All s (now (rows .entry)) → FilledTo s (now (rows .exit)) n) ⌝ }
+// Puts each piece below n that follows another into that one's row, and clears every other bit.
+fn seed(n: usize, lead: &[u16], rows: &mut [u64])
+    requires { ⌜ (n ≤ 2048) × (length (now rows) ≡ 65536) × Led n (now lead) ⌝ }
+    ensures { λ _. ⌜ Seeded n (now (lead .entry)) (now (rows .exit)) ⌝ }
 {
-    let mut h: usize = 0;
-    while h < n {
-        fill(places, ends, turned, rows, DatasetId(h));
-        h += 1;
+    relation::clear(rows);
+    let mut i: usize = 0;
+    while i < n {
+        let g = i;
+        i += 1;
+        let h = leader_of(lead, DatasetId(g));
+        if h.0 == g {
+            continue;
+        }
+        relation::insert(rows, h.0, g);
     }
 }
 
-// Fills the row of each piece below n with the pieces inside it, and clears every other bit. Each row is filled once, so many
-// paths to one piece cost no more than one.
+// Fills the row of the leader of each piece below n.
+fn fill_all(n: usize, places: &[u16], ends: &[u16], turned: &[u16], lead: &[u16], rows: &mut [u64])
+    requires { ⌜ (length (now rows) ≡ 65536) × Ready n (now places) (now ends) (now turned) (now lead) (now rows) ⌝ }
+    ensures { λ _. ⌜ ((s : Setting (now (places .entry)) (now (ends .entry)) (now (turned .entry))) → n ≡ s .n → Leads s (now (lead .entry)) → All s (now (rows .entry)) → FilledTo s (now (rows .exit)) n) ⌝ }
+{
+    let mut g: usize = 0;
+    while g < n {
+        let h = leader_of(lead, DatasetId(g));
+        fill(places, ends, turned, rows, h);
+        g += 1;
+    }
+}
+
+// Fills the row of each piece below n with the pieces inside it, and clears every other bit. Pieces at one place have one row, which
+// is filled once: that of their leader. So many paths to one piece cost no more than one.
 pub fn contents(
     n: usize,
     nodes: usize,
@@ -172,17 +202,19 @@ pub fn contents(
     marks: &[u8],
     shadows: &[u16],
     places: &[u16],
+    lead: &[u16],
     rows: &mut [u64],
 )
-    requires { ⌜ (n ≤ 2048) × (nodes ≤ 18432) × (length (now rows) ≡ 65536) × Stored n nodes (now parens) (now marks) (now shadows) (now places) ⌝ }
+    requires { ⌜ (n ≤ 2048) × (nodes ≤ 18432) × (length (now rows) ≡ 65536) × Stored n nodes (now parens) (now marks) (now shadows) (now places) (now lead) ⌝ }
     ensures { λ _. ⌜ Contents n (now (parens .entry)) (now (marks .entry)) (now (shadows .entry)) (now (places .entry)) (now (rows .exit)) ⌝ }
 {
     let mut ends = [0u16; 18432];
     let mut turned = [0u16; 18432];
     let bytes = (nodes + 3) / 4;
     subtree_ends(nodes, &parens[..bytes], &mut ends);
-    number_nodes(n, places, &mut turned);
+    number_nodes(n, places, lead, &mut turned);
     number_shadows(nodes, marks, shadows, &mut turned);
-    relation::clear(rows);
-    fill_all(n, places, &ends, &turned, rows);
+    seed(n, lead, rows);
+    fill_all(n, places, &ends, &turned, lead, rows);
+    relation::share_rows(lead, n, rows);
 }

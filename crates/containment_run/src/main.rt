@@ -1,8 +1,8 @@
 // Prints the index of the printed session's book and the rows of what its pieces contain, and for generated books the counts, a
 // checksum of each part over its whole lent length, zeros included, and one of all rows. tests/runs/containment_run.py works the same lines out in another way.
 ghost use mathlib.Core.Path.{_≡_};
-ghost use Prim.Native.Nat.{_*_, _<_, _≤_};
-ghost use lib.ListN.{length};
+ghost use Prim.Native.Nat.{ℕ, _*_, _<_, _≤_};
+ghost use lib.ListN.{length, getD};
 ghost use Rattle.containment.specs.Contents.{Stored};
 ghost use Rattle.settling.specs.Loaded.{Loaded};
 
@@ -21,17 +21,20 @@ fn main() {
     let mut edges = [0u64; 65536];
     let mut rows = [0u64; 65536];
     session(&mut edges, &mut rows);
-    book(b"alone", FLAT, 1, 0, &mut edges, &mut rows);
-    book(b"joined", FLAT, 2048, 0, &mut edges, &mut rows);
-    book(b"deep", DEEP, 2048, 2047, &mut edges, &mut rows);
-    book(b"flat", FLAT, 2048, 2047, &mut edges, &mut rows);
-    book(b"bushy", BUSHY, 2048, 8188, &mut edges, &mut rows);
-    book(b"ladder", LADDER, 2001, 4000, &mut edges, &mut rows);
-    book(b"random", RANDOM, 7, 12, &mut edges, &mut rows);
-    book(b"random", RANDOM, 50, 100, &mut edges, &mut rows);
-    book(b"random", RANDOM, 300, 1000, &mut edges, &mut rows);
-    book(b"random", RANDOM, 2048, 3000, &mut edges, &mut rows);
-    book(b"random", RANDOM, 2048, 8192, &mut edges, &mut rows);
+    book(b"alone", FLAT, 1, 1, 0, &mut edges, &mut rows);
+    book(b"joined", FLAT, 2048, 2048, 0, &mut edges, &mut rows);
+    book(b"deep", DEEP, 2048, 2048, 2047, &mut edges, &mut rows);
+    book(b"flat", FLAT, 2048, 2048, 2047, &mut edges, &mut rows);
+    book(b"bushy", BUSHY, 2048, 2048, 8188, &mut edges, &mut rows);
+    book(b"ladder", LADDER, 2001, 2001, 4000, &mut edges, &mut rows);
+    book(b"random", RANDOM, 7, 7, 12, &mut edges, &mut rows);
+    book(b"random", RANDOM, 50, 50, 100, &mut edges, &mut rows);
+    book(b"random", RANDOM, 300, 300, 1000, &mut edges, &mut rows);
+    book(b"random", RANDOM, 2048, 2048, 3000, &mut edges, &mut rows);
+    book(b"random", RANDOM, 2048, 2048, 8192, &mut edges, &mut rows);
+    book(b"one", FLAT, 1, 2048, 0, &mut edges, &mut rows);
+    book(b"pairs", LADDER, 1024, 2048, 2046, &mut edges, &mut rows);
+    book(b"groups", RANDOM, 300, 2000, 1000, &mut edges, &mut rows);
 }
 
 fn clear(n: usize, edges: &mut [u64])
@@ -128,8 +131,21 @@ fn load(shape: u8, n: usize, count: usize, edges: &mut [u64]) -> usize
     k
 }
 
-// The index of the k pairs.
+// Puts n pieces into m groups: each piece from m on is in the group of the piece m before it, and the first m lead.
+fn fold(m: usize, n: usize, lead: &mut [u16])
+    requires { ⌜ (0 < m) × (n ≤ 2048) × (length (now lead) ≡ 2048) ⌝ }
+    ensures { λ _. ⌜ ((g : ℕ) → g < n → (getD (now (lead .exit)) g 0 < m) × (g < m → getD (now (lead .exit)) g 0 ≡ g)) ⌝ }
+{
+    let mut g: usize = 0;
+    while g < n {
+        lead[g] = index::narrow(g % m);
+        g += 1;
+    }
+}
+
+// The index of the k pairs of m groups, and the places of n pieces in them.
 fn index(
+    m: usize,
     n: usize,
     k: usize,
     edges: &mut [u64],
@@ -137,11 +153,15 @@ fn index(
     marks: &mut [u8],
     shadows: &mut [u16],
     places: &mut [u16],
+    lead: &[u16],
 ) -> index::Counts
-    requires { ⌜ Loaded n (now edges) k × (length (now parens) ≡ 2560) × (length (now marks) ≡ 1280) × (length (now shadows) ≡ 8192) × (length (now places) ≡ 2048) ⌝ }
-    ensures { λ r. ⌜ (r .nodes ≤ 18432) × Stored n (r .nodes) (now (parens .exit)) (now (marks .exit)) (now (shadows .exit)) (now (places .exit)) ⌝ }
+    requires { ⌜ Loaded m (now edges) k × (length (now parens) ≡ 2560) × (length (now marks) ≡ 1280) × (length (now shadows) ≡ 8192) × (length (now places) ≡ 2048) × (m ≤ n) × (n ≤ 2048) × (length (now lead) ≡ 2048) × ((g : ℕ) → g < n → (getD (now lead) g 0 < m) × (g < m → getD (now lead) g 0 ≡ g)) ⌝ }
+    ensures { λ r. ⌜ (r .nodes ≤ 18432) × Stored n (r .nodes) (now (parens .exit)) (now (marks .exit)) (now (shadows .exit)) (now (places .exit)) (now (lead .entry)) ⌝ }
 {
-    index::build(n, edges, parens, marks, shadows, places)
+    let mut groups = [65535u16; 2048];
+    let counts = index::build(m, edges, parens, marks, shadows, &mut groups);
+    index::place_members(n, lead, &groups, places);
+    counts
 }
 
 // The checksum's next value.
@@ -213,17 +233,28 @@ fn print_sums(
     io::write_all(1, b"\n");
 }
 
-// Prints the counts and checksums of the book of `count` pairs of a shape. The lent parts hold other numbers before.
-fn book(name: &[u8], shape: u8, n: usize, count: usize, edges: &mut [u64], rows: &mut [u64])
-    requires { ⌜ (0 < n) × (n ≤ 2048) × (count ≤ 8192) × (length (now edges) ≡ 65536) × (length (now rows) ≡ 65536) ⌝ }
+// Prints the counts and checksums of n pieces in m groups, with `count` pairs of a shape. The lent parts hold other numbers before.
+fn book(
+    name: &[u8],
+    shape: u8,
+    m: usize,
+    n: usize,
+    count: usize,
+    edges: &mut [u64],
+    rows: &mut [u64],
+)
+    requires { ⌜ (0 < m) × (m ≤ n) × (n ≤ 2048) × (count ≤ 8192) × (length (now edges) ≡ 65536) × (length (now rows) ≡ 65536) ⌝ }
 {
     let mut parens = [255u8; 2560];
     let mut marks = [255u8; 1280];
     let mut shadows = [65535u16; 8192];
     let mut places = [65535u16; 2048];
-    clear(n, edges);
-    let k = load(shape, n, count, edges);
+    let mut lead = [65535u16; 2048];
+    fold(m, n, &mut lead);
+    clear(m, edges);
+    let k = load(shape, m, count, edges);
     let counts = index(
+        m,
         n,
         k,
         edges,
@@ -231,9 +262,10 @@ fn book(name: &[u8], shape: u8, n: usize, count: usize, edges: &mut [u64], rows:
         &mut marks,
         &mut shadows,
         &mut places,
+        &lead,
     );
     let nodes = counts.nodes;
-    containment::contents(n, nodes, &parens, &marks, &shadows, &places, rows);
+    containment::contents(n, nodes, &parens, &marks, &shadows, &places, &lead, rows);
     io::write_all(1, name);
     print_counts(n, counts);
     print_sums(&parens, &marks, &shadows, &places, rows);
@@ -315,7 +347,10 @@ fn session(edges: &mut [u64], rows: &mut [u64])
     let mut shadows = [65535u16; 8192];
     let mut places = [65535u16; 2048];
     let k = session_pairs(edges);
+    let mut lead = [65535u16; 2048];
+    fold(6, 6, &mut lead);
     let counts = index(
+        6,
         6,
         k,
         edges,
@@ -323,9 +358,10 @@ fn session(edges: &mut [u64], rows: &mut [u64])
         &mut marks,
         &mut shadows,
         &mut places,
+        &lead,
     );
     let nodes = counts.nodes;
-    containment::contents(6, nodes, &parens, &marks, &shadows, &places, rows);
+    containment::contents(6, nodes, &parens, &marks, &shadows, &places, &lead, rows);
     io::write_all(1, b"session");
     print_counts(6, counts);
     io::write_all(1, b"\n");

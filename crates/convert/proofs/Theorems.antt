@@ -21,12 +21,12 @@ use Rattle.records.specs.Pieces.{stated, pieceCount}
 use Rattle.records.specs.Facts.{saying, facts}
 use Rattle.records.specs.Kept.{onSheet, picked}
 use Rattle.records.specs.Marked.{marked}
+use Rattle.records.specs.Rows.{orderRow}
 use Rattle.records.specs.Check.{bookCheck, formerCheck}
 use Rattle.records.proofs.Rows.{Formed, admits-stated}
-use Rattle.records.proofs.Runs.{pieces-positive}
 use Rattle.records.proofs.Keeps.{same-record, letsPass, picked-from, picked-here, picked-among}
 use Rattle.records.proofs.Accepted.{AcceptedBook, accepted-by, acceptable, accepted-within, accepted-positive, accepted-pieces, facts-within}
-use Rattle.convert.specs.Converted.{noTray, noTrays, converted}
+use Rattle.convert.specs.Converted.{noTray, converted}
 use Rattle.convert.specs.Same.{InForce, SameAnswers}
 use Rattle.convert.proofs.Made.{speaks, Last, last-stated, last-largest, From, Made, made}
 use Rattle.convert.proofs.Markless.{converted-markless}
@@ -41,23 +41,23 @@ module _ (s : List ℕ) (n : ℕ) (former : formerCheck s ≡ book.Accepted n) (
 
   -- ---- the rows in force
 
-  last-formed : (m : ℕ) (r : Record) → Last m r → 0 < m → m ≤ 2047 → Formed Current r
-  last-formed m r L p h =
+  last-formed : (m : ℕ) (r : Record) → Last m r → m ≤ 2047 → Formed Current r
+  unfolding orderRow
+  last-formed m r L h =
       let k = L .kind in
       let o = L .origin in
-      let a = L .a in
-      let b = L .b in
       record {
         kind = admits-stated Current r (last-stated r L);
         known = omega arith;
         named = omega (arith, last-largest m r L);
         marking = λ e. absurd (omega arith);
-        order = λ e. omega arith;
+        order = refl;
       }
 
   kept-formed : (r : Record) → Formed Former r → noTray r ≡ true → Formed Current r
+  unfolding orderRow
   kept-formed r F t =
-      record { kind = admits-stated Current r (speaks r (F .kind) t); known = F .known; named = F .named; marking = F .marking; order = F .order }
+      record { kind = admits-stated Current r (speaks r (F .kind) t); known = F .known; named = F .named; marking = F .marking; order = refl }
 
   formed-in-force : (j : ℕ) → j < records (converted s) → Formed Current (recordAt (converted s) j)
   formed-in-force j l = pick (M .from j l)
@@ -66,7 +66,7 @@ module _ (s : List ℕ) (n : ℕ) (former : formerCheck s ≡ book.Accepted n) (
       pick (inl (i, h, p, e)) = rw e (kept-formed (recordAt s i) (A .each i h) p)
       pick (inr (h, L)) =
           let c = A .count in
-          last-formed _ _ L (omega (arith, pieces-positive (noTrays s) (records (noTrays s)))) (omega (arith, accepted-pieces A))
+          last-formed _ _ L (omega (arith, accepted-pieces A))
 
   pub accepted-in-force : AcceptedBook Current (converted s) (pieceCount s)
   accepted-in-force =

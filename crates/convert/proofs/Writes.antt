@@ -23,7 +23,7 @@ use Rattle.records.specs.Kept.{bytesAt, bytesWhere}
 use Rattle.records.specs.Check.{formerCheck}
 use Rattle.records.proofs.Rows.{refused-positive}
 use Rattle.records.proofs.Keeps.{Written, written-all, kept-fewer, kept-whole, kept-shorter}
-use Rattle.records.proofs.Accepted.{accepted-by, accepted-within, accepted-order, accepted-positive, accepted-pieces}
+use Rattle.records.proofs.Accepted.{accepted-by, accepted-within, accepted-positive, accepted-pieces}
 use Rattle.closure.specs.Void.{voidOf}
 use Rattle.settling.specs.Settled.{Settleable, Clashed}
 use Rattle.closure.proofs.VoidRows.{cleared-voids}
@@ -53,7 +53,6 @@ settleable-former s n e =
     let small : n ≤ 2048 = accepted-pieces A in
     record {
       bounded = record { some = accepted-positive A; fits = small; within = accepted-within A };
-      ordered = record { lower = accepted-order A };
       roomy = record { few = omega arith; parens = omega arith; marks = omega arith; shadows = few; places = small };
     }
 

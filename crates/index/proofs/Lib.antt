@@ -9,6 +9,7 @@ pub mod Places
 pub mod Standing
 pub mod Packing
 pub mod Bounds
+pub mod Matrices
 pub mod Events
 mod Nexts
 mod Queue

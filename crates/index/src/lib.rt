@@ -2,6 +2,8 @@
 ghost use mathlib.Core.Path.{_≡_};
 ghost use Prim.Native.Nat.{ℕ, _+_, _-_, _<_, _≤_};
 ghost use lib.ListN.{length, getD, set, replicate};
+ghost use Rattle.lists.specs.Tab.{tab};
+ghost use Rattle.parentheses.specs.Padded.{padded};
 ghost use Rattle.index.specs.Pairs.{joined};
 ghost use Rattle.index.specs.Index.{Indexed};
 ghost use Rattle.index.specs.Matrix.{pairOf, Buildable, Completed};
@@ -273,4 +275,18 @@ pub fn build(
     complete(n, edges);
     find_parents(n, edges, &mut parent, &mut order);
     fill(n, edges, &parent, parens, marks, shadows, places)
+}
+
+// Gives each piece below n the place of its group.
+pub fn place_members(n: usize, number: &[u16], groups: &[u16], places: &mut [u16])
+    requires { ⌜ (n ≤ length (now number)) × (n ≤ length (now places)) × ((g : ℕ) → g < n → getD (now number) g 0 < length (now groups)) ⌝ }
+    ensures { λ _. ⌜ now (places .exit) ≡ padded 0 (length (now (places .entry))) (tab (λ g. getD (now (groups .entry)) (getD (now (number .entry)) g 0) 0) 0 n) ⌝ }
+{
+    clear(places);
+    let mut g: usize = 0;
+    while g < n {
+        let k = wide(number[g]);
+        places[g] = groups[k];
+        g += 1;
+    }
 }

@@ -9,9 +9,12 @@ use native.Mathlib.Decide.{decLt, ℕ-discrete}
 use lib.Dec.{eqb}
 use lib.ListN.{length, getD, length-append, List·getD-append}
 use lib.Seq.{getD-at}
-use borrow.Author.Tests.{eqb-true, eqb-false, ne-eqb}
+use borrow.Author.Tests.{eqb-true, eqb-false, ne-eqb, eq-eqb}
 use Rattle.lists.specs.Any.{anyBelow}
+use Rattle.lists.specs.Tally.{num, tally}
 use Rattle.lists.proofs.Bools.{Known, is-true, is-false, known, not-true}
+use Rattle.lists.proofs.Anys.{below-hit}
+use Rattle.lists.proofs.Tallies.{tally-all}
 use Rattle.lists.specs.Passing.{passing, each}
 
 module _ (p : ℕ → Bool) where
@@ -160,6 +163,27 @@ all g n (suc m) = omega (arith, one-more (g m) (λ k. anyBelow (λ i. eqb (g i) 
 
 pub passing-few : (p : ℕ → Bool) (g : ℕ → ℕ) (m n : ℕ) → ((k : ℕ) → k < n → p k ≡ true → anyBelow (λ i. eqb (g i) k) m ≡ true) → length (passing p n) ≤ m
 passing-few p g m n h = omega (arith, passing-fewer p (λ k. anyBelow (λ i. eqb (g i) k) m) n h, all g n m)
+
+pub passing-tally : (p : ℕ → Bool) (n : ℕ) → length (passing p n) ≡ tally p n
+unfolding tally
+passing-tally p zero = ap length (passing-none p)
+passing-tally p (suc n) = pick (known (p n)) (passing-tally p n)
+  where
+    pick : Known (p n) → length (passing p n) ≡ tally p n → length (passing p (suc n)) ≡ num (p n) + tally p n
+    pick (is-true e) r = rw e (omega (arith, passing-length-hit p n e))
+    pick (is-false e) r = rw e (omega (arith, ap length (passing-miss p n e)))
+
+-- each number that passes is g of some i below m: at most m pass
+pub tally-few : (p : ℕ → Bool) (g : ℕ → ℕ) (m n : ℕ) → ((k : ℕ) → k < n → p k ≡ true → (i : ℕ) × (i < m) × (g i ≡ k)) → tally p n ≤ m
+tally-few p g m n h = omega (arith, passing-tally p n, passing-few p g m n (λ k l e. let w = h k l e in below-hit (λ i. eqb (g i) k) m (w .0) (w .1) (eq-eqb (g (w .0)) k (w .2))))
+
+-- the numbers below m are each g of some number that passes: at least m pass
+pub tally-many : (p : ℕ → Bool) (g : ℕ → ℕ) (m n : ℕ) → ((i : ℕ) → i < m → (k : ℕ) × (k < n) × (p k ≡ true) × (g k ≡ i)) → m ≤ tally p n
+tally-many p g m n h =
+    let all = tally-all (λ i. true) m (λ i l. refl) in
+    let few = tally-few (λ i. true) (λ j. g (getD (passing p n) j 0)) (tally p n) m
+    (λ i l e. let w = h i l in (length (passing p (w .0)), omega (arith, passing-tally p n, passing-less p (w .0) n (w .1) (w .2)), ap g (passing-back p (w .0) n (w .1) (w .2)) ∙ w .3)) in
+    omega (arith, all, few)
 
 pub each-none : (f : ℕ → List ℕ) → each f [] ≡ []
 unfolding each

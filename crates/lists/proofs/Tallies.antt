@@ -1,6 +1,6 @@
 -- Counting what passes a test. Assumes nothing.
 use mathlib.Core.Path.{_≡_, refl, sym, ap, _∙_}
-use mathlib.Core.Bool.{Bool, true, false}
+use mathlib.Core.Bool.{Bool, true, false, not}
 use Prim.Native.Nat.{ℕ, zero, suc, _+_, _<_, _≤_}
 use native.Mathlib.Decide.{ℕ-discrete}
 use native.Mathlib.Omega.{arith}
@@ -83,3 +83,13 @@ tally-find p (suc n) k l = go (known (p n)) (ℕ-discrete k (tally p n)) (λ (j 
     go (is-true e) (yes i) r = (n, omega arith, e, sym i)
     go (is-true e) (no i) r = let z = rw e at l in more (r (omega arith))
     go (is-false e) d r = let z = rw e at l in more (r (omega arith))
+
+-- what passes and what does not are all
+pub tally-rest : (p q : ℕ → Bool) (m : ℕ) → ((x : ℕ) → x < m → q x ≡ not (p x)) → tally q m + tally p m ≡ m
+unfolding tally
+tally-rest p q zero h = refl
+tally-rest p q (suc m) h = go (known (p m)) (tally-rest p q m (λ x l. h x (omega arith)))
+  where
+    go : Known (p m) → tally q m + tally p m ≡ m → num (q m) + tally q m + (num (p m) + tally p m) ≡ suc m
+    go (is-true e) r = rw (h m (omega arith), e) (omega arith)
+    go (is-false e) r = rw (h m (omega arith), e) (omega arith)

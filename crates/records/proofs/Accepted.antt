@@ -2,7 +2,7 @@
 use Prim.Native.Nat.{ℕ, _*_, _%_, _≤_, _<_}
 use mathlib.Core.Path.{_≡_, refl, sym, ap, subst, _∙_}
 use mathlib.Core.Bool.{Bool, true, false, false≢true}
-use mathlib.Core.List.{List, List·Memᴰ}
+use mathlib.Core.List.{List}
 use native.Mathlib.Omega.{arith}
 use lib.ListN.{length, getD}
 use lib.Dec.{eqb, ltb, leb}
@@ -124,16 +124,6 @@ acceptable e s p b =
 module _ {e : Edition} {s : List ℕ} {p : ℕ} (b : AcceptedBook e s p) where
   pub accepted-within : AllWithin p (facts s)
   accepted-within = rw (b .count) (facts-within s)
-
-  -- a container's number is below its part's
-  pub accepted-order : (x y : ℕ) → List·Memᴰ (PART x y) (facts s) → y < x
-  accepted-order x y m =
-      let o = fact-from s (PART x y) m in
-      let r = recordAt s (o .0) in
-      let k = sym (says-kind r (o .2)) ∙ ap kind (o .3) in
-      let l = sym (says-left r) ∙ ap left (o .3) in
-      let t = sym (says-right r) ∙ ap right (o .3) in
-      omega (arith, b .each (o .0) (o .1) .order k)
 
   pub accepted-positive : 1 ≤ p
   accepted-positive = rw (b .count) (pieces-positive s (records s))

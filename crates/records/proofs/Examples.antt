@@ -16,7 +16,7 @@ use Rattle.records.specs.declared.ClaimsCheck.the-variants as claims
 use Rattle.records.specs.Record.{recordAt}
 use Rattle.records.specs.Refusal.{scan}
 use Rattle.records.specs.Pieces.{stated, largest, piecesUpTo}
-use Rattle.records.specs.Rows.{admitted, sameBytes}
+use Rattle.records.specs.Rows.{orderRow, admitted, sameBytes}
 use Rattle.records.specs.Check.{formFinding, recordFinding, checkBy, bookCheck, formerCheck, claimAt, claimsCheck}
 use Rattle.records.specs.Facts.{entryOf, entries}
 use Rattle.records.specs.Marked.{marks, marked}
@@ -43,17 +43,17 @@ outcomes =
 
 outcomes-are :
     outcomes
-    ≡ Accepted 6 ∷ Accepted 1 ∷ Refused BookLength 0 ∷ Accepted 2048 ∷ Refused PieceNumber 0 ∷ Refused PieceNumber 0 ∷ Refused Kind 0 ∷ Refused Order 0 ∷ Refused Order 0
+    ≡ Accepted 6 ∷ Accepted 1 ∷ Refused BookLength 0 ∷ Accepted 2048 ∷ Refused PieceNumber 0 ∷ Refused PieceNumber 0 ∷ Refused Kind 0 ∷ Accepted 4 ∷ Accepted 1
     ∷ Accepted 5 ∷ Refused Repeat 2 ∷ Refused Kind 1 ∷ Refused Kind 1 ∷ Refused Origin 0 ∷ Refused PieceNumber 0 ∷ Accepted 5
     ∷ Accepted 6 ∷ Refused VoidForm 0 ∷ Refused VoidForm 0 ∷ Refused Origin 0 ∷ Refused PieceNumber 0 ∷ Accepted 6 ∷ Refused Repeat 1 ∷ []
-unfolding checkBy scan recordFinding formFinding admitted recordAt stated largest piecesUpTo sameBytes anyBelow
+unfolding checkBy scan recordFinding formFinding admitted orderRow recordAt stated largest piecesUpTo sameBytes anyBelow
 outcomes-are = refl
 
 -- by the former edition
 former-outcomes-are :
-    map formerCheck (book ∷ bytes 5 0 3 65535 ∷ bytes 5 0 2048 0 ∷ bytes 6 0 0 0 ∷ (bytes 5 1 7 7 ++ bytes 5 2 0 0) ∷ (bytes 5 0 3 1 ++ bytes 5 0 3 1) ∷ [])
-    ≡ Accepted 6 ∷ Accepted 4 ∷ Refused PieceNumber 0 ∷ Refused Kind 0 ∷ Refused Origin 1 ∷ Refused Repeat 1 ∷ []
-unfolding checkBy scan recordFinding formFinding admitted recordAt stated largest piecesUpTo sameBytes anyBelow
+    map formerCheck (book ∷ bytes 1 0 3 3 ∷ bytes 1 0 0 0 ∷ bytes 1 0 3 4 ∷ bytes 5 0 3 65535 ∷ bytes 5 0 2048 0 ∷ bytes 6 0 0 0 ∷ (bytes 5 1 7 7 ++ bytes 5 2 0 0) ∷ (bytes 5 0 3 1 ++ bytes 5 0 3 1) ∷ [])
+    ≡ Accepted 6 ∷ Refused Order 0 ∷ Refused Order 0 ∷ Refused Order 0 ∷ Accepted 4 ∷ Refused PieceNumber 0 ∷ Refused Kind 0 ∷ Refused Origin 1 ∷ Refused Repeat 1 ∷ []
+unfolding checkBy scan recordFinding formFinding admitted orderRow recordAt stated largest piecesUpTo sameBytes anyBelow
 former-outcomes-are = refl
 
 -- marks stand anywhere in the book, of either origin; they are no facts

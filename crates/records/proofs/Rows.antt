@@ -5,7 +5,7 @@ use mathlib.Core.Bool.{Bool, true, false, false≢true}
 use native.Mathlib.Omega.{arith}
 use native.Mathlib.Decide.{ℕ-discrete}
 use lib.Dec.{eqb}
-use borrow.Author.Tests.{le-leb, lt-leb, lt-ltb, le-ltb, eq-eqb, ne-eqb, eqb-true, eqb-false, leb-false, ltb-false, not-false}
+use borrow.Author.Tests.{le-leb, lt-leb, lt-ltb, le-ltb, eq-eqb, ne-eqb, eqb-true, eqb-false, ltb-false, not-false}
 use Rattle.lists.proofs.Bools.{Known, is-true, is-false, known}
 use Rattle.records.specs.declared.Record.{Record}
 use Rattle.records.specs.declared.Edition.{Edition}
@@ -16,7 +16,7 @@ use Rattle.records.specs.Refusal.{refusalNumber, row}
 use Rattle.records.specs.declared.Refusal.the-variants.{ShortBuffer, BookLength, TooManyRecords, Kind, Origin, PieceNumber, Order, Repeat, ClaimsLength, TooManyClaims, ClaimFormat, ClaimPiece, Contradiction, ShortSteps, TooManyPieces, ShortCatalog, NotStanding, VoidForm, LogLength, ReplicatePiece}
 use Rattle.records.specs.declared.Finding.the-variants.{Fit, Unfit}
 use Rattle.records.specs.Pieces.{stated, marking, larger, largest}
-use Rattle.records.specs.Rows.{admitted, kindRow, originRow, pieceRow, badMark, voidRow, orderRow}
+use Rattle.records.specs.Rows.{admitted, kindRow, originRow, pieceRow, badMark, voidRow, rising, orderRow}
 use Rattle.records.specs.Check.{formFinding}
 
 module _ (r : Record) where
@@ -41,6 +41,11 @@ unfolding admitted
 admits-stated Former r h = rw h
 admits-stated Current r h = rw h
 
+no-order : (e : Edition) (r : Record) → (r .kind ≡ 1 → ⊥) → orderRow e r ≡ false
+unfolding orderRow
+no-order Former r n = rw (ne-eqb (r .kind) 1 n)
+no-order Current r n = refl
+
 module _ (e : Edition) (r : Record) where
   pub no-kind : admitted e r ≡ false → formFinding e r ≡ Unfit Kind
   unfolding formFinding
@@ -60,23 +65,31 @@ module _ (e : Edition) (r : Record) where
         pub marks-one : r .kind ≡ 6 → formFinding e r ≡ row (badMark r) VoidForm Fit
         unfolding formFinding
         marks-one n =
-            let q : r .kind ≡ 1 → ⊥ = λ k. omega arith in
-            simp (h, le-ltb 1 (r .origin) t, le-ltb 2047 (largest r) p, eq-eqb (r .kind) 6 n, ne-eqb (r .kind) 1 q)
+            simp (h, le-ltb 1 (r .origin) t, le-ltb 2047 (largest r) p, eq-eqb (r .kind) 6 n, no-order e r (λ k. omega arith))
 
-        module _ (m : r .kind ≡ 6 → ⊥) where
-          pub not-part : (r .kind ≡ 1 → ⊥) → formFinding e r ≡ Fit
-          unfolding formFinding
-          not-part n = simp (h, le-ltb 1 (r .origin) t, le-ltb 2047 (largest r) p, ne-eqb (r .kind) 6 m, ne-eqb (r .kind) 1 n)
+        pub by-order : (r .kind ≡ 6 → ⊥) → formFinding e r ≡ row (orderRow e r) Order Fit
+        unfolding formFinding
+        by-order m = simp (h, le-ltb 1 (r .origin) t, le-ltb 2047 (largest r) p, ne-eqb (r .kind) 6 m)
 
-          pub ordered : r .kind ≡ 1 → r .b < r .a → formFinding e r ≡ Fit
-          unfolding formFinding
-          ordered n o =
-              simp (h, le-ltb 1 (r .origin) t, le-ltb 2047 (largest r) p, ne-eqb (r .kind) 6 m, eq-eqb (r .kind) 1 n, lt-leb (r .a) (r .b) o)
+        pub any-order : {d : Edition} → e ≡ d → d ≡ Current → (r .kind ≡ 6 → ⊥) → formFinding e r ≡ Fit
+        unfolding orderRow
+        any-order q c m = by-order m ∙ rw (q, c)
 
-          pub disordered : r .kind ≡ 1 → r .a ≤ r .b → formFinding e r ≡ Unfit Order
-          unfolding formFinding
-          disordered n o =
-              simp (h, le-ltb 1 (r .origin) t, le-ltb 2047 (largest r) p, ne-eqb (r .kind) 6 m, eq-eqb (r .kind) 1 n, le-leb (r .a) (r .b) o)
+        pub in-order : {d : Edition} → e ≡ d → d ≡ Former → (r .kind ≡ 6 → ⊥) → formFinding e r ≡ row (rising r) Order Fit
+        unfolding orderRow
+        in-order q f m = by-order m ∙ rw (q, f)
+
+-- row 8 of a record of the former edition
+module _ (r : Record) where
+  pub not-part : (r .kind ≡ 1 → ⊥) → row (rising r) Order Fit ≡ Fit
+  not-part n = simp (ne-eqb (r .kind) 1 n)
+
+  module _ (n : r .kind ≡ 1) where
+    pub ordered : r .b < r .a → row (rising r) Order Fit ≡ Fit
+    ordered o = simp (eq-eqb (r .kind) 1 n, lt-leb (r .a) (r .b) o)
+
+    pub disordered : r .a ≤ r .b → row (rising r) Order Fit ≡ Unfit Order
+    disordered o = simp (eq-eqb (r .kind) 1 n, le-leb (r .a) (r .b) o)
 
 -- row 19 of a mark
 module _ (r : Record) where
@@ -96,14 +109,11 @@ pub record Formed (e : Edition) (r : Record) : Type 0 where
   pub known : r .origin ≤ 1
   pub named : largest r ≤ 2047
   pub marking : r .kind ≡ 6 → (0 < r .a) × (r .b ≡ 0)
-  pub order : r .kind ≡ 1 → r .b < r .a
+  pub order : orderRow e r ≡ false
 
 pub row-fit : (b : Bool) (x : Refusal) (f : Finding) → row b x f ≡ Fit → (b ≡ false) × (f ≡ Fit)
 row-fit true x f e = absurd (let z : _≡_ {A = ℕ} 0 1 = cc in omega arith)
 row-fit false x f e = (refl, e)
-
-in-order : (r : Record) → orderRow r ≡ false → r .kind ≡ 1 → r .b < r .a
-in-order r e k = leb-false (r .a) (r .b) (rw (eq-eqb (r .kind) 1 k) at e)
 
 in-form : (r : Record) → voidRow r ≡ false → r .kind ≡ 6 → (0 < r .a) × (r .b ≡ 0)
 in-form r e k = pick (known (eqb (r .a) 0)) (known (eqb (r .b) 0))
@@ -123,24 +133,23 @@ formed e r q =
     let t = row-fit (originRow r) _ _ (k .1) in
     let p = row-fit (pieceRow r) _ _ (t .1) in
     let v = row-fit (voidRow r) _ _ (p .1) in
-    let o = row-fit (orderRow r) _ _ (v .1) in
+    let o = row-fit (orderRow e r) _ _ (v .1) in
     record {
       kind = not-false (admitted e r) (k .0);
       known = ltb-false _ _ (t .0);
       named = ltb-false _ _ (p .0);
       marking = in-form r (v .0);
-      order = in-order r (o .0);
+      order = o .0;
     }
 
 -- and such a record passes them
 pub fits : (e : Edition) (r : Record) → Formed e r → formFinding e r ≡ Fit
-fits e r F = pick (ℕ-discrete (r .kind) 6) (ℕ-discrete (r .kind) 1)
+fits e r F = pick (ℕ-discrete (r .kind) 6)
   where
-    pick : Dec (r .kind ≡ 6) → Dec (r .kind ≡ 1) → formFinding e r ≡ Fit
-    pick (yes m) k =
+    pick : Dec (r .kind ≡ 6) → formFinding e r ≡ Fit
+    pick (yes m) =
         let f = F .marking m in marks-one e r (F .kind) (F .known) (F .named) m ∙ good-mark r (λ a. omega (arith, f .0)) (f .1)
-    pick (no m) (yes k) = ordered e r (F .kind) (F .known) (F .named) m k (F .order k)
-    pick (no m) (no k) = not-part e r (F .kind) (F .known) (F .named) m k
+    pick (no m) = by-order e r (F .kind) (F .known) (F .named) m ∙ rw (F .order)
 
 -- no refusal has the number 0
 pub refused-positive : (r : Refusal) → refusalNumber r ≡ 0 → ⊥

@@ -26,7 +26,7 @@ bookLength s = row (ragged s) BookLength (row (moreThan 8192 s) TooManyRecords F
 
 -- rows 5 to 7, 19 and 8, which look at one record alone
 unfoldable pub formFinding : Edition → Record → Finding
-formFinding e r = row (kindRow e r) Kind (row (originRow r) Origin (row (pieceRow r) PieceNumber (row (voidRow r) VoidForm (row (orderRow r) Order Fit))))
+formFinding e r = row (kindRow e r) Kind (row (originRow r) Origin (row (pieceRow r) PieceNumber (row (voidRow r) VoidForm (row (orderRow e r) Order Fit))))
 
 -- rows 5 to 9 of record i, 19 among them
 unfoldable pub recordFinding : Edition → List ℕ → ℕ → Finding

@@ -1,6 +1,6 @@
 -- Document 01's rows 3 to 13 and row 19, one definition each: true where the row refuses. Assumes nothing.
 use Prim.Native.Nat.{ℕ, zero, suc, _+_, _*_, _%_}
-use mathlib.Core.Bool.{Bool, true, _&&_, _||_, not}
+use mathlib.Core.Bool.{Bool, true, false, _&&_, _||_, not}
 use mathlib.Core.List.{List}
 use lib.ListN.{length, getD}
 use lib.Dec.{leb, ltb, eqb}
@@ -42,9 +42,13 @@ badMark r = eqb (r .a) 0 || not (eqb (r .b) 0)
 abbrev pub voidRow : Record → Bool
 voidRow r = marking r && badMark r
 
--- 8: PART with b not below a
-abbrev pub orderRow : Record → Bool
-orderRow r = eqb (r .kind) 1 && leb (r .a) (r .b)
+-- 8, in the former edition alone: PART with b not below a. Today a container may have any number
+abbrev pub rising : Record → Bool
+rising r = eqb (r .kind) 1 && leb (r .a) (r .b)
+
+unfoldable pub orderRow : Edition → Record → Bool
+orderRow Former r = rising r
+orderRow Current r = false
 
 -- n bytes from p on are those from q on
 unfoldable pub sameBytes : List ℕ → ℕ → ℕ → ℕ → Bool

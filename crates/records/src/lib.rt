@@ -7,10 +7,10 @@ ghost use Rattle.lists.specs.Front.{front, placed};
 ghost use Rattle.records.specs.Record.{recordAt};
 ghost use Rattle.records.specs.Kept.{bytesAt, bytesWhere, sheets};
 ghost use Rattle.records.specs.Refusal.{refusalNumber, row};
-ghost use Rattle.records.specs.declared.Refusal.the-variants.{VoidForm};
+ghost use Rattle.records.specs.declared.Refusal.the-variants.{VoidForm, Order};
 ghost use Rattle.records.specs.declared.Finding.the-variants.{Fit};
 ghost use Rattle.records.specs.Pieces.{stated, largest, pieceCount};
-ghost use Rattle.records.specs.Rows.{admitted, badMark};
+ghost use Rattle.records.specs.Rows.{admitted, badMark, rising};
 ghost use Rattle.records.specs.Key.{keyAt, slotOf};
 ghost use Rattle.records.specs.Met.{met, Marked, start};
 ghost use Rattle.records.specs.Check.{formFinding, recordsCheck, checkBy, bookCheck, formerCheck, claimAt, claimsCheck};
@@ -24,7 +24,8 @@ pub struct Record {
     pub b: usize,
 }
 
-// The rows of document 01's table, in order, then those that came later. Row 2 is gone: a book without records is piece 0 alone.
+// The rows of document 01's table, in order, then those that came later. Row 2 is gone: a book without records is piece 0 alone. Row 8, Order, is the
+// former edition's.
 pub enum Refusal {
     ShortBuffer,
     BookLength,
@@ -176,6 +177,19 @@ fn check_mark(r: Record) -> Finding
     Finding::Fit
 }
 
+// Row 8 of a record of the former edition.
+fn check_order(r: Record) -> Finding
+    ensures { λ f. ⌜ f ≡ row (rising r) Order Fit ⌝ }
+{
+    if r.kind != 1 {
+        return Finding::Fit;
+    }
+    if r.b < r.a {
+        return Finding::Fit;
+    }
+    Finding::Unfit(Refusal::Order)
+}
+
 // Rows 5 to 7, 19 and 8, which look at one record alone.
 fn check_form(edition: Edition, r: Record) -> Finding
     ensures { λ f. ⌜ f ≡ formFinding edition r ⌝ }
@@ -192,13 +206,10 @@ fn check_form(edition: Edition, r: Record) -> Finding
     if r.kind == 6 {
         return check_mark(r);
     }
-    if r.kind != 1 {
-        return Finding::Fit;
+    match edition {
+        Edition::Former => check_order(r),
+        Edition::Current => Finding::Fit,
     }
-    if r.b < r.a {
-        return Finding::Fit;
-    }
-    Finding::Unfit(Refusal::Order)
 }
 
 fn wide64(x: u8) -> u64

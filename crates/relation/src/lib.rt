@@ -5,6 +5,7 @@ ghost use lib.ListN.{length, replicate};
 ghost use Rattle.lists.specs.First.{first};
 ghost use mathlib.Core.Bool.{Bool, false};
 ghost use Rattle.relation.specs.Flow.{Sorted, Pushed, Reached, Carried, along, against};
+ghost use Rattle.relation.specs.Led.{Led, Pooled, Shared};
 ghost use Rattle.relation.specs.Matrix.{bitOf, common, Inserted, United, Gathered, Multiplied};
 
 // Whether bit i of row r is set.
@@ -223,5 +224,39 @@ pub fn join_against(e: &[u64], order: &[u16], n: usize, m: &mut [u64])
         i -= 1;
         let h = wide(order[i]);
         push(e, h, m);
+    }
+}
+
+// Puts each row below n that follows another into its leader's.
+pub fn pool_rows(lead: &[u16], n: usize, m: &mut [u64])
+    requires { ⌜ (length (now m) ≡ 65536) × (n ≤ 2048) × Led n (now lead) ⌝ }
+    ensures { λ _. ⌜ Pooled n (now (lead .entry)) (now (m .entry)) (now (m .exit)) ⌝ }
+{
+    let mut i: usize = 0;
+    while i < n {
+        let g = i;
+        i += 1;
+        let h = wide(lead[g]);
+        if h == g {
+            continue;
+        }
+        union_within(m, h, g);
+    }
+}
+
+// Puts the leader's row into each row below n that follows it.
+pub fn share_rows(lead: &[u16], n: usize, m: &mut [u64])
+    requires { ⌜ (length (now m) ≡ 65536) × (n ≤ 2048) × Led n (now lead) ⌝ }
+    ensures { λ _. ⌜ Shared n (now (lead .entry)) (now (m .entry)) (now (m .exit)) ⌝ }
+{
+    let mut i: usize = 0;
+    while i < n {
+        let g = i;
+        i += 1;
+        let h = wide(lead[g]);
+        if h == g {
+            continue;
+        }
+        union_within(m, g, h);
     }
 }

@@ -18,7 +18,7 @@ use Rattle.records.specs.declared.Refusal.the-variants.{ShortBuffer, Contradict
 use Rattle.settling.specs.Opened.{Opened}
 use Rattle.settling.specs.Settled.{Clashed}
 use Rattle.closure.specs.Apart.{Aparts}
-use Rattle.answers.specs.Call.{edges, byRuns, byClaims, byBook}
+use Rattle.answers.specs.Call.{byRuns, byClaims, byBook}
 use Rattle.answers.specs.declared.Outcome.the-variants.{Accepted, Refused}
 use Rattle.answering.proofs.Counts.{own-count}
 use Rattle.answers.proofs.Judges.{refuses, accepts}
@@ -75,9 +75,8 @@ module _ (s : List ℕ) (n : ℕ) (sound : bookCheck s ≡ book.Accepted n) (w :
   unfolding byPart
   clash-refused place d q C = refused Contradiction place d q (ap (byPart w log) (refuses s n (own-count sound) place C))
 
-  module _ {nodes shadowed : ℕ} {parens marks shadows places e d t : List ℕ} (O : Opened (marked s) n (facts s) parens marks shadows places nodes shadowed e d t false) where
+  module _ {nodes shadowed : ℕ} {parens marks shadows places d t : List ℕ} (O : Opened (marked s) n (facts s) parens marks shadows places nodes shadowed d t false) where
     free : Accepted n nodes shadowed ≡ byRuns s n
-    unfolding edges
     free = accepts s n (own-count sound) nodes shadowed (O .is) (O .index .nodes-are) (O .index .shadowed-are)
 
     pub part-refused :

@@ -247,17 +247,19 @@ fn write_part(
     n: usize,
     voids: &[u64],
     e: &[u64],
+    order: &[u16],
+    lead: &[u16],
     d: &[u64],
     t: &mut [u64],
     window: Window,
     log: &[u8],
     out: &mut [u8],
 ) -> Window
-    requires { ⌜ Writable (now book) n (now voids) (now e) (now d) (now t) window (now log) (length (now out)) ⌝ }
+    requires { ⌜ Writable (now book) n (now voids) (now e) (now order) (now lead) (now d) (now t) window (now log) (length (now out)) ⌝ }
     ensures { λ r. ⌜ (r ≡ windowOf (sequence window (now (log .entry)))) × (now (out .exit) ≡ front (bytesIn (now (book .entry)) n window (now (log .entry))) (now (out .entry))) ⌝ }
 {
     let mut a = [0u64; 65536];
-    closure::apart::apart_rows(book, n, voids, e, d, t, &mut a);
+    closure::apart::apart_rows(book, n, voids, e, order, lead, d, t, &mut a);
     let mut xs = [0u16; 32799];
     let count = window.count;
     put_window(window, &mut xs);
@@ -286,17 +288,21 @@ fn judge(book: &[u8], n: usize, window: Window, log: &[u8], out: &mut [u8]) -> R
     let mut voids = [0u64; 32];
     closure::marking::mark_voids(book, &mut voids);
     let mut e = [0u64; 65536];
+    let mut order = [0u16; 2048];
+    let mut lead = [0u16; 2048];
     let mut d = [0u64; 65536];
     let mut t = [0u64; 65536];
     let mut parens = [0u8; 2560];
     let mut marks = [0u8; 1280];
     let mut shadows = [0u16; 8192];
     let mut places = [0u16; 2048];
-    let settled = settling::settle(
+    let settled = settling::settle_stepped(
         book,
         n,
         &voids,
         &mut e,
+        &mut order,
+        &mut lead,
         &mut d,
         &mut t,
         &mut parens,
@@ -312,7 +318,19 @@ fn judge(book: &[u8], n: usize, window: Window, log: &[u8], out: &mut [u8]) -> R
                 Outcome::Refused(refusal, place) => refuse(refusal, place, window),
                 Outcome::Accepted(pieces, all, hidden) => Replicated {
                     outcome: Outcome::Accepted(pieces, all, hidden),
-                    window: write_part(book, n, &voids, &e, &d, &mut t, window, log, out),
+                    window: write_part(
+                        book,
+                        n,
+                        &voids,
+                        &e,
+                        &order,
+                        &lead,
+                        &d,
+                        &mut t,
+                        window,
+                        log,
+                        out,
+                    ),
                 },
             }
         }

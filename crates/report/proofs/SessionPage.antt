@@ -13,7 +13,7 @@ use Rattle.records.specs.Marked.{marks, marked}
 use Rattle.records.specs.Record.{recordAt}
 use Rattle.records.specs.Refusal.{scan}
 use Rattle.records.specs.Pieces.{stated, largest, piecesUpTo}
-use Rattle.records.specs.Rows.{sameBytes}
+use Rattle.records.specs.Rows.{orderRow, sameBytes}
 use Rattle.records.specs.Check.{formFinding, recordFinding, checkBy, claimAt, claimsCheck}
 use Rattle.records.specs.Facts.{entryOf, entries}
 use Rattle.lists.specs.Numbers.{range, keep, find}
@@ -22,13 +22,16 @@ use Rattle.settling.specs.PartIn.{partIn}
 use Rattle.index.specs.Breadth.{breadth, order, parent}
 use Rattle.index.specs.Tree.{hang, under, whole, visits}
 use Rattle.index.specs.Index.{visitsOf}
+use Rattle.groups.specs.Groups as groups
+use Rattle.groups.specs.Index.{edges, bookVisits}
+use Rattle.lists.specs.Tally.{tally}
 use Rattle.index.specs.Parts.{isShadow, shadows}
 use Rattle.lists.specs.Front.{front}
 use Rattle.records.specs.Kept.{picked}
 use Rattle.records.specs.Rows.{admitted}
 use Rattle.answers.specs.Lent.{shortLent}
 use Rattle.answering.specs.Claimed.{claimed, answersTo}
-use Rattle.answers.specs.Call.{edges, byRuns, byClaims, byBook, outcome, indexed, left}
+use Rattle.answers.specs.Call.{byRuns, byClaims, byBook, outcome, indexed, left}
 use Rattle.report.specs.Text.{ascii}
 use Rattle.report.specs.Decimal.{spell, decimal}
 use Rattle.report.specs.Session.{kindName, answerName, claimLine, claimLines, countsLine, session}
@@ -57,5 +60,5 @@ pub session-printed :
     ++ ascii "7 NOTPART 1 3 FOLLOWS\n"
     ++ ascii "8 NOTPART 0 1 FOLLOWS\n"
     ++ ascii "9 PART 1 2 OPEN\n"
-unfolding printed zeros session countsLine claimLines claimLine recordAt kindName answerName decimal spell outcome shortLent byBook checkBy scan recordFinding formFinding stated largest piecesUpTo sameBytes anyBelow byClaims claimsCheck claimAt byRuns shortestClash entries entryOf factOf tab clash any table entry storing turned parting marks marked step rounds containment apart meets notpart derived follows first factsOf visitsOf edges joined partIn range keep find parts breadth order parent hang under whole visits shadows isShadow left indexed front answersTo picked admitted verdict judge claimed
+unfolding printed zeros session countsLine claimLines claimLine recordAt kindName answerName decimal spell outcome shortLent byBook checkBy scan recordFinding formFinding orderRow stated largest piecesUpTo sameBytes anyBelow byClaims claimsCheck claimAt byRuns shortestClash entries entryOf factOf tab clash any table entry storing turned parting marks marked step rounds containment apart meets notpart derived follows first factsOf bookVisits groups.groups groups.pair groups.number groups.lowest groups.first-of groups.same groups.lies tally visitsOf edges joined partIn range keep find parts breadth order parent hang under whole visits shadows isShadow left indexed front answersTo picked admitted verdict judge claimed
 session-printed = refl

@@ -8,7 +8,6 @@ use native.Mathlib.Omega.{arith}
 use lib.ListN.{length, take}
 use lib.Seq.{take-length, length-take-le}
 use Rattle.lists.proofs.Bools.{not-true}
-use Rattle.rules.specs.Fact.{PART}
 use Rattle.rules.specs.Follows.{clash}
 use Rattle.rules.specs.Entries.{Entry, fact, none, factsOf, shortestClash}
 use Rattle.rules.proofs.More.{Among}
@@ -16,7 +15,7 @@ use Rattle.rules.proofs.Runs.{run-among, nothing-clashes, clash-grows, shortest
 use Rattle.records.specs.Facts.{entries, facts}
 use Rattle.records.proofs.Runs.{entries-length, run-entries}
 use Rattle.closure.specs.Bounded.{Bounded}
-use Rattle.closure.specs.Ordered.{Ordered, Roomy}
+use Rattle.settling.specs.Roomy.{Roomy}
 
 -- ---- what a run from the start keeps of the whole
 
@@ -29,9 +28,6 @@ module _ (s : List ℕ) (k : ℕ) (fits : 6 * k ≤ length s) where
 
   pub run-bounded : {n : ℕ} → Bounded n (facts s) → Bounded n (facts (take (6 * k) s))
   run-bounded B = record { some = B .some; fits = B .fits; within = λ f m. B .within f (run-of f m) }
-
-  pub run-ordered : Ordered (facts s) → Ordered (facts (take (6 * k) s))
-  run-ordered O = record { lower = λ p c m. O .lower p c (run-of (PART p c) m) }
 
   pub run-roomy : {n b mb sc pc : ℕ} → Roomy n (length s / 6) b mb sc pc → Roomy n (length (take (6 * k) s) / 6) b mb sc pc
   run-roomy R =

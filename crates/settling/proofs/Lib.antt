@@ -1,5 +1,6 @@
 pub mod Parts
 pub mod Halving
 pub mod FactIndex
+pub mod GroupIndex
 pub mod Loads
 pub mod Settling

@@ -20,16 +20,19 @@ use Rattle.records.specs.Marked.{marked}
 use Rattle.records.proofs.Marks.{accepted-whole-unmarked}
 use Rattle.records.specs.Facts.{entries, facts}
 use Rattle.records.specs.declared.BookCheck.the-variants as book
-use Rattle.records.proofs.Accepted.{accepted, accepted-within, accepted-order, accepted-positive, accepted-pieces}
-use Rattle.index.specs.Pairs.{joined}
+use Rattle.records.proofs.Accepted.{accepted, accepted-within, accepted-positive, accepted-pieces}
+use Rattle.groups.specs.Groups.{groups}
+use Rattle.groups.specs.Index.{edges}
 use Rattle.settling.specs.PartIn.{partIn}
 use Rattle.index.specs.Index.{Room}
 use Rattle.settling.specs.Opened.{Opened}
-use Rattle.settling.specs.Settled.{Settleable, Clashed, Settles}
+use Rattle.settling.specs.Settled.{Settleable, Clashed, Settles, Steps}
+use Rattle.settling.specs.declared.Settled.{Settled}
+use Rattle.closure.specs.Stepped.{Stepped}
 use Rattle.settling.specs.declared.Settled.the-variants.{Free, Clash}
 use Rattle.settling.specs.Contradiction.{Contradiction}
 use Rattle.settling.proofs.Halving.{facts-roomy}
-use Rattle.settling.proofs.Parts.{room}
+use Rattle.settling.proofs.GroupIndex.{room}
 
 -- every book that rows 2 to 9 accept, in parts of document 01's lengths
 pub settleable : (s : List ℕ) (n : ℕ) → bookCheck s ≡ book.Accepted n → Settleable n s 2560 1280 8192 2048
@@ -39,7 +42,6 @@ settleable s n e =
     let small : n ≤ 2048 = accepted-pieces A in
     record {
       bounded = record { some = accepted-positive A; fits = small; within = accepted-within A };
-      ordered = record { lower = accepted-order A };
       roomy = record { few = omega arith; parens = omega arith; marks = omega arith; shadows = few; places = small };
     }
 
@@ -48,9 +50,9 @@ pub whole-unmarked : (s : List ℕ) (n : ℕ) → bookCheck s ≡ book.Accepted 
 whole-unmarked s n e = accepted-whole-unmarked (accepted s n e)
 
 -- what settling gives back
-module _ {void : ℕ → Bool} {n : ℕ} {run parens marks shadows places e d t : List ℕ} where
+module _ {void : ℕ → Bool} {n : ℕ} {run parens marks shadows places d t : List ℕ} where
   pub settles-free :
-      {nodes shadowed : ℕ} → Opened void n (facts run) parens marks shadows places nodes shadowed e d t false → Settles void n run parens marks shadows places e d t (Free nodes shadowed)
+      {nodes shadowed : ℕ} → Opened void n (facts run) parens marks shadows places nodes shadowed d t false → Settles void n run parens marks shadows places d t (Free nodes shadowed)
   settles-free {nodes} {shadowed} O =
       record {
         free = λ a b q.
@@ -60,12 +62,18 @@ module _ {void : ℕ → Bool} {n : ℕ} {run parens marks shadows places e d t 
         clash = λ p q. let z : _≡_ {A = ℕ} 0 1 = cc in absurd (omega arith);
       }
 
-  pub settles-clash : {place : ℕ} → Clashed void n run place → Settles void n run parens marks shadows places e d t (Clash place)
+  pub settles-clash : {place : ℕ} → Clashed void n run place → Settles void n run parens marks shadows places d t (Clash place)
   settles-clash {place} C =
       record {
         free = λ a b q. let z : _≡_ {A = ℕ} 0 1 = cc in absurd (omega arith);
         clash = λ p q. let x : place ≡ p = cc in rw x at C;
       }
+
+pub steps-free : {n : ℕ} {run e order lead : List ℕ} (r : Settled) → Stepped n (facts run) e order lead → Steps n run e order lead r
+steps-free r W = record { free = λ a b q. W }
+
+pub steps-clash : {n place : ℕ} {run e order lead : List ℕ} → Steps n run e order lead (Clash place)
+steps-clash = record { free = λ a b q. let z : _≡_ {A = ℕ} 0 1 = cc in absurd (omega arith) }
 
 module _ {n : ℕ} {run : List ℕ} {b mb sc pc : ℕ} (S : Settleable n run b mb sc pc) where
   -- and in longer parts
@@ -74,7 +82,6 @@ module _ {n : ℕ} {run : List ℕ} {b mb sc pc : ℕ} (S : Settleable n run b m
       let R = S .roomy in
       record {
         bounded = S .bounded;
-        ordered = S .ordered;
         roomy =
             record {
               few = R .few;
@@ -86,8 +93,8 @@ module _ {n : ℕ} {run : List ℕ} {b mb sc pc : ℕ} (S : Settleable n run b m
       }
 
   -- the index fits
-  pub settled-room : Room n (joined n (partIn (facts run))) b mb sc pc
-  settled-room = room n (facts run) (S .bounded) (S .ordered) b mb sc pc (facts-roomy run n b mb sc pc (S .roomy))
+  pub settled-room : Room (groups n (partIn (facts run))) (edges n (partIn (facts run))) b mb sc pc
+  settled-room = room n (facts run) (S .bounded) b mb sc pc (facts-roomy run n b mb sc pc (S .roomy))
 
   module _ (void : ℕ → Bool) (z : void 0 ≡ false) where
     iff : (clash void n (facts run) ≡ true → Contradictory void n (facts run)) × (Contradictory void n (facts run) → clash void n (facts run) ≡ true)

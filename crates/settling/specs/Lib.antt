@@ -2,4 +2,6 @@ pub mod Opened
 pub mod Settled
 pub mod Contradiction
 pub mod PartIn
+pub mod Roomy
 pub mod Loaded
+pub mod Numbered

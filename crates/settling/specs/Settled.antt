@@ -8,7 +8,8 @@ use Rattle.rules.specs.Follows as on
 use Rattle.rules.specs.Entries.{shortestClash}
 use Rattle.records.specs.Facts.{entries, facts}
 use Rattle.closure.specs.Bounded.{Bounded}
-use Rattle.closure.specs.Ordered.{Ordered, Roomy}
+use Rattle.settling.specs.Roomy.{Roomy}
+use Rattle.closure.specs.Stepped.{Stepped}
 use Rattle.settling.specs.Opened.{Opened}
 use Rattle.settling.specs.declared.Settled.{Settled}
 use Rattle.settling.specs.declared.Settled.the-variants.{Free, Clash}
@@ -16,7 +17,6 @@ use Rattle.settling.specs.declared.Settled.the-variants.{Free, Clash}
 -- a run about n pieces, and parts of these lengths with room for its index
 pub record Settleable (n : ℕ) (run : List ℕ) (bytes markBytes shadowCount placeCount : ℕ) : Type 0 where
   pub bounded : Bounded n (facts run)
-  pub ordered : Ordered (facts run)
   pub roomy : Roomy n (length run / 6) bytes markBytes shadowCount placeCount
 
 -- a contradictory run, and the last record of its shortest contradictory run from the start
@@ -24,7 +24,11 @@ pub record Clashed (void : ℕ → Bool) (n : ℕ) (run : List ℕ) (place : ℕ
   pub is : true ≡ on.clash void n (facts run)
   pub last : place + 1 ≡ shortestClash void n (entries run)
 
--- a free run has its index, steps, D and T in what was lent; of a contradictory run the lent parts say nothing
-pub record Settles (void : ℕ → Bool) (n : ℕ) (run parens marks shadows places e d t : List ℕ) (r : Settled) : Type 0 where
-  pub free : (nodes shadowed : ℕ) → r ≡ Free nodes shadowed → Opened void n (facts run) parens marks shadows places nodes shadowed e d t false
+-- a free run has its index, D and T in what was lent; of a contradictory run the lent parts say nothing
+pub record Settles (void : ℕ → Bool) (n : ℕ) (run parens marks shadows places d t : List ℕ) (r : Settled) : Type 0 where
+  pub free : (nodes shadowed : ℕ) → r ≡ Free nodes shadowed → Opened void n (facts run) parens marks shadows places nodes shadowed d t false
   pub clash : (place : ℕ) → r ≡ Clash place → Clashed void n run place
+
+-- a free run has its steps too, in the order in which rows are joined
+pub record Steps (n : ℕ) (run e order lead : List ℕ) (r : Settled) : Type 0 where
+  pub free : (nodes shadowed : ℕ) → r ≡ Free nodes shadowed → Stepped n (facts run) e order lead

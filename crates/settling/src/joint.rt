@@ -22,11 +22,15 @@ pub fn contradicts(
     let mut marks = [0u8; 2304];
     let mut shadows = [0u16; 16384];
     let mut places = [0u16; 2048];
+    let mut order = [0u16; 2048];
+    let mut lead = [0u16; 2048];
     let begun = crate::begin(
         run,
         n,
         voids,
         e,
+        &mut order,
+        &mut lead,
         d,
         t,
         &mut parens,

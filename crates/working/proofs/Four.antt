@@ -24,8 +24,8 @@ use Rattle.records.specs.declared.Finding.{Finding}
 use Rattle.records.specs.declared.Finding.the-variants.{Fit, Unfit}
 use Rattle.records.specs.declared.BookCheck.{BookCheck}
 use Rattle.records.specs.declared.BookCheck.the-variants as book
-use Rattle.answers.specs.Call.{byBook, byClaims, byRuns, edges}
-use Rattle.index.specs.Index.{visitsOf}
+use Rattle.groups.specs.Index.{bookVisits}
+use Rattle.answers.specs.Call.{pairsOf, byBook, byClaims, byRuns}
 use Rattle.index.specs.Parts as on
 use Rattle.answers.specs.declared.Outcome.{Outcome}
 use Rattle.answers.specs.declared.Outcome.the-variants.{Accepted, Refused}
@@ -55,7 +55,7 @@ module _ (B : Type 0) where
 
   form-only : (r : Record) → Onlys (formFinding Current r)
   unfolding formFinding
-  form-only r = row-only (kindRow Current r) Kind _ (λ _ n. absurd (omega arith)) (row-only (originRow r) Origin _ (λ _ n. absurd (omega arith)) (row-only (pieceRow r) PieceNumber _ (λ _ n. absurd (omega arith)) (row-only (voidRow r) VoidForm _ (λ _ n. absurd (omega arith)) (row-only (orderRow r) Order _ (λ _ n. absurd (omega arith)) fit-only))))
+  form-only r = row-only (kindRow Current r) Kind _ (λ _ n. absurd (omega arith)) (row-only (originRow r) Origin _ (λ _ n. absurd (omega arith)) (row-only (pieceRow r) PieceNumber _ (λ _ n. absurd (omega arith)) (row-only (voidRow r) VoidForm _ (λ _ n. absurd (omega arith)) (row-only (orderRow Current r) Order _ (λ _ n. absurd (omega arith)) fit-only))))
 
   record-only : (s : List ℕ) (i : ℕ) → Onlys (recordFinding Current s i)
   unfolding recordFinding
@@ -91,7 +91,7 @@ module _ (B : Type 0) where
   by-only : (s : List ℕ) (k : BookCheck) → BookOnly k → OutcomeOnly (byBook s [] k)
   unfolding byBook byClaims byRuns claimsCheck scan
   by-only s (book.Refused r i) p = p
-  by-only s (book.Accepted n) p = runs-only (leb (shortestClash (marked s) n (entries s)) (records s)) (shortestClash (marked s) n (entries s) - 1) n (length (visitsOf n (edges n s))) (length (on.shadows (visitsOf n (edges n s))))
+  by-only s (book.Accepted n) p = runs-only (leb (shortestClash (marked s) n (entries s)) (records s)) (shortestClash (marked s) n (entries s) - 1) n (length (bookVisits n (pairsOf s))) (length (on.shadows (bookVisits n (pairsOf s))))
 
   if-only : (b : Bool) (x : Refusal) (o : Outcome) → (b ≡ true → Only x) → (b ≡ false → OutcomeOnly o) → OutcomeOnly (refuseIf b x o)
   unfolding refuseIf

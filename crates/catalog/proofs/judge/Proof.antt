@@ -61,7 +61,7 @@ fill-requires c κs =
     let S = c .before .before .before .before .before .before .before .before .before .before .before .before .before .before .before .before .before .before .before .before .before .before .before .settle in
     let O = S .ensures .free _ _ (c .before .before .before .before .before .before .before .before .before .before .settled2 .given .1) in (
       P .0,
-      record { sound = P .1 .sound; void = c .before .before .before .before .before .before .before .before .before .before .before .before .before .before .before .before .before .before .before .before .before .before .before .before .before .before .before .before .before .before .before .before .before .mark-voids .ensures; free = O .is; sized = O .steps .sized; parts = O .parts; toward = O .toward; placed = places-are _ _ (P .1 .sound) O (S .kept .1 .1 .1 .1 .1 .1 .1 .1 .1 .0 ∙ X .places-long) },
+      record { sound = P .1 .sound; void = c .before .before .before .before .before .before .before .before .before .before .before .before .before .before .before .before .before .before .before .before .before .before .before .before .before .before .before .before .before .before .before .before .before .mark-voids .ensures; free = O .is; sized = c .before .before .before .before .before .before .before .before .before .before .before .before .before .before .before .before .before .before .before .before .before .before .before .settle .kept .1 .1 .1 .0; parts = O .parts; toward = O .toward; placed = places-are _ _ (P .1 .sound) O (S .kept .1 .1 .1 .1 .1 .1 .1 .1 .1 .0 ∙ X .places-long) },
       P .1 .roomy,
     )
 
@@ -115,7 +115,7 @@ returns-2 c =
     let X = c .before .before .before .before .before .before .before .before .before .before .before .before .before .before .before .before .before .before .before .before .before .before .before .before .before .before .before .before .before .before .before .before .before .before .before .before .before .before .before .before .before .before .before .before .before .before .before .before .before .before .before .before .before .before .pre .1 .exact in
     let S = c .before .before .before .before .before .before .before .before .before .before .before .before .before .before .before .before .before .before .before .before .before .before .before .before .before .before .before .before .before .before .before .before .before .settle in
     judged-written _ _ _ _ _
-    (answers.judged-accepted _ _ _ _ X _ _ _ _ _ _ _ _ _ _ (S .kept .1 .1 .1 .1 .1 .1 .0 ∙ X .parens-long) (S .kept .1 .1 .1 .1 .1 .1 .1 .0 ∙ X .marks-long) (S .kept .1 .1 .1 .1 .1 .1 .1 .1 .0 ∙ X .shadows-long) (S .kept .1 .1 .1 .1 .1 .1 .1 .1 .1 .0 ∙ X .places-long)
+    (answers.judged-accepted _ _ _ _ X _ _ _ _ _ _ _ _ _ (S .kept .1 .1 .1 .1 .1 .1 .0 ∙ X .parens-long) (S .kept .1 .1 .1 .1 .1 .1 .1 .0 ∙ X .marks-long) (S .kept .1 .1 .1 .1 .1 .1 .1 .1 .0 ∙ X .shadows-long) (S .kept .1 .1 .1 .1 .1 .1 .1 .1 .1 .0 ∙ X .places-long)
     (rw (c .before .before .before .before .before .before .before .before .before .before .before .before .before .before .before .before .before .before .before .before .before .before .before .before .before .before .before .before .before .before .before .before .before .before .before .before .before .before .before .before .before .before .before .mark-voids .ensures .1) at (S .ensures .free _ _ (c .before .before .before .before .before .before .before .before .before .before .before .before .before .before .before .before .before .before .before .before .settled2 .given .1))) refl)
     (c .before .before .before .before .before .before .before .before .before .fill .ensures)
 

@@ -52,6 +52,12 @@ refuse-requires c κs = search needs
 enum-told : tie.Need-enum-told
 enum-told c = search needs
 
+slice-aggregate-edges : tie.Need-slice-aggregate-edges
+slice-aggregate-edges c = search needs
+
+edges-requires : tie.Need-edges-requires
+edges-requires c κs = (settleable _ _ (c .before .before .before .before .before .before .before .before .before .before .before .before .before .before .before .before .before .before .before .before .before .before .before .before .before .before .pre .0) .bounded, c .before .before .before .before .before .before .before .before .before .before .before .before .settle .kept .1 .1 .1 .0)
+
 slice-aggregate-write-found : tie.Need-slice-aggregate-write-found
 slice-aggregate-write-found c = search needs
 
@@ -65,13 +71,13 @@ slice-aggregate-write-found-4 : tie.Need-slice-aggregate-write-found-4
 slice-aggregate-write-found-4 c = search needs
 
 write-found-requires : tie.Need-write-found-requires
-write-found-requires c κs = (ground-of _ _ _ _ _ (c .before .before .before .before .before .before .before .before .before .before .before .before .before .before .before .before .before .before .before .before .before .before .before .before .before .before .before .before .before .before .pre .0) (c .before .before .before .before .before .before .before .before .before .before .before .before .before .before .before .before .before .before .before .before .before .before .before .before .before .before .mark-voids .ensures) (sym (picked-all _ _ (c .before .before .before .before .before .if1 .taken))) (c .before .before .before .before .before .before .before .before .before .before .before .before .before .before .before .before .settle .ensures .free _ _ (c .before .before .before .before .before .before .before .enum-told .given .1)), c .before .before .before .before .before .before .before .before .before .before .before .before .before .before .before .before .before .before .before .before .before .before .before .before .before .before .before .before .before .before .pre .1, c .before .before .before .before .before .before .before .before .before .before .before .before .before .before .before .before .before .before .before .before .before .before .before .before .before .before .before .before .before .before .pre .2, c .before .before .before .before .before .before .before .before .before .before .before .before .before .before .before .before .before .before .before .before .before .before .before .before .before .before .before .before .before .before .pre .3)
+write-found-requires c κs = (ground-of _ _ _ _ _ (c .before .before .before .before .before .before .before .before .before .before .before .before .before .before .before .before .before .before .before .before .before .before .before .before .before .before .before .before .before .before .before .before .before .pre .0) (c .before .before .before .before .before .before .before .before .before .before .before .before .before .before .before .before .before .before .before .before .before .before .before .before .before .before .before .before .before .mark-voids .ensures) (sym (picked-all _ _ (c .before .before .before .before .before .before .before .before .if1 .taken))) (c .before .before .before .before .before .before .before .before .before .before .before .before .before .before .before .before .before .before .before .settle .ensures .free _ _ (c .before .before .before .before .before .before .before .before .before .before .enum-told .given .1)) (c .before .before .before .before .before .before .edges .ensures), c .before .before .before .before .before .before .before .before .before .before .before .before .before .before .before .before .before .before .before .before .before .before .before .before .before .before .before .before .before .before .before .before .before .pre .1, c .before .before .before .before .before .before .before .before .before .before .before .before .before .before .before .before .before .before .before .before .before .before .before .before .before .before .before .before .before .before .before .before .before .pre .2, c .before .before .before .before .before .before .before .before .before .before .before .before .before .before .before .before .before .before .before .before .before .before .before .before .before .before .before .before .before .before .before .before .before .pre .3)
 
 same-length : tie.Need-same-length
 same-length c = search needs
 
 returns : tie.Need-returns
-returns c = judged-free _ _ _ _ (c .before .before .before .before .before .before .before .before .before .before .before .before .before .before .before .before .before .before .before .before .before .before .before .before .before .before .before .before .before .before .before .before .before .pre .0) (by-marks _ _ _ (c .before .before .before .before .before .before .before .before .before .before .before .before .before .before .before .before .before .before .before .before .before .before .before .before .before .before .before .before .before .mark-voids .ensures) (c .before .before .before .before .before .before .before .before .before .before .before .before .before .before .before .before .before .before .before .settle .ensures .free _ _ (c .before .before .before .before .before .before .before .before .before .before .enum-told .given .1))) _ (c .before .before .write-found .ensures)
+returns c = judged-free _ _ _ _ (c .before .before .before .before .before .before .before .before .before .before .before .before .before .before .before .before .before .before .before .before .before .before .before .before .before .before .before .before .before .before .before .before .before .before .before .before .pre .0) (by-marks _ _ _ (c .before .before .before .before .before .before .before .before .before .before .before .before .before .before .before .before .before .before .before .before .before .before .before .before .before .before .before .before .before .before .before .before .mark-voids .ensures) (c .before .before .before .before .before .before .before .before .before .before .before .before .before .before .before .before .before .before .before .before .before .before .settle .ensures .free _ _ (c .before .before .before .before .before .before .before .before .before .before .before .before .before .enum-told .given .1))) _ (c .before .before .write-found .ensures)
 
 slice-aggregate-write-restricted : tie.Need-slice-aggregate-write-restricted
 slice-aggregate-write-restricted c = search needs
@@ -86,7 +92,7 @@ slice-aggregate-write-restricted-4 : tie.Need-slice-aggregate-write-restricted-4
 slice-aggregate-write-restricted-4 c = search needs
 
 write-restricted-requires : tie.Need-write-restricted-requires
-write-restricted-requires c κs = let O = by-marks _ _ _ (c .before .before .before .before .before .before .before .before .before .before .before .before .before .before .before .before .before .before .before .before .before .before .before .before .before .before .mark-voids .ensures) (c .before .before .before .before .before .before .before .before .before .before .before .before .before .before .before .before .settle .ensures .free _ _ (c .before .before .before .before .before .before .before .enum-told .given .1)) in (c .before .before .before .before .before .before .before .before .before .before .before .before .before .before .before .before .before .before .before .before .before .before .before .before .before .before .before .before .before .before .pre .0, c .before .before .before .before .before .before .before .before .before .before .before .before .before .before .before .before .before .before .before .before .before .before .before .before .before .before .mark-voids .ensures, O .is, O .steps .sized, O .parts .sized, O .toward .sized, c .before .before .before .before .before .if1 .left, c .before .before .before .before .before .before .before .before .before .before .before .before .before .before .before .before .before .before .before .before .before .before .before .before .before .before .before .before .before .before .pre .1, c .before .before .before .before .before .before .before .before .before .before .before .before .before .before .before .before .before .before .before .before .before .before .before .before .before .before .before .before .before .before .pre .2, c .before .before .before .before .before .before .before .before .before .before .before .before .before .before .before .before .before .before .before .before .before .before .before .before .before .before .before .before .before .before .pre .3)
+write-restricted-requires c κs = let O = by-marks _ _ _ (c .before .before .before .before .before .before .before .before .before .before .before .before .before .before .before .before .before .before .before .before .before .before .before .before .before .before .mark-voids .ensures) (c .before .before .before .before .before .before .before .before .before .before .before .before .before .before .before .before .settle .ensures .free _ _ (c .before .before .before .before .before .before .before .enum-told .given .1)) in (c .before .before .before .before .before .before .before .before .before .before .before .before .before .before .before .before .before .before .before .before .before .before .before .before .before .before .before .before .before .before .pre .0, c .before .before .before .before .before .before .before .before .before .before .before .before .before .before .before .before .before .before .before .before .before .before .before .before .before .before .mark-voids .ensures, O .is, c .before .before .before .before .before .before .before .before .before .before .before .before .before .before .before .before .settle .kept .1 .1 .1 .0, O .parts .sized, O .toward .sized, c .before .before .before .before .before .if1 .left, c .before .before .before .before .before .before .before .before .before .before .before .before .before .before .before .before .before .before .before .before .before .before .before .before .before .before .before .before .before .before .pre .1, c .before .before .before .before .before .before .before .before .before .before .before .before .before .before .before .before .before .before .before .before .before .before .before .before .before .before .before .before .before .before .pre .2, c .before .before .before .before .before .before .before .before .before .before .before .before .before .before .before .before .before .before .before .before .before .before .before .before .before .before .before .before .before .before .pre .3)
 
 returns-2 : tie.Need-returns-2
 returns-2 c = judged-clash _ _ _ _ (c .before .before .before .before .before .before .before .before .before .before .before .before .before .before .before .before .before .before .before .before .before .before .before .before .before .pre .0) _ _ (c .refuse .ensures) (rw (c .before .before .before .before .before .before .before .before .before .before .before .before .before .before .before .before .before .before .before .before .before .mark-voids .ensures .1) at (c .before .before .before .before .before .before .before .before .before .before .before .settle .ensures .clash _ (c .before .before .settled .given .1)))
@@ -115,6 +121,8 @@ judge-spec =
     enum-known-settled
     refuse-requires
     enum-told
+    slice-aggregate-edges
+    edges-requires
     slice-aggregate-write-found
     slice-aggregate-write-found-2
     slice-aggregate-write-found-3

@@ -2,7 +2,6 @@
 use borrow.Author.Needs.{needs}
 use lib.ListN.{length}
 use Rattle.closure.proofs.Holding.{whole-holds}
-use Rattle.closure.proofs.Steps.{edges-rise, wholes-reached}
 use Rattle.closure.proofs.complete.Statement.{statement}
 use Rattle.closure.proofs.complete.Tie as tie
 
@@ -19,7 +18,7 @@ diagonal-requires : tie.Need-diagonal-requires
 diagonal-requires c κs = search needs
 
 join-wholes-requires : tie.Need-join-wholes-requires
-join-wholes-requires c κs = (search needs, search needs, search needs, edges-rise _ _ (c .before .before .before .before .before .before .before .before .before .before .before .before .before .before .before .before .before .before .before .before .before .before .before .before .before .before .before .pre .0) _ (c .before .before .before .before .before .before .before .before .before .before .before .before .before .before .before .before .before .before .before .before .before .before .before .before .before .before .before .pre .3) (c .before .before .before .before .before .before .before .before .before .before .before .before .before .before .before .before .before .before .before .before .before .before .before .before .before .before .before .pre .2))
+join-wholes-requires c κs = let P = c .before .before .before .before .before .before .before .before .before .before .before .before .before .before .before .before .before .before .before .before .before .before .before .before .before .before .before .before .before .pre in let S = P .2 in (search needs, S .sized, P .0 .fits, S .sorted, S .led)
 
 same-length : tie.Need-same-length
 same-length c = search needs
@@ -32,8 +31,8 @@ same-length-3 c = search needs
 
 returns : tie.Need-returns
 returns c =
-    let P = c .before .before .before .before .before .before .before .before .before .before .before .before .before .before .before .before .before .before .before .before .before .before .before .before .before .before .before .before .before .before .pre in (
-      whole-holds _ _ (length (c .before .before .before .before .before .before .before .before .before .before .before .before .before .before .before .before .outing .last .1 .1 .1 .1 .1 .0)) (c .before .before .before .before .before .before .before .before .before .before .clear .ensures) (search needs) (c .before .before .before .before .before .before .diagonal .ensures) (c .before .before .join-wholes .ensures _ (wholes-reached _ _ (P .0) _ (P .3))),
+    let P = c .before .before .before .before .before .before .before .before .before .before .before .before .before .before .before .before .before .before .before .before .before .before .before .before .before .before .before .before .before .before .before .before .pre in (
+      whole-holds _ _ (length (c .before .before .before .before .before .before .before .before .before .before .before .before .before .before .before .before .outing .last .1 .1 .1 .1 .1 .1 .1 .0)) (c .before .before .before .before .before .before .before .before .before .before .clear .ensures) (search needs) (c .before .before .before .before .before .before .diagonal .ensures) (c .before .before .join-wholes .ensures _ (P .0) (P .2)),
       c .before .before .before .before .before .before .before .before .before .before .before .before .before .before .before .before .before .before .before .before .before .before .parting .ensures,
       c .before .before .before .before .before .before .before .before .before .before .before .before .before .before .before .before .outing .ensures,
     )

@@ -6,7 +6,7 @@ use mathlib.Core.Path.{_≡_, refl, sym, _∙_}
 use Prim.Native.Nat.{ℕ, _<_, _-_, _+_}
 use lib.ListN.{length}
 use Rattle.containment.specs.Filling.{Setting, From}
-use Rattle.containment.proofs.Rows.{Started, started, Walking, Part, place-small-at, begin, uncover, small, from-it, more, done, unfilled, fewer}
+use Rattle.containment.proofs.Rows.{Started, started, Walking, Part, place-small-at, begin, uncover, small, leading, from-it, more, done, unfilled, fewer}
 use borrow.Fn.Kinds.{In}
 use borrow.Fn.PlainCycle.{Measures, is, falls, and}
 use Rattle.containment.proofs.fill.Reads as fill
@@ -72,8 +72,8 @@ module _ (t : ℕ) where
   -- the row of h has its own bit alone
   begun :
       (c : Set) (s : Setting (entry c .args .places .now) (entry c .args .ends .now) (entry c .args .turned .now)) (l : entry c .args .h .0 < s .n)
-      → From s (entry c .args .rows .now) (entry c .args .h .0) → Started s (entry c .args .h .0) l (c .insert .last .0)
-  begun c s l F = started s (entry c .args .h .0) l (entry c .args .rows .now) (c .insert .last .0) F (sym (c .before .before .before .test .ensures) ∙ c .before .before .if1 .left) (c .insert .ensures)
+      → From s (entry c .args .rows .now) (entry c .args .h .0) → s .leader (s .number (entry c .args .h .0)) ≡ entry c .args .h .0 → Started s (entry c .args .h .0) l (c .insert .last .0)
+  begun c s l F d = started s (entry c .args .h .0) l (entry c .args .rows .now) (c .insert .last .0) F d (c .insert .ensures)
 
   -- its place is in the table of ends
   in-ends : (c : Placed) → c .place-of .result .0 < length (entry (c .before .before .before) .args .ends .now)
@@ -82,7 +82,7 @@ module _ (t : ℕ) where
   walk :
       (c : At)
       → Walking (setting (entry (set-at c))) (entry (set-at c) .args .h .0) (entry (set-at c) .pre .1 .1 .below) (set-at c .insert .last .0) (c .loop .rows) (c .before .end-at .result .0) (c .loop .q .0)
-  walk c = c .loop .inv .1 (setting (entry (set-at c))) (entry (set-at c) .pre .1 .1 .below) (begun (set-at c) _ _ (entry (set-at c) .pre .1 .1 .from))
+  walk c = c .loop .inv .1 (setting (entry (set-at c))) (entry (set-at c) .pre .1 .1 .below) (begun (set-at c) _ _ (entry (set-at c) .pre .1 .1 .from) (entry (set-at c) .pre .1 .1 .leads))
 
   abbrev loop-at : In-loop → At
   loop-at c = c .before .before .before
@@ -101,7 +101,7 @@ module _ (t : ℕ) where
   same-length c = refl
 
   returns : fill-lts.Need-returns (calls t) (fill-at t) fill.Post Inv μ
-  returns c = λ s F l. record { own = sym (c .before .test .ensures) ∙ c .if1 .taken; from = F; kept = λ r j a b. refl; grown = λ r d i. i }
+  returns c = λ s F l d. record { own = sym (c .before .test .ensures) ∙ c .if1 .taken; from = F; kept = λ r j a b. refl; grown = λ r b i. i }
 
   insert-requires : fill-lts.Need-insert-requires (calls t) (fill-at t) fill.Post Inv μ
   insert-requires c κs = let e = c .before .before .before .before .before .before .before .before in (e .pre .1 .0, in-rows e, in-rows e)
@@ -121,7 +121,7 @@ module _ (t : ℕ) where
       (d .insert .kept .0 ∙ entry d .pre .1 .0, λ s l S. begin s _ l _ _ _ (c .before .before .place-of .ensures) (c .end-at .ensures) S)
 
   piece-at-requires : fill-lts.Need-piece-at-requires (calls t) (fill-at t) fill.Post Inv μ
-  piece-at-requires c κs = part-at c .3 .in-pieces
+  piece-at-requires c κs = part-at c .3 .in-turned
 
   fill-requires : fill-lts.Need-fill-requires (calls t) (fill-at t) fill.Post Inv μ
   fill-requires c κs =
@@ -132,7 +132,7 @@ module _ (t : ℕ) where
       let b = o .if2 .taken in
       let is = c .before .piece-at .ensures in (
         omega (arith, fewer _ _ _ w (e .args .rows .now) (sym (set-at l .before .before .before .test .ensures) ∙ set-at l .before .before .if1 .left) (set-at l .insert .ensures), e .pre .0),
-        (l .loop .inv .0, record { setting = setting e; below = small _ _ _ w b is; from = from-it _ _ _ w b is }),
+        (l .loop .inv .0, record { setting = setting e; below = small _ _ _ w b is; leads = leading _ _ _ w b is; from = from-it _ _ _ w b is }),
       )
 
   union-within-requires : fill-lts.Need-union-within-requires (calls t) (fill-at t) fill.Post Inv μ
@@ -160,7 +160,7 @@ module _ (t : ℕ) where
         u .union-within .kept .0 ∙ f .fill .kept .1 .1 .1 .0 ∙ l .loop .inv .0,
         λ s k S.
             let w = l .loop .inv .1 s k S in
-            more s _ k w b is (f .fill .ensures s (from-it s _ k w b is) (small s _ k w b is)) (u .union-within .ensures) _ (c .end-at2 .ensures),
+            more s _ k w b is (f .fill .ensures s (from-it s _ k w b is) (small s _ k w b is) (leading s _ k w b is)) (u .union-within .ensures) _ (c .end-at2 .ensures),
       )
 
   same-length-2 : fill-lts.Need-same-length-2 (calls t) (fill-at t) fill.Post Inv μ
@@ -169,7 +169,7 @@ module _ (t : ℕ) where
   returns-2 : fill-lts.Need-returns-2 (calls t) (fill-at t) fill.Post Inv μ
   returns-2 c =
       let l = c .before .before .before in
-      λ s F k. done s _ k (l .loop .inv .1 s k (begun (set-at l) s k F)) _ (omega arith) (set-at l .insert .ensures)
+      λ s F k d. done s _ k (l .loop .inv .1 s k (begun (set-at l) s k F d)) _ (omega arith) (set-at l .insert .ensures)
 
 pub +fill-spec : {M : Type 1} → statement M
 +fill-spec =

@@ -1,10 +1,17 @@
 use borrow.Author.Needs.{needs}
-use mathlib.Core.Path.{_∙_}
+use mathlib.Core.Path.{refl, _∙_}
+use native.Mathlib.Omega.{arith}
 use Rattle.containment_run.proofs.session.Statement.{statement}
 use Rattle.containment_run.proofs.session.Tie as tie
 
 session-pairs-requires : tie.Need-session-pairs-requires
 session-pairs-requires c κs = search needs
+
+slice-aggregate-fold : tie.Need-slice-aggregate-fold
+slice-aggregate-fold c = search needs
+
+fold-requires : tie.Need-fold-requires
+fold-requires c κs = search needs
 
 slice-aggregate-index : tie.Need-slice-aggregate-index
 slice-aggregate-index c = search needs
@@ -18,8 +25,11 @@ slice-aggregate-index-3 c = search needs
 slice-aggregate-index-4 : tie.Need-slice-aggregate-index-4
 slice-aggregate-index-4 c = search needs
 
+slice-aggregate-index-5 : tie.Need-slice-aggregate-index-5
+slice-aggregate-index-5 c = search needs
+
 index-requires : tie.Need-index-requires
-index-requires c κs = search needs
+index-requires c κs = (c .before .before .before .before .before .before .before .before .before .before .before .session-pairs .ensures, refl, refl, refl, refl, omega arith, omega arith, c .before .before .before .before .before .before .before .fold .kept .1 .1 .0, c .before .before .before .before .before .before .before .fold .ensures)
 
 slice-aggregate-contents : tie.Need-slice-aggregate-contents
 slice-aggregate-contents c = search needs
@@ -32,6 +42,9 @@ slice-aggregate-contents-3 c = search needs
 
 slice-aggregate-contents-4 : tie.Need-slice-aggregate-contents-4
 slice-aggregate-contents-4 c = search needs
+
+slice-aggregate-contents-5 : tie.Need-slice-aggregate-contents-5
+slice-aggregate-contents-5 c = search needs
 
 contents-requires : tie.Need-contents-requires
 contents-requires c κs = search needs
@@ -58,7 +71,7 @@ print-rows-requires : tie.Need-print-rows-requires
 print-rows-requires c κs = search needs
 
 same-length : tie.Need-same-length
-same-length c = c .before .before .before .before .before .before .before .before .before .before .before .before .before .before .before .before .before .before .before .before .before .before .before .before .before .before .index .kept .1 .1 .0 ∙ c .before .before .before .before .before .before .before .before .before .before .before .before .before .before .before .before .before .before .before .before .before .before .before .before .before .before .before .before .before .before .before .before .before .before .session-pairs .kept .0
+same-length c = c .before .before .before .before .before .before .before .before .before .before .before .before .before .before .before .before .before .before .before .before .before .before .before .before .before .before .before .index .kept .1 .1 .1 .0 ∙ c .before .before .before .before .before .before .before .before .before .before .before .before .before .before .before .before .before .before .before .before .before .before .before .before .before .before .before .before .before .before .before .before .before .before .before .before .before .before .before .session-pairs .kept .0
 
 same-length-2 : tie.Need-same-length-2
 same-length-2 c = search needs
@@ -71,15 +84,19 @@ session-spec =
     tie.close
     (tie.spec
     session-pairs-requires
+    slice-aggregate-fold
+    fold-requires
     slice-aggregate-index
     slice-aggregate-index-2
     slice-aggregate-index-3
     slice-aggregate-index-4
+    slice-aggregate-index-5
     index-requires
     slice-aggregate-contents
     slice-aggregate-contents-2
     slice-aggregate-contents-3
     slice-aggregate-contents-4
+    slice-aggregate-contents-5
     contents-requires
     slice-aggregate-write-all
     write-all-requires

@@ -1,8 +1,8 @@
 -- `records::check_form` meets its contract: each way out is one of the rows, whose tests the branches are. Assumes nothing.
-use mathlib.Core.Path.{sym, _∙_}
+use mathlib.Core.Path.{refl, sym, _∙_}
 use native.Mathlib.Omega.{arith}
 use borrow.Author.Tests.{not-true, not-false}
-use Rattle.records.proofs.Rows.{no-kind, unknown, too-large, marks-one, not-part, ordered, disordered}
+use Rattle.records.proofs.Rows.{no-kind, unknown, too-large, marks-one, in-order, any-order}
 use borrow.Author.Needs.{needs}
 use Rattle.records.proofs.check_form.Statement.{statement}
 use Rattle.records.proofs.check_form.Tie as tie
@@ -30,14 +30,20 @@ returns-4 c =
     c .check-mark .ensures
     ∙ sym (marks-one _ _ (sym (c .before .before .before .before .before .before .before .before .admits .ensures) ∙ not-false _ (c .before .before .before .before .before .before .before .if1 .left)) (omega arith) (omega arith) (omega arith))
 
+enum-told : tie.Need-enum-told
+enum-told c = search needs
+
+enum-told-2 : tie.Need-enum-told-2
+enum-told-2 c = search needs
+
+check-order-requires : tie.Need-check-order-requires
+check-order-requires c κs = search needs
+
 returns-5 : tie.Need-returns-5
-returns-5 c = sym (not-part _ _ (sym (c .before .before .before .before .before .before .before .before .before .admits .ensures) ∙ not-false _ (c .before .before .before .before .before .before .before .before .if1 .left)) (omega arith) (omega arith) (λ e. omega arith) (λ e. omega arith))
+returns-5 c = c .check-order .ensures ∙ sym (in-order _ _ (sym (c .before .before .before .before .before .before .before .before .before .before .admits .ensures) ∙ not-false _ (c .before .before .before .before .before .before .before .before .before .if1 .left)) (omega arith) (omega arith) refl (c .before .enum-told .given .1) (λ e. omega arith))
 
 returns-6 : tie.Need-returns-6
-returns-6 c = sym (ordered _ _ (sym (c .before .before .before .before .before .before .before .before .before .before .before .admits .ensures) ∙ not-false _ (c .before .before .before .before .before .before .before .before .before .before .if1 .left)) (omega arith) (omega arith) (λ e. omega arith) (omega arith) (omega arith))
-
-returns-7 : tie.Need-returns-7
-returns-7 c = sym (disordered _ _ (sym (c .before .before .before .before .before .before .before .before .before .before .before .admits .ensures) ∙ not-false _ (c .before .before .before .before .before .before .before .before .before .before .if1 .left)) (omega arith) (omega arith) (λ e. omega arith) (omega arith) (omega arith))
+returns-6 c = sym (any-order _ _ (sym (c .before .before .before .before .before .before .before .before .before .admits .ensures) ∙ not-false _ (c .before .before .before .before .before .before .before .before .if1 .left)) (omega arith) (omega arith) refl (c .enum-told2 .given .1) (λ e. omega arith))
 
 pub check-form-spec : {M : Type 1} → statement M
 check-form-spec =
@@ -50,6 +56,8 @@ check-form-spec =
     returns-3
     check-mark-requires
     returns-4
+    enum-told
+    check-order-requires
+    enum-told-2
     returns-5
-    returns-6
-    returns-7)
+    returns-6)

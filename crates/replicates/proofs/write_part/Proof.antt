@@ -17,32 +17,32 @@ slice-aggregate-apart-rows c = search needs
 
 apart-rows-requires : tie.Need-apart-rows-requires
 apart-rows-requires c κs =
-    let P = c .before .before .before .before .before .before .before .before .before .pre in
+    let P = c .before .before .before .before .before .before .before .before .before .before .before .pre in
     let S = settleable _ _ (P .sound) in
-    (S .bounded, P .void .0, S .ordered, P .steps, P .parts, P .scratch, search needs, sym (P .free))
+    (S .bounded, P .void .0, P .steps, P .parts, P .scratch, search needs, sym (P .free))
 
 slice-aggregate-put-window : tie.Need-slice-aggregate-put-window
 slice-aggregate-put-window c = search needs
 
 put-window-requires : tie.Need-put-window-requires
-put-window-requires c κs = (c .before .before .before .before .before .before .before .before .before .before .before .before .before .before .pre .fits .short, search needs)
+put-window-requires c κs = (c .before .before .before .before .before .before .before .before .before .before .before .before .before .before .before .before .pre .fits .short, search needs)
 
 slice-aggregate-put-entries : tie.Need-slice-aggregate-put-entries
 slice-aggregate-put-entries c = search needs
 
 put-entries-requires : tie.Need-put-entries-requires
-put-entries-requires c κs = let P = c .before .before .before .before .before .before .before .before .before .before .before .before .before .before .before .before .before .pre in (omega (arith, P .fits .few, P .fits .short, c .before .before .put-window .kept .1 .0), P .fits .short)
+put-entries-requires c κs = let P = c .before .before .before .before .before .before .before .before .before .before .before .before .before .before .before .before .before .before .before .pre in (omega (arith, P .fits .few, P .fits .short, c .before .before .put-window .kept .1 .0), P .fits .short)
 
 add-end : tie.Need-add-end
-add-end c = let P = c .before .before .before .before .before .before .before .before .before .before .before .before .before .before .before .before .before .before .before .pre in omega (arith, P .fits .few, P .fits .short)
+add-end c = let P = c .before .before .before .before .before .before .before .before .before .before .before .before .before .before .before .before .before .before .before .before .before .pre in omega (arith, P .fits .few, P .fits .short)
 
 array-share-prefix-xs : tie.Need-array-share-prefix-xs
-array-share-prefix-xs c = let P = c .before .before .before .before .before .before .before .before .before .before .before .before .before .before .before .before .before .before .before .pre in omega (arith, P .fits .few, P .fits .short)
+array-share-prefix-xs c = let P = c .before .before .before .before .before .before .before .before .before .before .before .before .before .before .before .before .before .before .before .before .before .pre in omega (arith, P .fits .few, P .fits .short)
 
 slice-aggregate-seq : tie.Need-slice-aggregate-seq
 slice-aggregate-seq c =
-    let P = c .before .before .before .before .before .before .before .before .before .before .before .before .before .before .before .before .before .before .before .before .pre in
-    let A = c .before .before .before .before .before .before .before .before .before .before .before .before .before .before .before .before .before .before .before .before .args in
+    let P = c .before .before .before .before .before .before .before .before .before .before .before .before .before .before .before .before .before .before .before .before .before .before .pre in
+    let A = c .before .before .before .before .before .before .before .before .before .before .before .before .before .before .before .before .before .before .before .before .before .before .args in
     let xs = c .before .before .put-entries .last .1 .1 .0 in
     let long : length xs ≡ 32799 = search needs in
     sym (length-take-le (A .window .count + entryCount (A .log .now)) xs (omega (arith, long, P .fits .few, P .fits .short)))
@@ -52,8 +52,8 @@ slice-aggregate-write-bytes c = search needs
 
 write-bytes-requires : tie.Need-write-bytes-requires
 write-bytes-requires c κs =
-    let P = c .before .before .before .before .before .before .before .before .before .before .before .before .before .before .before .before .before .before .before .before .before .before .pre in
-    let A = c .before .before .before .before .before .before .before .before .before .before .before .before .before .before .before .before .before .before .before .before .before .before .args in
+    let P = c .before .before .before .before .before .before .before .before .before .before .before .before .before .before .before .before .before .before .before .before .before .before .before .before .pre in
+    let A = c .before .before .before .before .before .before .before .before .before .before .before .before .before .before .before .before .before .before .before .before .before .before .before .before .args in
     let xs = c .before .before .before .before .put-entries .last .1 .1 .0 in
     let long : length xs ≡ 32799 = search needs in
     let few : A .window .count ≤ length (A .window .pieces) = omega (arith, c .before .before .before .before .before .before .before .put-window .ensures .all, P .fits .short) in
@@ -73,8 +73,8 @@ same-length-2 c = search needs
 
 returns : tie.Need-returns
 returns c =
-    let P = c .before .before .before .before .before .before .before .before .before .before .before .before .before .before .before .before .before .before .before .before .before .before .before .before .before .before .pre in
-    let A = c .before .before .before .before .before .before .before .before .before .before .before .before .before .before .before .before .before .before .before .before .before .before .before .before .before .before .args in
+    let P = c .before .before .before .before .before .before .before .before .before .before .before .before .before .before .before .before .before .before .before .before .before .before .before .before .before .before .before .before .pre in
+    let A = c .before .before .before .before .before .before .before .before .before .before .before .before .before .before .before .before .before .before .before .before .before .before .before .before .before .before .before .before .args in
     let xs = c .before .before .before .before .before .before .before .before .put-entries .last .1 .1 .0 in
     let long : length xs ≡ 32799 = search needs in
     let few : A .window .count ≤ length (A .window .pieces) = omega (arith, c .before .before .before .before .before .before .before .before .before .before .before .put-window .ensures .all, P .fits .short) in

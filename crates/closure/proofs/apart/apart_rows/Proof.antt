@@ -1,5 +1,4 @@
 -- `closure::apart::apart_rows` meets its contract: rows joined against the steps are a product with U. Assumes nothing.
-use Rattle.closure.proofs.Steps.{edges-rise, wholes-reached}
 use Rattle.closure.proofs.Aparts.{apart-holds}
 use lib.ListN.{length}
 use borrow.Author.Needs.{needs}
@@ -16,7 +15,7 @@ product-requires : tie.Need-product-requires
 product-requires c κs = search needs
 
 join-wholes-requires : tie.Need-join-wholes-requires
-join-wholes-requires c κs = (search needs, search needs, search needs, edges-rise _ _ (c .before .before .before .before .before .before .before .before .before .before .before .before .before .before .before .before .before .before .before .before .pre .0) _ (c .before .before .before .before .before .before .before .before .before .before .before .before .before .before .before .before .before .before .before .before .pre .3) (c .before .before .before .before .before .before .before .before .before .before .before .before .before .before .before .before .before .before .before .before .pre .2))
+join-wholes-requires c κs = search needs
 
 same-length : tie.Need-same-length
 same-length c = search needs
@@ -26,9 +25,9 @@ same-length-2 c = search needs
 
 returns : tie.Need-returns
 returns c =
-    let P = c .before .before .before .before .before .before .before .before .before .before .before .before .before .before .before .before .before .before .before .before .before .before .before .pre in
-    apart-holds _ _ _ (P .0) (P .1 .whole) (P .7) (length (c .before .before .before .before .before .before .before .before .before .before .before .before .before .before .before .before .before .before .before .before .before .before .before .args .a .now)) (c .before .before .before .before .before .before .before .before .before .before .before .before .before .before .before .apart-told .ensures) (P .4) (c .before .before .before .before .before .before .before .before .before .before .before .clear .ensures) (c .before .before .before .before .before .before .product .ensures)
-    (c .before .before .join-wholes .ensures _ (wholes-reached _ _ (P .0) _ (P .3))) (search needs)
+    let P = c .before .before .before .before .before .before .before .before .before .before .before .before .before .before .before .before .before .before .before .before .before .before .before .before .before .pre in
+    apart-holds _ _ _ (P .0) (P .1 .whole) (P .6) (length (c .before .before .before .before .before .before .before .before .before .before .before .before .before .before .before .before .before .before .before .before .before .before .before .before .before .args .a .now)) (c .before .before .before .before .before .before .before .before .before .before .before .before .before .before .before .apart-told .ensures) (P .3) (c .before .before .before .before .before .before .before .before .before .before .before .clear .ensures) (c .before .before .before .before .before .before .product .ensures)
+    (c .before .before .join-wholes .ensures _ (P .0) (P .2)) (search needs)
 
 pub apart-rows-spec : {M : Type 1} → statement M
 apart-rows-spec =

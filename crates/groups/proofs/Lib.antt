@@ -1,0 +1,13 @@
+pub mod Lying
+pub mod Grouping
+pub mod Levels
+pub mod Numbered
+pub mod Quotient
+pub mod Lower
+pub mod Examples
+mod Certificate
+mod Paths
+mod Steps
+mod Ranking
+mod Arranging
+mod Making

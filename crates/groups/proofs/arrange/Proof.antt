@@ -1,0 +1,144 @@
+-- `groups::arrange` meets its contract. Assumes nothing.
+use mathlib.Core.Path.{_≡_, _∙_}
+use Prim.Native.Nat.{_+_, _-_, _<_, _≤_}
+use native.Mathlib.Omega.{arith}
+use lib.ListN.{length, getD, length-set}
+use borrow.Author.Needs.{needs}
+use Rattle.groups.proofs.Arranging.{Arranging, arrange-none, arrange-leader, arrange-follower, arrange-all, leader-place}
+use Rattle.groups.proofs.arrange.Statement.{statement}
+use Rattle.groups.proofs.arrange.Tie as tie
+
+abbrev Inv-loop : tie.InvT-loop
+Inv-loop n m done lead order₀ from j₀ g₀ order j g =
+    ((n ≤ 2048) × (g ≤ n) × (j ≤ g) × (length order ≡ 2048)) × Arranging n m done lead order j g
+
+abbrev μ-loop : tie.MeasureT-loop
+μ-loop n m done lead order₀ from j₀ g₀ order j g = n - g
+
+-- the place of a leader
+place : (c : tie.After-wide2 Inv-loop μ-loop) → (c .before .before .before .before .before .before .before .before .before .before .before .args .n - c .before .before .before .before .before .before .before .before .before .before .before .args .m + c .wide2 .result < c .before .before .before .before .before .before .before .before .before .before .before .args .n) × (getD (c .before .before .before .before .before .before .before .before .before .before .before .args .lead .now) (c .before .before .before .before .before .before .before .loop .g) 0 ≡ c .before .before .before .before .before .before .before .loop .g)
+place c =
+    let s = c .before .before .before .before .before .before .before .before .before .before .before in
+    let g = c .before .before .before .before .before .before .before .loop .g in
+    let e : getD (s .args .lead .now) g 0 ≡ g = omega (arith, c .before .before .before .before .wide .ensures, c .before .before .before .if1 .taken) in
+    (omega (arith, c .wide2 .ensures, leader-place (s .args .n) (s .args .m) (s .args .done .now) (s .args .lead .now) _ (s .pre) g (c .before .before .before .before .before .before .loop-test .taken) e), e)
+
+sub-from : tie.Need-sub-from Inv-loop μ-loop
+sub-from c = search needs
+
+loop-holds : tie.Need-loop-holds Inv-loop μ-loop
+loop-holds c =
+    let s = c .before .before .before in
+    ((s .pre .few, omega arith, omega arith, s .pre .sized), arrange-none (s .args .n) (s .args .m) (s .args .done .now) (s .args .lead .now) (s .args .order .now))
+
+mul-wide : tie.Need-mul-wide Inv-loop μ-loop
+mul-wide c = search needs
+
+shared-slice-read-wide : tie.Need-shared-slice-read-wide Inv-loop μ-loop
+shared-slice-read-wide c = search needs
+
+wide-requires : tie.Need-wide-requires Inv-loop μ-loop
+wide-requires c κs = search needs
+
+narrow-requires : tie.Need-narrow-requires Inv-loop μ-loop
+narrow-requires c κs = search needs
+
+mul-wide-2 : tie.Need-mul-wide-2 Inv-loop μ-loop
+mul-wide-2 c = search needs
+
+shared-slice-read-wide-2 : tie.Need-shared-slice-read-wide-2 Inv-loop μ-loop
+shared-slice-read-wide-2 c = search needs
+
+wide-requires-2 : tie.Need-wide-requires-2 Inv-loop μ-loop
+wide-requires-2 c κs = search needs
+
+add-order : tie.Need-add-order Inv-loop μ-loop
+add-order c = omega (arith, place c, c .before .before .before .before .before .before .before .loop .inv .0)
+
+mul-order : tie.Need-mul-order Inv-loop μ-loop
+mul-order c = omega (arith, place c, c .before .before .before .before .before .before .before .loop .inv .0)
+
+slice-write-order : tie.Need-slice-write-order Inv-loop μ-loop
+slice-write-order c = omega (arith, place c, c .before .before .before .before .before .before .before .loop .inv .0)
+
+add-g : tie.Need-add-g Inv-loop μ-loop
+add-g c = search needs
+
+loop-less : tie.Need-loop-less Inv-loop μ-loop
+loop-less c = search needs
+
+loop-again : tie.Need-loop-again Inv-loop μ-loop
+loop-again c =
+    let o = c .before .before .before .before .before .before .before .loop in
+    let s = c .before .before .before .before .before .before .before .before .before .before .before in (
+      (s .pre .few, omega arith, omega arith, length-set (o .order) (s .args .n - s .args .m + c .wide2 .result) (c .before .before .narrow .result) ∙ o .inv .0 .3),
+      rw (c .before .before .narrow .ensures, c .wide2 .ensures)
+          (arrange-leader (s .args .n) (s .args .m) (s .args .done .now) (s .args .lead .now) _ (s .pre) (o .order) (o .j) (o .g) (o .inv .1) (c .before .before .before .before .before .before .loop-test .taken) (omega (arith, o .inv .0)) (place c .1)),
+    )
+
+narrow-requires-2 : tie.Need-narrow-requires-2 Inv-loop μ-loop
+narrow-requires-2 c κs = search needs
+
+mul-order-2 : tie.Need-mul-order-2 Inv-loop μ-loop
+mul-order-2 c = search needs
+
+slice-write-order-2 : tie.Need-slice-write-order-2 Inv-loop μ-loop
+slice-write-order-2 c = search needs
+
+add-j : tie.Need-add-j Inv-loop μ-loop
+add-j c = search needs
+
+add-g-2 : tie.Need-add-g-2 Inv-loop μ-loop
+add-g-2 c = search needs
+
+loop-less-2 : tie.Need-loop-less-2 Inv-loop μ-loop
+loop-less-2 c = search needs
+
+loop-again-2 : tie.Need-loop-again-2 Inv-loop μ-loop
+loop-again-2 c =
+    let o = c .before .before .before .before .before .loop in
+    let s = c .before .before .before .before .before .before .before .before .before in (
+      (s .pre .few, omega arith, omega arith, length-set (o .order) (o .j) (c .narrow2 .result) ∙ o .inv .0 .3),
+      rw (c .narrow2 .ensures)
+          (arrange-follower (s .args .n) (s .args .m) (s .args .done .now) (s .args .lead .now) _ (s .pre) (o .order) (o .j) (o .g) (o .inv .1) (c .before .before .before .before .loop-test .taken) (omega (arith, o .inv .0)) (λ e. c .before .if1 .left (c .before .before .wide .ensures ∙ e))),
+    )
+
+same-length : tie.Need-same-length Inv-loop μ-loop
+same-length c = search needs
+
+returns : tie.Need-returns Inv-loop μ-loop
+returns c =
+    let s = c .before .before .before .before .before in
+    let o = c .before .loop in
+    arrange-all (s .args .n) (s .args .m) (s .args .done .now) (s .args .lead .now) (o .order) (o .j) (o .g) (omega arith) (o .inv .1)
+
+pub arrange-spec : {M : Type 1} → statement M
+arrange-spec =
+    tie.close
+    (tie.spec
+    Inv-loop
+    μ-loop
+    sub-from
+    loop-holds
+    mul-wide
+    shared-slice-read-wide
+    wide-requires
+    narrow-requires
+    mul-wide-2
+    shared-slice-read-wide-2
+    wide-requires-2
+    add-order
+    mul-order
+    slice-write-order
+    add-g
+    loop-less
+    loop-again
+    narrow-requires-2
+    mul-order-2
+    slice-write-order-2
+    add-j
+    add-g-2
+    loop-less-2
+    loop-again-2
+    same-length
+    returns)
