@@ -64,13 +64,12 @@ module _ (s : List ℕ) {n : ℕ} (sound : Counted s n) where
 
       -- settling them finds no contradiction
       pub sheets-opened :
-          {parens marks shadows places d t : List ℕ} (r : Settled) → Settles void n run parens marks shadows places d t r
-          → (nodes : ℕ) × (shadowed : ℕ) × Opened void n (facts run) parens marks shadows places nodes shadowed d t false
-      sheets-opened (Free a b) S = (a, b, S .free a b refl)
+          {d t : List ℕ} (r : Settled) → Settles void n run d t r → Opened void n (facts run) d t false
+      sheets-opened (Free a b) S = S .free a b refl
       sheets-opened (Clash k) S = absurd (false≢true (sheets-free ∙ sym (S .clash k refl .is)))
 
       pub sheets-stepped :
-          {parens marks shadows places d t e order lead : List ℕ} (r : Settled) → Settles void n run parens marks shadows places d t r → Steps n run e order lead r
+          {d t e order lead : List ℕ} (r : Settled) → Settles void n run d t r → Steps n run e order lead r
           → Stepped n (facts run) e order lead
       sheets-stepped (Free a b) S W = W .free a b refl
       sheets-stepped (Clash k) S W = absurd (false≢true (sheets-free ∙ sym (S .clash k refl .is)))

@@ -20,18 +20,13 @@ use Rattle.closure.specs.Closed.{Holds, Closed, partBit, towardBit}
 use Rattle.answering.specs.Claimed.{claimed}
 use Rattle.answering.specs.Counted.{MarksOf, Counted}
 
--- marks, five matrices, claims on n pieces, and room for their answers
-pub record Closing (cs voids d u p t q : List ℕ) (room : ℕ) : Type 0 where
+-- marks, claims on n pieces, and room for their answers
+pub record Closing (cs voids : List ℕ) (room : ℕ) : Type 0 where
   pub n : ℕ
   pub small : n ≤ 2048
   pub fit : claimsCheck n cs ≡ claims.Accepted
   pub rooms : room ≡ records cs
   pub voids-sized : length voids ≡ 32
-  pub d-sized : length d ≡ 65536
-  pub u-sized : length u ≡ 65536
-  pub p-sized : length p ≡ 65536
-  pub t-sized : length t ≡ 65536
-  pub q-sized : length q ≡ 65536
 
 -- the claims of one origin are answered from these facts and marks, and the other answers are as they were
 pub record AnsweredFrom (void : ℕ → Bool) (origin n : ℕ) (fs : List Fact) (cs before answers : List ℕ) : Type 0 where
@@ -47,21 +42,13 @@ pub record Answers (void : ℕ → Bool) (origin : ℕ) (cs d u p t q before ans
 unfoldable pub restricted : List ℕ → Bool
 restricted cs = anyBelow (λ i. ltb 0 (recordAt cs i .origin)) (records cs)
 
--- a book that is not contradictory, its marks, claims, six matrices with two lists, and room for the answers
-pub record Restrictable (s : List ℕ) (n : ℕ) (voids cs e order lead d t u p q : List ℕ) (room : ℕ) : Type 0 where
+-- a book that is not contradictory, its marks, claims, and room for the answers
+pub record Restrictable (s : List ℕ) (n : ℕ) (voids cs : List ℕ) (room : ℕ) : Type 0 where
   pub sound : Counted s n
   pub void : Voids voids
   pub free : false ≡ clash (voidOf voids) n (facts s)
   pub fit : claimsCheck n cs ≡ claims.Accepted
   pub rooms : room ≡ records cs
-  pub e-sized : length e ≡ 65536
-  pub order-sized : length order ≡ 2048
-  pub lead-sized : length lead ≡ 2048
-  pub d-sized : length d ≡ 65536
-  pub t-sized : length t ≡ 65536
-  pub u-sized : length u ≡ 65536
-  pub p-sized : length p ≡ 65536
-  pub q-sized : length q ≡ 65536
 
 -- a book that is not contradictory, claims that pass the rows before 14, the book's marks, steps, D and T
 pub record Answerable (s : List ℕ) (n : ℕ) (voids cs e order lead d t : List ℕ) (room : ℕ) : Type 0 where
@@ -71,7 +58,5 @@ pub record Answerable (s : List ℕ) (n : ℕ) (voids cs e order lead d t : List
   pub fit : claimsCheck n cs ≡ claims.Accepted
   pub rooms : room ≡ records cs
   pub stepped : Stepped n (facts s) e order lead
-  pub order-sized : length order ≡ 2048
-  pub lead-sized : length lead ≡ 2048
   pub parts : Holds d (partBit n (facts s))
   pub toward : Holds t (towardBit (voidOf voids) n (facts s))

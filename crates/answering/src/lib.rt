@@ -25,14 +25,14 @@ fn answer_each(
     origin: u8,
     claims: &[u8],
     voids: &[u64],
-    d: &[u64],
-    u: &[u64],
-    p: &[u64],
-    t: &[u64],
-    q: &[u64],
+    d: &[u64; 65536],
+    u: &[u64; 65536],
+    p: &[u64; 65536],
+    t: &[u64; 65536],
+    q: &[u64; 65536],
     answers: &mut [u8],
 )
-    requires { ⌜ Closing (now claims) (now voids) (now d) (now u) (now p) (now t) (now q) (length (now answers)) ⌝ }
+    requires { ⌜ Closing (now claims) (now voids) (length (now answers)) ⌝ }
     ensures { λ _. ⌜ Answers (voidOf (now (voids .entry))) origin (now (claims .entry)) (now (d .entry)) (now (u .entry)) (now (p .entry)) (now (t .entry)) (now (q .entry)) (now (answers .entry)) (now (answers .exit)) ⌝ }
 {
     let n = claims.len() / 6;
@@ -71,40 +71,23 @@ fn answer_restricted(
     n: usize,
     voids: &[u64],
     claims: &[u8],
-    e: &mut [u64],
-    order: &mut [u16],
-    lead: &mut [u16],
-    d: &mut [u64],
-    t: &mut [u64],
-    u: &mut [u64],
-    p: &mut [u64],
-    q: &mut [u64],
+    e: &mut [u64; 65536],
+    order: &mut [u16; 2048],
+    lead: &mut [u16; 2048],
+    d: &mut [u64; 65536],
+    t: &mut [u64; 65536],
+    u: &mut [u64; 65536],
+    p: &mut [u64; 65536],
+    q: &mut [u64; 65536],
     answers: &mut [u8],
 )
-    requires { ⌜ Restrictable (now book) n (now voids) (now claims) (now e) (now order) (now lead) (now d) (now t) (now u) (now p) (now q) (length (now answers)) ⌝ }
+    requires { ⌜ Restrictable (now book) n (now voids) (now claims) (length (now answers)) ⌝ }
     ensures { λ _. ⌜ AnsweredFrom (voidOf (now (voids .entry))) 1 n (facts (sheets (now (book .entry)))) (now (claims .entry)) (now (answers .entry)) (now (answers .exit)) ⌝ }
 {
     let mut kept = [0u8; 49152];
-    let mut parens = [0u8; 2560];
-    let mut marks = [0u8; 1280];
-    let mut shadows = [0u16; 8192];
-    let mut places = [0u16; 2048];
     let length = records::keep_sheets(book, &mut kept);
     let run = &kept[..length];
-    settling::settle_stepped(
-        run,
-        n,
-        voids,
-        e,
-        order,
-        lead,
-        d,
-        t,
-        &mut parens,
-        &mut marks,
-        &mut shadows,
-        &mut places,
-    );
+    settling::settle_alone(run, n, voids, e, order, lead, d, t);
     closure::complete(run, n, voids, e, order, lead, u, p, q);
     answer_each(1, claims, voids, d, u, p, t, q, answers);
 }
@@ -115,11 +98,11 @@ pub fn answer_all(
     n: usize,
     voids: &[u64],
     claims: &[u8],
-    e: &mut [u64],
-    order: &mut [u16],
-    lead: &mut [u16],
-    d: &mut [u64],
-    t: &mut [u64],
+    e: &mut [u64; 65536],
+    order: &mut [u16; 2048],
+    lead: &mut [u16; 2048],
+    d: &mut [u64; 65536],
+    t: &mut [u64; 65536],
     answers: &mut [u8],
 )
     requires { ⌜ Answerable (now book) n (now voids) (now claims) (now e) (now order) (now lead) (now d) (now t) (length (now answers)) ⌝ }

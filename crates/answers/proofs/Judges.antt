@@ -13,7 +13,7 @@ use Rattle.records.specs.Record.{records}
 use Rattle.records.specs.Facts.{entries, facts}
 use Rattle.records.specs.Marked.{marked}
 use Rattle.records.specs.declared.Refusal.the-variants.{Contradiction}
-use Rattle.groups.specs.Index.{bookParens, bookVisits, bookPlaces}
+use Rattle.groups.specs.Index.{bookParens, bookVisits, bookPlaces, BookIndex}
 use Rattle.parentheses.specs.Padded.{padded}
 use Rattle.index.specs.Parts as on
 use Rattle.settling.specs.Opened.{Opened}
@@ -71,11 +71,10 @@ module _ (s : List ℕ) (n : ℕ) (cs : List ℕ) (l : Lent) (X : Exact s n cs l
   pub judged-accepted :
       (nodes shadowed : ℕ) (parens marks shadows places answers d t : List ℕ)
       → length parens ≡ 2560 → length marks ≡ 1280 → length shadows ≡ 8192 → length places ≡ 2048
-      → Opened (marked s) n (facts s) parens marks shadows places nodes shadowed d t false → answers ≡ answersTo s n cs
+      → Opened (marked s) n (facts s) d t false → BookIndex n (pairsOf s) parens marks shadows places nodes shadowed → answers ≡ answersTo s n cs
       → Judged s n cs l (Accepted n nodes shadowed) (lent parens marks shadows places answers)
   unfolding left indexed
-  judged-accepted nodes shadowed parens marks shadows places answers d t lp lm ls la O a =
-      let I = O .index in
+  judged-accepted nodes shadowed parens marks shadows places answers d t lp lm ls la O I a =
       let sh : shadows ≡ padded 0 8192 (on.shadowList (bookVisits n (pairsOf s))) = I .shadows-are ∙ ap (λ (k : ℕ). padded 0 k (on.shadowList (bookVisits n (pairsOf s)))) ls in
       let pl : places ≡ padded 0 2048 (bookPlaces n (pairsOf s)) = I .places-are ∙ ap (λ (k : ℕ). padded 0 k (bookPlaces n (pairsOf s))) la in
       let fs : length (padded 0 8192 (on.shadowList (bookVisits n (pairsOf s)))) ≡ 8192 = sym (ap length sh) ∙ ls in

@@ -38,23 +38,23 @@ pub fn judge_in(
     book: &[u8],
     n: usize,
     claims: &[u8],
-    e: &mut [u64],
-    d: &mut [u64],
-    t: &mut [u64],
+    e: &mut [u64; 65536],
+    d: &mut [u64; 65536],
+    t: &mut [u64; 65536],
     parens: &mut [u8],
     marks: &mut [u8],
     shadows: &mut [u16],
     places: &mut [u16],
     answers: &mut [u8],
 ) -> Outcome
-    requires { ⌜ Exact (now book) n (now claims) (lent (now parens) (now marks) (now shadows) (now places) (now answers)) × (length (now e) ≡ 65536) × (length (now d) ≡ 65536) × (length (now t) ≡ 65536) ⌝ }
+    requires { ⌜ Exact (now book) n (now claims) (lent (now parens) (now marks) (now shadows) (now places) (now answers)) ⌝ }
     ensures { λ r. ⌜ Judged (now (book .entry)) n (now (claims .entry)) (lent (now (parens .entry)) (now (marks .entry)) (now (shadows .entry)) (now (places .entry)) (now (answers .entry))) r (lent (now (parens .exit)) (now (marks .exit)) (now (shadows .exit)) (now (places .exit)) (now (answers .exit))) ⌝ }
 {
     let mut voids = [0u64; 32];
     closure::marking::mark_voids(book, &mut voids);
     let mut order = [0u16; 2048];
     let mut lead = [0u16; 2048];
-    let settled = settling::settle_stepped(
+    let settled = settling::settle(
         book,
         n,
         &voids,

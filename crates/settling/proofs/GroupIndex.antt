@@ -174,5 +174,5 @@ module _ (n : ℕ) (fs : List Fact) (B : Bounded n fs) where
           matrix = M .sized;
           book = rw (edges-same, N .counted) book;
           room = rw (edges-same, N .counted) (room b mb sc own (record { few = R .few; parens = R .parens; marks = R .marks; shadows = R .shadows; places = omega (arith, B .fits) }));
-          few = rw (edges-same, N .counted) (omega (arith, nodes, R .few));
+          few = rw (edges-same, N .counted) (omega (arith, nodes, R .few, B .fits));
         }

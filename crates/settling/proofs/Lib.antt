@@ -2,5 +2,4 @@ pub mod Parts
 pub mod Halving
 pub mod FactIndex
 pub mod GroupIndex
-pub mod Loads
 pub mod Settling

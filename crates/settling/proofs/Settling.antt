@@ -22,11 +22,11 @@ use Rattle.records.specs.Facts.{entries, facts}
 use Rattle.records.specs.declared.BookCheck.the-variants as book
 use Rattle.records.proofs.Accepted.{accepted, accepted-within, accepted-positive, accepted-pieces}
 use Rattle.groups.specs.Groups.{groups}
-use Rattle.groups.specs.Index.{edges}
+use Rattle.groups.specs.Index.{edges, BookIndex}
 use Rattle.settling.specs.PartIn.{partIn}
 use Rattle.index.specs.Index.{Room}
 use Rattle.settling.specs.Opened.{Opened}
-use Rattle.settling.specs.Settled.{Settleable, Clashed, Settles, Steps}
+use Rattle.settling.specs.Settled.{Settleable, Clashed, Settles, Steps, Indexes}
 use Rattle.settling.specs.declared.Settled.{Settled}
 use Rattle.closure.specs.Stepped.{Stepped}
 use Rattle.settling.specs.declared.Settled.the-variants.{Free, Clash}
@@ -50,19 +50,11 @@ pub whole-unmarked : (s : List ℕ) (n : ℕ) → bookCheck s ≡ book.Accepted 
 whole-unmarked s n e = accepted-whole-unmarked (accepted s n e)
 
 -- what settling gives back
-module _ {void : ℕ → Bool} {n : ℕ} {run parens marks shadows places d t : List ℕ} where
-  pub settles-free :
-      {nodes shadowed : ℕ} → Opened void n (facts run) parens marks shadows places nodes shadowed d t false → Settles void n run parens marks shadows places d t (Free nodes shadowed)
-  settles-free {nodes} {shadowed} O =
-      record {
-        free = λ a b q.
-            let x : nodes ≡ a = cc in
-            let y : shadowed ≡ b = cc in
-            rw (x, y) at O;
-        clash = λ p q. let z : _≡_ {A = ℕ} 0 1 = cc in absurd (omega arith);
-      }
+module _ {void : ℕ → Bool} {n : ℕ} {run d t : List ℕ} where
+  pub settles-free : {nodes shadowed : ℕ} → Opened void n (facts run) d t false → Settles void n run d t (Free nodes shadowed)
+  settles-free O = record { free = λ a b q. O; clash = λ p q. let z : _≡_ {A = ℕ} 0 1 = cc in absurd (omega arith) }
 
-  pub settles-clash : {place : ℕ} → Clashed void n run place → Settles void n run parens marks shadows places d t (Clash place)
+  pub settles-clash : {place : ℕ} → Clashed void n run place → Settles void n run d t (Clash place)
   settles-clash {place} C =
       record {
         free = λ a b q. let z : _≡_ {A = ℕ} 0 1 = cc in absurd (omega arith);
@@ -74,6 +66,19 @@ steps-free r W = record { free = λ a b q. W }
 
 pub steps-clash : {n place : ℕ} {run e order lead : List ℕ} → Steps n run e order lead (Clash place)
 steps-clash = record { free = λ a b q. let z : _≡_ {A = ℕ} 0 1 = cc in absurd (omega arith) }
+
+module _ {n : ℕ} {run parens marks shadows places : List ℕ} where
+  pub indexes-free : {nodes shadowed : ℕ} → BookIndex n (partIn (facts run)) parens marks shadows places nodes shadowed → Indexes n run parens marks shadows places (Free nodes shadowed)
+  indexes-free {nodes} {shadowed} I =
+      record {
+        free = λ a b q.
+            let x : nodes ≡ a = cc in
+            let y : shadowed ≡ b = cc in
+            rw (x, y) at I;
+      }
+
+  pub indexes-clash : {place : ℕ} → Indexes n run parens marks shadows places (Clash place)
+  indexes-clash = record { free = λ a b q. let z : _≡_ {A = ℕ} 0 1 = cc in absurd (omega arith) }
 
 module _ {n : ℕ} {run : List ℕ} {b mb sc pc : ℕ} (S : Settleable n run b mb sc pc) where
   -- and in longer parts
@@ -89,6 +94,23 @@ module _ {n : ℕ} {run : List ℕ} {b mb sc pc : ℕ} (S : Settleable n run b m
               marks = omega (arith, R .marks);
               shadows = omega (arith, R .shadows);
               places = omega (arith, R .places);
+            };
+      }
+
+  -- and in those of an index that is dropped
+  pub settleable-alone : Settleable n run 4608 2304 16384 2048
+  settleable-alone =
+      let R = S .roomy in
+      let B = S .bounded in
+      record {
+        bounded = B;
+        roomy =
+            record {
+              few = R .few;
+              parens = omega (arith, R .few, B .fits);
+              marks = omega (arith, R .few, B .fits);
+              shadows = R .few;
+              places = B .fits;
             };
       }
 

@@ -3,5 +3,4 @@ pub mod Settled
 pub mod Contradiction
 pub mod PartIn
 pub mod Roomy
-pub mod Loaded
 pub mod Numbered

@@ -2,18 +2,12 @@
 use Prim.Native.Nat.{ℕ, _<_}
 use mathlib.Core.Path.{_≡_}
 use mathlib.Core.List.{List}
-use lib.ListN.{length, getD}
+use lib.ListN.{getD}
 use Rattle.rules.specs.Fact.{Fact}
 use Rattle.groups.specs.Groups as on
-use Rattle.groups.specs.Grouped.{Grouped}
 use Rattle.settling.specs.PartIn.{partIn}
 
 -- the number of each piece's group, and how many groups there are
 pub record Numbered (n : ℕ) (fs : List Fact) (number : List ℕ) (count : ℕ) : Type 0 where
   pub counted : count ≡ on.groups n (partIn fs)
-  pub listed : length number ≡ 2048
   pub numbers : (g : ℕ) → g < n → getD number g 0 ≡ on.number n (partIn fs) g
-
--- each piece's leader, and an order of the pieces
-abbrev pub Arranged : ℕ → List Fact → List ℕ → List ℕ → Type 0
-Arranged n fs lead order = (number : List ℕ) × (count : ℕ) × Grouped n (partIn fs) number lead order count

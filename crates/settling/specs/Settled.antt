@@ -7,7 +7,9 @@ use lib.ListN.{length}
 use Rattle.rules.specs.Follows as on
 use Rattle.rules.specs.Entries.{shortestClash}
 use Rattle.records.specs.Facts.{entries, facts}
+use Rattle.groups.specs.Index.{BookIndex}
 use Rattle.closure.specs.Bounded.{Bounded}
+use Rattle.settling.specs.PartIn.{partIn}
 use Rattle.settling.specs.Roomy.{Roomy}
 use Rattle.closure.specs.Stepped.{Stepped}
 use Rattle.settling.specs.Opened.{Opened}
@@ -24,11 +26,15 @@ pub record Clashed (void : ℕ → Bool) (n : ℕ) (run : List ℕ) (place : ℕ
   pub is : true ≡ on.clash void n (facts run)
   pub last : place + 1 ≡ shortestClash void n (entries run)
 
--- a free run has its index, D and T in what was lent; of a contradictory run the lent parts say nothing
-pub record Settles (void : ℕ → Bool) (n : ℕ) (run parens marks shadows places d t : List ℕ) (r : Settled) : Type 0 where
-  pub free : (nodes shadowed : ℕ) → r ≡ Free nodes shadowed → Opened void n (facts run) parens marks shadows places nodes shadowed d t false
+-- a free run has its D and T in what was lent; of a contradictory run the matrices say nothing
+pub record Settles (void : ℕ → Bool) (n : ℕ) (run d t : List ℕ) (r : Settled) : Type 0 where
+  pub free : (nodes shadowed : ℕ) → r ≡ Free nodes shadowed → Opened void n (facts run) d t false
   pub clash : (place : ℕ) → r ≡ Clash place → Clashed void n run place
 
--- a free run has its steps too, in the order in which rows are joined
+-- its steps too, in the order in which rows are joined
 pub record Steps (n : ℕ) (run e order lead : List ℕ) (r : Settled) : Type 0 where
   pub free : (nodes shadowed : ℕ) → r ≡ Free nodes shadowed → Stepped n (facts run) e order lead
+
+-- and its index
+pub record Indexes (n : ℕ) (run parens marks shadows places : List ℕ) (r : Settled) : Type 0 where
+  pub free : (nodes shadowed : ℕ) → r ≡ Free nodes shadowed → BookIndex n (partIn (facts run)) parens marks shadows places nodes shadowed

@@ -34,10 +34,10 @@ loop-again c = (search needs, search needs, standing-skip _ _ _ _ _ _ _ _ _ _ _ 
 answer-to-requires : tie.Need-answer-to-requires Inv-loop μ-loop
 answer-to-requires c κs =
     let s = c .before .before .before .before .before .before .before .before .before .before .before .before .before .pre in
-    let w = asked _ (s .n) (c .before .before .before .before .loop .i) (s .fit) (omega arith) in
+    let w = asked _ (s .n) (c .before .before .before .before .before .before .before .before .before .loop .i) (s .fit) (omega arith) in
     let m = s .small in
-    rw (c .before .before .record-at .ensures)
-    (w .low, w .high, omega (arith, w .a), omega (arith, w .b), s .voids-sized, s .d-sized, s .u-sized, s .p-sized, s .t-sized, s .q-sized)
+    rw (c .before .before .before .before .before .before .before .record-at .ensures)
+    (w .low, w .high, omega (arith, w .a), omega (arith, w .b), s .voids-sized, search needs, search needs, search needs, search needs, search needs)
 
 byte-of-requires : tie.Need-byte-of-requires Inv-loop μ-loop
 byte-of-requires c κs = search needs
@@ -55,7 +55,7 @@ loop-again-2 : tie.Need-loop-again-2 Inv-loop μ-loop
 loop-again-2 c = (
   search needs,
   simp length-set (search needs),
-  standing-read _ _ _ _ _ _ _ _ _ _ _ _ _ _ (c .before .before .before .before .record-at .ensures) (c .byte-of .ensures) (omega (arith, c .before .before .before .before .before .before .before .before .before .before .before .before .before .before .before .pre .rooms)) (omega arith) (c .before .before .before .before .before .before .loop .inv .2) (c .before .answer-to .ensures),
+  standing-read _ _ _ _ _ _ _ _ _ _ _ _ _ _ (c .before .before .before .before .before .before .before .before .before .record-at .ensures) (c .byte-of .ensures) (omega (arith, c .before .before .before .before .before .before .before .before .before .before .before .before .before .before .before .pre .rooms)) (omega arith) (c .before .before .before .before .before .before .before .before .before .before .before .loop .inv .2) (c .before .answer-to .ensures),
 )
 
 same-length : tie.Need-same-length Inv-loop μ-loop

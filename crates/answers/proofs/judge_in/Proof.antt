@@ -11,21 +11,13 @@ slice-aggregate-mark-voids : tie.Need-slice-aggregate-mark-voids
 slice-aggregate-mark-voids c = search needs
 
 mark-voids-requires : tie.Need-mark-voids-requires
-mark-voids-requires c κs = (accepted-markable (accepted _ _ (c .before .before .before .before .before .before .before .before .before .before .before .pre .0 .sound .sound)), search needs)
+mark-voids-requires c κs = (accepted-markable (accepted _ _ (c .before .before .before .before .before .before .before .before .pre .sound .sound)), search needs)
 
-slice-aggregate-settle-stepped : tie.Need-slice-aggregate-settle-stepped
-slice-aggregate-settle-stepped c = search needs
+slice-aggregate-settle : tie.Need-slice-aggregate-settle
+slice-aggregate-settle c = search needs
 
-slice-aggregate-settle-stepped-2 : tie.Need-slice-aggregate-settle-stepped-2
-slice-aggregate-settle-stepped-2 c = search needs
-
-slice-aggregate-settle-stepped-3 : tie.Need-slice-aggregate-settle-stepped-3
-slice-aggregate-settle-stepped-3 c = search needs
-
-settle-stepped-requires : tie.Need-settle-stepped-requires
-settle-stepped-requires c κs =
-    let P = c .before .before .before .before .before .before .before .before .before .before .before .before .before .before .before .before .before .before .before .before .before .before .before .pre in
-    (settleable-at _ _ _ _ (P .0), P .1, search needs, search needs, P .2, P .3, c .before .before .before .before .before .before .before .before .before .before .before .mark-voids .ensures .0)
+settle-requires : tie.Need-settle-requires
+settle-requires c κs = (settleable-at _ _ _ _ (c .before .before .before .before .before .before .before .before .before .before .before .before .before .before .before .before .before .before .before .before .pre), c .before .before .before .before .before .before .before .before .before .before .before .mark-voids .ensures .0)
 
 enum-known-settled : tie.Need-enum-known-settled
 enum-known-settled c = search needs
@@ -39,77 +31,52 @@ enum-known-settled-2 c = search needs
 slice-aggregate-answer-all : tie.Need-slice-aggregate-answer-all
 slice-aggregate-answer-all c = search needs
 
-slice-aggregate-answer-all-2 : tie.Need-slice-aggregate-answer-all-2
-slice-aggregate-answer-all-2 c = search needs
-
-slice-aggregate-answer-all-3 : tie.Need-slice-aggregate-answer-all-3
-slice-aggregate-answer-all-3 c = search needs
-
 answer-all-requires : tie.Need-answer-all-requires
 answer-all-requires c κs =
-    let s = c .before .before .before .before .before .before .before .before .before .before .before .before .before .before .before .before .before .before .before .before .before .before .before .before .before .before .before .before .before .before .before .before .before .before .before .before .before .before .before .before .before .before .before .before .before .before .before .before .before .before .pre .0 in
-    let O = c .before .before .before .before .before .before .before .before .before .before .before .before .before .before .before .before .before .before .before .before .before .before .before .before .before .before .settle-stepped .ensures .0 .free _ _ (c .before .before .before .before .before .before .before .before .settled2 .given .1) in
-    let W = c .before .before .before .before .before .before .before .before .before .before .before .before .before .before .before .before .before .before .before .before .before .before .before .before .before .before .settle-stepped .ensures .1 .free _ _ (c .before .before .before .before .before .before .before .before .settled2 .given .1) in
-    record { sound = s .sound; void = c .before .before .before .before .before .before .before .before .before .before .before .before .before .before .before .before .before .before .before .before .before .before .before .before .before .before .before .before .before .before .before .before .before .before .before .before .before .before .mark-voids .ensures; free = O .is; fit = s .fit; rooms = s .answers-long; stepped = W; order-sized = search needs; lead-sized = search needs; parts = O .parts; toward = O .toward }
+    let s = c .before .before .before .before .before .before .before .before .before .before .before .before .before .before .before .before .before .before .before .before .before .before .before .before .before .before .before .before .before .before .before .before .before .before .before .before .before .before .before .pre in
+    let O = c .before .before .before .before .before .before .before .before .before .before .before .before .before .before .before .before .before .before .settle .ensures .0 .free _ _ (c .before .before .before .before .before .before .before .before .settled2 .given .1) in
+    record { sound = s .sound; void = c .before .before .before .before .before .before .before .before .before .before .before .before .before .before .before .before .before .before .before .before .before .before .before .before .before .before .before .before .before .before .mark-voids .ensures; free = O .is; fit = s .fit; rooms = s .answers-long; stepped = c .before .before .before .before .before .before .before .before .before .before .before .before .before .before .before .before .before .before .settle .ensures .1 .free _ _ (c .before .before .before .before .before .before .before .before .settled2 .given .1); parts = O .parts; toward = O .toward }
 
 same-length : tie.Need-same-length
-same-length c = c .before .before .before .before .before .before .before .before .before .before .before .before .before .before .before .before .before .before .before .before .before .before .before .before .before .before .before .before .before .before .before .before .settle-stepped .kept .1 .1 .1 .0
+same-length c = c .before .before .before .before .before .before .before .before .clear-index .kept .0 ∙ c .before .before .before .before .before .before .before .before .before .before .before .before .before .before .before .before .before .before .before .before .before .before .before .before .settle .kept .1 .1 .1 .1 .1 .1 .1 .1 .0
 
 same-length-2 : tie.Need-same-length-2
-same-length-2 c = c .before .before .before .before .before .before .before .before .before .before .before .before .before .before .before .before .before .before .before .before .before .before .before .before .before .before .before .before .before .before .before .before .settle-stepped .kept .1 .1 .1 .1 .1 .1 .0
+same-length-2 c = c .before .before .before .before .before .before .before .before .clear-index .kept .1 .0 ∙ c .before .before .before .before .before .before .before .before .before .before .before .before .before .before .before .before .before .before .before .before .before .before .before .before .settle .kept .1 .1 .1 .1 .1 .1 .1 .1 .1 .0
 
 same-length-3 : tie.Need-same-length-3
-same-length-3 c = c .before .before .before .before .before .before .before .before .before .before .before .before .before .before .before .before .before .before .before .before .before .before .before .before .before .before .before .before .before .before .before .before .settle-stepped .kept .1 .1 .1 .1 .1 .1 .1 .0
+same-length-3 c = c .before .before .before .before .before .before .before .before .clear-index .kept .1 .1 .0 ∙ c .before .before .before .before .before .before .before .before .before .before .before .before .before .before .before .before .before .before .before .before .before .before .before .before .settle .kept .1 .1 .1 .1 .1 .1 .1 .1 .1 .1 .0
 
 same-length-4 : tie.Need-same-length-4
-same-length-4 c = c .before .before .before .before .before .before .before .before .clear-index .kept .0 ∙ c .before .before .before .before .before .before .before .before .before .before .before .before .before .before .before .before .before .before .before .before .before .before .before .before .before .before .before .before .before .before .before .before .settle-stepped .kept .1 .1 .1 .1 .1 .1 .1 .1 .0
-
-same-length-5 : tie.Need-same-length-5
-same-length-5 c = c .before .before .before .before .before .before .before .before .clear-index .kept .1 .0 ∙ c .before .before .before .before .before .before .before .before .before .before .before .before .before .before .before .before .before .before .before .before .before .before .before .before .before .before .before .before .before .before .before .before .settle-stepped .kept .1 .1 .1 .1 .1 .1 .1 .1 .1 .0
-
-same-length-6 : tie.Need-same-length-6
-same-length-6 c = c .before .before .before .before .before .before .before .before .clear-index .kept .1 .1 .0 ∙ c .before .before .before .before .before .before .before .before .before .before .before .before .before .before .before .before .before .before .before .before .before .before .before .before .before .before .before .before .before .before .before .before .settle-stepped .kept .1 .1 .1 .1 .1 .1 .1 .1 .1 .1 .0
-
-same-length-7 : tie.Need-same-length-7
-same-length-7 c = c .before .before .before .before .before .before .before .before .clear-index .kept .1 .1 .1 .0 ∙ c .before .before .before .before .before .before .before .before .before .before .before .before .before .before .before .before .before .before .before .before .before .before .before .before .before .before .before .before .before .before .before .before .settle-stepped .kept .1 .1 .1 .1 .1 .1 .1 .1 .1 .1 .1 .0
+same-length-4 c = c .before .before .before .before .before .before .before .before .clear-index .kept .1 .1 .1 .0 ∙ c .before .before .before .before .before .before .before .before .before .before .before .before .before .before .before .before .before .before .before .before .before .before .before .before .settle .kept .1 .1 .1 .1 .1 .1 .1 .1 .1 .1 .1 .0
 
 returns : tie.Need-returns
 returns c =
-    let s = c .before .before .before .before .before .before .before .before .before .before .before .before .before .before .before .before .before .before .before .before .before .before .before .before .before .before .before .before .before .before .before .before .before .before .before .before .before .before .before .before .before .before .before .before .before .before .before .before .before .before .before .before .before .before .before .before .pre .0 in
-    let S = c .before .before .before .before .before .before .before .before .before .before .before .before .before .before .before .before .before .before .before .before .before .before .before .before .before .before .before .before .before .before .before .before .settle-stepped in
-    judged-refused _ _ _ _ s _ _ _ _ _ (rw (c .before .before .before .before .before .before .before .before .before .before .before .before .before .before .before .before .before .before .before .before .before .before .before .before .before .before .before .before .before .before .before .before .before .before .before .before .before .before .before .before .before .before .before .before .mark-voids .ensures .1) at (S .ensures .0 .clash _ (c .before .before .before .before .before .before .before .before .before .before .before .before .before .before .settled .given .1)))
+    let s = c .before .before .before .before .before .before .before .before .before .before .before .before .before .before .before .before .before .before .before .before .before .before .before .before .before .before .before .before .before .before .before .before .before .before .before .before .before .before .before .before .before .before .before .before .before .pre in
+    let S = c .before .before .before .before .before .before .before .before .before .before .before .before .before .before .before .before .before .before .before .before .before .before .before .before .settle in
+    judged-refused _ _ _ _ s _ _ _ _ _ (rw (c .before .before .before .before .before .before .before .before .before .before .before .before .before .before .before .before .before .before .before .before .before .before .before .before .before .before .before .before .before .before .before .before .before .before .before .before .mark-voids .ensures .1) at (S .ensures .0 .clash _ (c .before .before .before .before .before .before .before .before .before .before .before .before .before .before .settled .given .1)))
     (cleared-at (S .kept .1 .1 .1 .1 .1 .1 .1 .1 .0 ∙ s .parens-long) (S .kept .1 .1 .1 .1 .1 .1 .1 .1 .1 .0 ∙ s .marks-long) (S .kept .1 .1 .1 .1 .1 .1 .1 .1 .1 .1 .0 ∙ s .shadows-long) (S .kept .1 .1 .1 .1 .1 .1 .1 .1 .1 .1 .1 .0 ∙ s .places-long) (c .before .before .before .before .before .before .before .before .clear-index .ensures))
 
+same-length-5 : tie.Need-same-length-5
+same-length-5 c = c .before .before .before .before .before .before .before .before .before .before .before .before .before .before .before .before .before .before .before .before .before .settle .kept .1 .1 .1 .1 .1 .1 .1 .1 .0
+
+same-length-6 : tie.Need-same-length-6
+same-length-6 c = c .before .before .before .before .before .before .before .before .before .before .before .before .before .before .before .before .before .before .before .before .before .settle .kept .1 .1 .1 .1 .1 .1 .1 .1 .1 .0
+
+same-length-7 : tie.Need-same-length-7
+same-length-7 c = c .before .before .before .before .before .before .before .before .before .before .before .before .before .before .before .before .before .before .before .before .before .settle .kept .1 .1 .1 .1 .1 .1 .1 .1 .1 .1 .0
+
 same-length-8 : tie.Need-same-length-8
-same-length-8 c = c .before .before .before .before .before .before .before .before .before .before .answer-all .kept .1 .1 .1 .1 .0 ∙ c .before .before .before .before .before .before .before .before .before .before .before .before .before .before .before .before .before .before .before .before .before .before .before .before .before .before .before .before .before .before .before .before .before .before .before .before .before .settle-stepped .kept .1 .1 .1 .0
+same-length-8 c = c .before .before .before .before .before .before .before .before .before .before .before .before .before .before .before .before .before .before .before .before .before .settle .kept .1 .1 .1 .1 .1 .1 .1 .1 .1 .1 .1 .0
 
 same-length-9 : tie.Need-same-length-9
-same-length-9 c = c .before .before .before .before .before .before .before .before .before .before .answer-all .kept .1 .1 .1 .1 .1 .1 .1 .0 ∙ c .before .before .before .before .before .before .before .before .before .before .before .before .before .before .before .before .before .before .before .before .before .before .before .before .before .before .before .before .before .before .before .before .before .before .before .before .before .settle-stepped .kept .1 .1 .1 .1 .1 .1 .0
-
-same-length-10 : tie.Need-same-length-10
-same-length-10 c = c .before .before .before .before .before .before .before .before .before .before .answer-all .kept .1 .1 .1 .1 .1 .1 .1 .1 .0 ∙ c .before .before .before .before .before .before .before .before .before .before .before .before .before .before .before .before .before .before .before .before .before .before .before .before .before .before .before .before .before .before .before .before .before .before .before .before .before .settle-stepped .kept .1 .1 .1 .1 .1 .1 .1 .0
-
-same-length-11 : tie.Need-same-length-11
-same-length-11 c = c .before .before .before .before .before .before .before .before .before .before .before .before .before .before .before .before .before .before .before .before .before .before .before .before .before .before .before .before .before .before .before .before .before .before .before .before .before .settle-stepped .kept .1 .1 .1 .1 .1 .1 .1 .1 .0
-
-same-length-12 : tie.Need-same-length-12
-same-length-12 c = c .before .before .before .before .before .before .before .before .before .before .before .before .before .before .before .before .before .before .before .before .before .before .before .before .before .before .before .before .before .before .before .before .before .before .before .before .before .settle-stepped .kept .1 .1 .1 .1 .1 .1 .1 .1 .1 .0
-
-same-length-13 : tie.Need-same-length-13
-same-length-13 c = c .before .before .before .before .before .before .before .before .before .before .before .before .before .before .before .before .before .before .before .before .before .before .before .before .before .before .before .before .before .before .before .before .before .before .before .before .before .settle-stepped .kept .1 .1 .1 .1 .1 .1 .1 .1 .1 .1 .0
-
-same-length-14 : tie.Need-same-length-14
-same-length-14 c = c .before .before .before .before .before .before .before .before .before .before .before .before .before .before .before .before .before .before .before .before .before .before .before .before .before .before .before .before .before .before .before .before .before .before .before .before .before .settle-stepped .kept .1 .1 .1 .1 .1 .1 .1 .1 .1 .1 .1 .0
-
-same-length-15 : tie.Need-same-length-15
-same-length-15 c = c .before .before .before .before .before .before .before .before .before .before .answer-all .kept .1 .1 .1 .1 .1 .1 .1 .1 .1 .0
+same-length-9 c = c .before .before .answer-all .kept .1 .1 .1 .1 .1 .1 .1 .1 .1 .0
 
 returns-2 : tie.Need-returns-2
 returns-2 c =
-    let s = c .before .before .before .before .before .before .before .before .before .before .before .before .before .before .before .before .before .before .before .before .before .before .before .before .before .before .before .before .before .before .before .before .before .before .before .before .before .before .before .before .before .before .before .before .before .before .before .before .before .before .before .before .before .before .before .before .before .before .before .before .before .pre .0 in
-    let S = c .before .before .before .before .before .before .before .before .before .before .before .before .before .before .before .before .before .before .before .before .before .before .before .before .before .before .before .before .before .before .before .before .before .before .before .before .before .settle-stepped in
+    let s = c .before .before .before .before .before .before .before .before .before .before .before .before .before .before .before .before .before .before .before .before .before .before .before .before .before .before .before .before .before .before .before .before .before .before .before .before .before .before .before .before .before .before .pre in
+    let S = c .before .before .before .before .before .before .before .before .before .before .before .before .before .before .before .before .before .before .before .before .before .settle in
     judged-accepted _ _ _ _ s _ _ _ _ _ _ _ _ _ (S .kept .1 .1 .1 .1 .1 .1 .1 .1 .0 ∙ s .parens-long) (S .kept .1 .1 .1 .1 .1 .1 .1 .1 .1 .0 ∙ s .marks-long) (S .kept .1 .1 .1 .1 .1 .1 .1 .1 .1 .1 .0 ∙ s .shadows-long) (S .kept .1 .1 .1 .1 .1 .1 .1 .1 .1 .1 .1 .0 ∙ s .places-long)
-    (rw (c .before .before .before .before .before .before .before .before .before .before .before .before .before .before .before .before .before .before .before .before .before .before .before .before .before .before .before .before .before .before .before .before .before .before .before .before .before .before .before .before .before .before .before .before .before .before .before .before .before .mark-voids .ensures .1) at (S .ensures .0 .free _ _ (c .before .before .before .before .before .before .before .before .before .before .before .before .before .before .before .before .before .before .before .settled2 .given .1))) (c .before .before .before .before .before .before .before .before .before .before .answer-all .ensures)
+    (rw (c .before .before .before .before .before .before .before .before .before .before .before .before .before .before .before .before .before .before .before .before .before .before .before .before .before .before .before .before .before .before .before .before .before .mark-voids .ensures .1) at (S .ensures .0 .free _ _ (c .before .before .before .before .before .before .before .before .before .before .before .settled2 .given .1))) (S .ensures .2 .free _ _ (c .before .before .before .before .before .before .before .before .before .before .before .settled2 .given .1)) (c .before .before .answer-all .ensures)
 
 pub judge-in-spec : {M : Type 1} → statement M
 judge-in-spec =
@@ -117,31 +84,21 @@ judge-in-spec =
     (tie.spec
     slice-aggregate-mark-voids
     mark-voids-requires
-    slice-aggregate-settle-stepped
-    slice-aggregate-settle-stepped-2
-    slice-aggregate-settle-stepped-3
-    settle-stepped-requires
+    slice-aggregate-settle
+    settle-requires
     enum-known-settled
     clear-index-requires
     enum-known-settled-2
     slice-aggregate-answer-all
-    slice-aggregate-answer-all-2
-    slice-aggregate-answer-all-3
     answer-all-requires
     same-length
     same-length-2
     same-length-3
     same-length-4
+    returns
     same-length-5
     same-length-6
     same-length-7
-    returns
     same-length-8
     same-length-9
-    same-length-10
-    same-length-11
-    same-length-12
-    same-length-13
-    same-length-14
-    same-length-15
     returns-2)

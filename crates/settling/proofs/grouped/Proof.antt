@@ -8,22 +8,10 @@ edges-requires : tie.Need-edges-requires
 edges-requires c κs = search needs
 
 group-requires : tie.Need-group-requires
-group-requires c κs = (searchable _ _ (c .before .before .before .before .before .before .before .before .before .before .before .before .before .pre .0) _ _ (c .before .before .before .before .before .before .edges .ensures) (search needs), search needs, search needs)
-
-same-length : tie.Need-same-length
-same-length c = search needs
-
-same-length-2 : tie.Need-same-length-2
-same-length-2 c = search needs
-
-same-length-3 : tie.Need-same-length-3
-same-length-3 c = search needs
-
-same-length-4 : tie.Need-same-length-4
-same-length-4 c = search needs
+group-requires c κs = (searchable _ _ (c .before .before .before .before .before .before .before .before .pre) _ _ (c .before .before .before .before .before .edges .ensures) (search needs), search needs, search needs)
 
 returns : tie.Need-returns
-returns c = c .before .before .before .before .before .before .group .ensures _ (edged _ _ (c .before .before .before .before .before .before .before .before .before .before .before .before .before .before .before .before .before .before .before .before .pre .0) _ (c .before .before .before .before .before .before .before .before .before .before .before .before .before .edges .ensures))
+returns c = c .group .ensures _ (edged _ _ (c .before .before .before .before .before .before .before .before .before .pre) _ (c .before .before .before .before .before .before .edges .ensures))
 
 pub grouped-spec : {M : Type 1} → statement M
 grouped-spec =
@@ -31,8 +19,4 @@ grouped-spec =
     (tie.spec
     edges-requires
     group-requires
-    same-length
-    same-length-2
-    same-length-3
-    same-length-4
     returns)

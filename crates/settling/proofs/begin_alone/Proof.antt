@@ -1,0 +1,33 @@
+-- `settling::begin_alone` meets its contract. Assumes nothing.
+use borrow.Author.Needs.{needs}
+use Rattle.settling.proofs.begin_alone.Statement.{statement}
+use Rattle.settling.proofs.begin_alone.Tie as tie
+
+slice-aggregate-begin : tie.Need-slice-aggregate-begin
+slice-aggregate-begin c = search needs
+
+slice-aggregate-begin-2 : tie.Need-slice-aggregate-begin-2
+slice-aggregate-begin-2 c = search needs
+
+slice-aggregate-begin-3 : tie.Need-slice-aggregate-begin-3
+slice-aggregate-begin-3 c = search needs
+
+slice-aggregate-begin-4 : tie.Need-slice-aggregate-begin-4
+slice-aggregate-begin-4 c = search needs
+
+begin-requires : tie.Need-begin-requires
+begin-requires c κs = search needs
+
+returns : tie.Need-returns
+returns c = search needs
+
+pub begin-alone-spec : {M : Type 1} → statement M
+begin-alone-spec =
+    tie.close
+    (tie.spec
+    slice-aggregate-begin
+    slice-aggregate-begin-2
+    slice-aggregate-begin-3
+    slice-aggregate-begin-4
+    begin-requires
+    returns)
