@@ -92,13 +92,13 @@ fn join(first: &[u8], second: &[u8], run: &mut [u8]) -> usize
 }
 
 // Whether the records of a run can be laid in ice, all its marks counting. The matrices are scratch.
-fn can_be_laid(run: &[u8], n: usize, e: &mut [u64], d: &mut [u64], t: &mut [u64]) -> bool
-    requires { ⌜ Layable (now run) n × (length (now e) ≡ 65536) × (length (now d) ≡ 65536) × (length (now t) ≡ 65536) ⌝ }
+fn can_be_laid(run: &[u8], n: usize, e: &mut [u64; 65536], d: &mut [u64; 65536], t: &mut [u64; 65536]) -> bool
+    requires { ⌜ Layable (now run) n ⌝ }
     ensures { λ r. ⌜ r ≡ not (clash (marked (now (run .entry))) n (facts (now (run .entry)))) ⌝ }
 {
     let mut voids = [0u64; 32];
     closure::marking::mark_voids(run, &mut voids);
-    !settling::joint::contradicts(run, n, &voids, e, d, t)
+    !settling::contradicts(run, n, &voids, e, d, t)
 }
 
 // Row 14 of a book and its answers, among n pieces. The matrices are scratch.
@@ -106,12 +106,12 @@ fn answer_book(
     book: &[u8],
     n: usize,
     claims: &[u8],
-    e: &mut [u64],
-    d: &mut [u64],
-    t: &mut [u64],
+    e: &mut [u64; 65536],
+    d: &mut [u64; 65536],
+    t: &mut [u64; 65536],
     answers: &mut [u8],
 ) -> Outcome
-    requires { ⌜ Answerable (now book) n (now claims) (length (now answers)) × (length (now e) ≡ 65536) × (length (now d) ≡ 65536) × (length (now t) ≡ 65536) ⌝ }
+    requires { ⌜ Answerable (now book) n (now claims) (length (now answers)) ⌝ }
     ensures { λ r. ⌜ Answered (now (book .entry)) n (now (claims .entry)) r (now (answers .exit)) ⌝ }
 {
     let mut parens = [0u8; 2560];

@@ -53,23 +53,12 @@ fn settle(book: &[u8], n: usize) -> Settled
 {
     let voids = [0u64; 32];
     let mut e = [0u64; 65536];
+    let mut order = [0u16; 2048];
+    let mut lead = [0u16; 2048];
     let mut d = [0u64; 65536];
     let mut t = [0u64; 65536];
-    let mut parens = [0u8; 2560];
-    let mut marks = [0u8; 1280];
-    let mut shadows = [0u16; 8192];
-    let mut places = [0u16; 2048];
-    settling::settle(
-        book,
-        n,
-        &voids,
-        &mut e,
-        &mut d,
-        &mut t,
-        &mut parens,
-        &mut marks,
-        &mut shadows,
-        &mut places,
+    settling::settle_alone(
+        book, n, &voids, &mut e, &mut order, &mut lead, &mut d, &mut t,
     )
 }
 

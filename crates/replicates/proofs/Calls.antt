@@ -8,6 +8,7 @@ use borrow.Author.Tests.{lt-ltb, le-ltb}
 use lib.ListN.{length}
 use Rattle.lists.specs.Front.{front}
 use Rattle.relation.specs.Matrix.{bitOf}
+use Rattle.rules.specs.Follows.{clash}
 use Rattle.records.specs.Facts.{facts}
 use Rattle.records.specs.Marked.{marked}
 use Rattle.records.specs.Check.{bookCheck, claimsCheck}
@@ -15,8 +16,7 @@ use Rattle.records.specs.Refusal.{scan}
 use Rattle.records.specs.declared.BookCheck.the-variants as book
 use Rattle.records.specs.declared.Refusal.{Refusal}
 use Rattle.records.specs.declared.Refusal.the-variants.{ShortBuffer, Contradiction}
-use Rattle.settling.specs.Opened.{Opened}
-use Rattle.settling.specs.Settled.{Clashed}
+use Rattle.settling.specs.Settled.{Clashed, Sizes}
 use Rattle.closure.specs.Apart.{Aparts}
 use Rattle.answers.specs.Call.{byRuns, byClaims, byBook}
 use Rattle.answers.specs.declared.Outcome.the-variants.{Accepted, Refused}
@@ -75,9 +75,9 @@ module _ (s : List ℕ) (n : ℕ) (sound : bookCheck s ≡ book.Accepted n) (w :
   unfolding byPart
   clash-refused place d q C = refused Contradiction place d q (ap (byPart w log) (refuses s n (own-count sound) place C))
 
-  module _ {nodes shadowed : ℕ} {parens marks shadows places d t : List ℕ} (O : Opened (marked s) n (facts s) parens marks shadows places nodes shadowed d t false) where
+  module _ {nodes shadowed : ℕ} (c : false ≡ clash (marked s) n (facts s)) (Z : Sizes n s nodes shadowed) where
     free : Accepted n nodes shadowed ≡ byRuns s n
-    free = accepts s n (own-count sound) nodes shadowed (O .is) (O .index .nodes-are) (O .index .shadowed-are)
+    free = accepts s n (own-count sound) nodes shadowed c (Z .0) (Z .1)
 
     pub part-refused :
         (r : Refusal) (i : ℕ) (d : Replicated) → d ≡ record { outcome = Refused r i; window = w } → Refused r i ≡ byPart w log (Accepted n nodes shadowed) → Judged s n w log out d out

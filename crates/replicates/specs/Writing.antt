@@ -26,13 +26,12 @@ pub record Fits (n : ℕ) (w : Window) (log : List ℕ) : Type 0 where
   pub entries : (i : ℕ) → i < entryCount log → entryAt log i < n
 
 -- the marks, steps and D of a book that is not contradictory, a window and a part that fit, and room for the bytes
-pub record Writable (s : List ℕ) (n : ℕ) (voids e order lead d t : List ℕ) (w : Window) (log : List ℕ) (room : ℕ) : Type 0 where
+pub record Writable (s : List ℕ) (n : ℕ) (voids e order lead d : List ℕ) (w : Window) (log : List ℕ) (room : ℕ) : Type 0 where
   pub sound : bookCheck s ≡ book.Accepted n
   pub void : Voids voids × (voidOf voids ≡ marked s)
   pub free : false ≡ clash (voidOf voids) n (facts s)
   pub steps : Stepped n (facts s) e order lead
   pub parts : Holds d (partBit n (facts s))
-  pub scratch : length t ≡ 65536
   pub fits : Fits n w log
   pub wide : 2 * entryCount log ≤ room
 

@@ -246,16 +246,16 @@ fn write_part(
     book: &[u8],
     n: usize,
     voids: &[u64],
-    e: &[u64],
-    order: &[u16],
-    lead: &[u16],
-    d: &[u64],
-    t: &mut [u64],
+    e: &[u64; 65536],
+    order: &[u16; 2048],
+    lead: &[u16; 2048],
+    d: &[u64; 65536],
+    t: &mut [u64; 65536],
     window: Window,
     log: &[u8],
     out: &mut [u8],
 ) -> Window
-    requires { ⌜ Writable (now book) n (now voids) (now e) (now order) (now lead) (now d) (now t) window (now log) (length (now out)) ⌝ }
+    requires { ⌜ Writable (now book) n (now voids) (now e) (now order) (now lead) (now d) window (now log) (length (now out)) ⌝ }
     ensures { λ r. ⌜ (r ≡ windowOf (sequence window (now (log .entry)))) × (now (out .exit) ≡ front (bytesIn (now (book .entry)) n window (now (log .entry))) (now (out .entry))) ⌝ }
 {
     let mut a = [0u64; 65536];
@@ -292,23 +292,8 @@ fn judge(book: &[u8], n: usize, window: Window, log: &[u8], out: &mut [u8]) -> R
     let mut lead = [0u16; 2048];
     let mut d = [0u64; 65536];
     let mut t = [0u64; 65536];
-    let mut parens = [0u8; 2560];
-    let mut marks = [0u8; 1280];
-    let mut shadows = [0u16; 8192];
-    let mut places = [0u16; 2048];
-    let settled = settling::settle_stepped(
-        book,
-        n,
-        &voids,
-        &mut e,
-        &mut order,
-        &mut lead,
-        &mut d,
-        &mut t,
-        &mut parens,
-        &mut marks,
-        &mut shadows,
-        &mut places,
+    let settled = settling::settle_alone(
+        book, n, &voids, &mut e, &mut order, &mut lead, &mut d, &mut t,
     );
     match settled {
         Settled::Clash(place) => refuse(Refusal::Contradiction, place, window),

@@ -26,7 +26,7 @@ use Rattle.groups.specs.Index.{edges, BookIndex}
 use Rattle.settling.specs.PartIn.{partIn}
 use Rattle.index.specs.Index.{Room}
 use Rattle.settling.specs.Opened.{Opened}
-use Rattle.settling.specs.Settled.{Settleable, Clashed, Settles, Steps, Indexes}
+use Rattle.settling.specs.Settled.{Settleable, Clashed, Settles, Steps, Sizes, Sized, Indexes}
 use Rattle.settling.specs.declared.Settled.{Settled}
 use Rattle.closure.specs.Stepped.{Stepped}
 use Rattle.settling.specs.declared.Settled.the-variants.{Free, Clash}
@@ -66,6 +66,18 @@ steps-free r W = record { free = λ a b q. W }
 
 pub steps-clash : {n place : ℕ} {run e order lead : List ℕ} → Steps n run e order lead (Clash place)
 steps-clash = record { free = λ a b q. let z : _≡_ {A = ℕ} 0 1 = cc in absurd (omega arith) }
+
+pub sized-free : {n nodes shadowed : ℕ} {run : List ℕ} → Sizes n run nodes shadowed → Sized n run (Free nodes shadowed)
+sized-free {nodes = nodes} {shadowed = shadowed} Z =
+    record {
+      free = λ a b q.
+          let x : nodes ≡ a = cc in
+          let y : shadowed ≡ b = cc in
+          (sym x ∙ Z .0, sym y ∙ Z .1);
+    }
+
+pub sized-clash : {n place : ℕ} {run : List ℕ} → Sized n run (Clash place)
+sized-clash = record { free = λ a b q. let z : _≡_ {A = ℕ} 0 1 = cc in absurd (omega arith) }
 
 module _ {n : ℕ} {run parens marks shadows places : List ℕ} where
   pub indexes-free : {nodes shadowed : ℕ} → BookIndex n (partIn (facts run)) parens marks shadows places nodes shadowed → Indexes n run parens marks shadows places (Free nodes shadowed)

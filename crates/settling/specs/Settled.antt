@@ -7,7 +7,8 @@ use lib.ListN.{length}
 use Rattle.rules.specs.Follows as on
 use Rattle.rules.specs.Entries.{shortestClash}
 use Rattle.records.specs.Facts.{entries, facts}
-use Rattle.groups.specs.Index.{BookIndex}
+use Rattle.index.specs.Parts.{shadows}
+use Rattle.groups.specs.Index.{bookVisits, BookIndex}
 use Rattle.closure.specs.Bounded.{Bounded}
 use Rattle.settling.specs.PartIn.{partIn}
 use Rattle.settling.specs.Roomy.{Roomy}
@@ -35,6 +36,13 @@ pub record Settles (void : ℕ → Bool) (n : ℕ) (run d t : List ℕ) (r : Set
 pub record Steps (n : ℕ) (run e order lead : List ℕ) (r : Settled) : Type 0 where
   pub free : (nodes shadowed : ℕ) → r ≡ Free nodes shadowed → Stepped n (facts run) e order lead
 
--- and its index
+-- the counts of its index
+abbrev pub Sizes : ℕ → List ℕ → ℕ → ℕ → Type 0
+Sizes n run nodes shadowed = (nodes ≡ length (bookVisits n (partIn (facts run)))) × (shadowed ≡ length (shadows (bookVisits n (partIn (facts run)))))
+
+pub record Sized (n : ℕ) (run : List ℕ) (r : Settled) : Type 0 where
+  pub free : (nodes shadowed : ℕ) → r ≡ Free nodes shadowed → Sizes n run nodes shadowed
+
+-- and the index itself
 pub record Indexes (n : ℕ) (run parens marks shadows places : List ℕ) (r : Settled) : Type 0 where
   pub free : (nodes shadowed : ℕ) → r ≡ Free nodes shadowed → BookIndex n (partIn (facts run)) parens marks shadows places nodes shadowed

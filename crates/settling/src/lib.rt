@@ -15,7 +15,7 @@ ghost use Rattle.closure.specs.Stepped.{Stepped};
 ghost use Rattle.settling.specs.PartIn.{partIn};
 ghost use Rattle.settling.specs.Numbered.{Numbered};
 ghost use Rattle.settling.specs.Opened.{Opened};
-ghost use Rattle.settling.specs.Settled.{Settleable, Settles, Steps, Indexes};
+ghost use Rattle.settling.specs.Settled.{Settleable, Settles, Steps, Sizes, Sized, Indexes};
 
 // The groups of the run's pieces: the number of each piece's, its leader, and an order of the pieces. e is scratch.
 fn grouped(
@@ -107,7 +107,7 @@ fn begin_alone(
     t: &mut [u64; 65536],
 ) -> Begun
     requires { ⌜ Settleable n (now run) 4608 2304 16384 2048 × Voids (now voids) ⌝ }
-    ensures { λ r. ⌜ Opened (voidOf (now (voids .entry))) n (facts (now (run .entry))) (now (d .exit)) (now (t .exit)) (r .clash) × Stepped n (facts (now (run .entry))) (now (e .exit)) (now (order .exit)) (now (lead .exit)) ⌝ }
+    ensures { λ r. ⌜ Opened (voidOf (now (voids .entry))) n (facts (now (run .entry))) (now (d .exit)) (now (t .exit)) (r .clash) × Stepped n (facts (now (run .entry))) (now (e .exit)) (now (order .exit)) (now (lead .exit)) × Sizes n (now (run .entry)) (r .nodes) (r .shadows) ⌝ }
 {
     let mut parens = [0u8; 4608];
     let mut marks = [0u8; 2304];
@@ -230,7 +230,7 @@ pub fn settle_alone(
     t: &mut [u64; 65536],
 ) -> Settled
     requires { ⌜ Settleable n (now run) 4608 2304 16384 2048 × Voids (now voids) ⌝ }
-    ensures { λ r. ⌜ Settles (voidOf (now (voids .entry))) n (now (run .entry)) (now (d .exit)) (now (t .exit)) r × Steps n (now (run .entry)) (now (e .exit)) (now (order .exit)) (now (lead .exit)) r ⌝ }
+    ensures { λ r. ⌜ Settles (voidOf (now (voids .entry))) n (now (run .entry)) (now (d .exit)) (now (t .exit)) r × Steps n (now (run .entry)) (now (e .exit)) (now (order .exit)) (now (lead .exit)) r × Sized n (now (run .entry)) r ⌝ }
 {
     let begun = begin_alone(run, n, voids, e, order, lead, d, t);
     if begun.clash {

@@ -18,27 +18,14 @@ slice-aggregate-judge-in-4 c = search needs
 
 judge-in-requires : tie.Need-judge-in-requires
 judge-in-requires c κs =
-    let P = c .before .before .before .before .before .before .before .before .before .before .before .before .before .before .pre in (
-      record { sound = P .0 .counted; fit = P .0 .fit; parens-long = search needs; marks-long = search needs; shadows-long = search needs; places-long = search needs; answers-long = P .0 .rooms },
-      search needs,
-      search needs,
-      search needs,
-    )
+    let P = c .before .before .before .before .before .before .before .before .before .before .before .pre in
+    record { sound = P .counted; fit = P .fit; parens-long = search needs; marks-long = search needs; shadows-long = search needs; places-long = search needs; answers-long = P .rooms }
 
 same-length : tie.Need-same-length
 same-length c = search needs
 
-same-length-2 : tie.Need-same-length-2
-same-length-2 c = search needs
-
-same-length-3 : tie.Need-same-length-3
-same-length-3 c = search needs
-
-same-length-4 : tie.Need-same-length-4
-same-length-4 c = search needs
-
 returns : tie.Need-returns
-returns c = answers-left _ _ _ _ _ _ (c .before .before .before .before .before .before .before .before .before .before .before .before .before .before .before .before .before .before .before .before .before .before .before .before .before .before .before .pre .0 .rooms) (c .before .before .before .before .before .before .before .before .before .before .before .before .judge-in .ensures)
+returns c = answers-left _ _ _ _ _ _ (c .before .before .before .before .before .before .before .before .before .before .before .before .before .before .before .before .before .before .pre .rooms) (c .before .before .before .before .before .before .judge-in .ensures)
 
 pub answer-book-spec : {M : Type 1} → statement M
 answer-book-spec =
@@ -50,7 +37,4 @@ answer-book-spec =
     slice-aggregate-judge-in-4
     judge-in-requires
     same-length
-    same-length-2
-    same-length-3
-    same-length-4
     returns)

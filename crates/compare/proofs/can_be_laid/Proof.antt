@@ -17,17 +17,8 @@ slice-aggregate-contradicts c = search needs
 contradicts-requires : tie.Need-contradicts-requires
 contradicts-requires c κs = search needs
 
-same-length : tie.Need-same-length
-same-length c = search needs
-
-same-length-2 : tie.Need-same-length-2
-same-length-2 c = search needs
-
-same-length-3 : tie.Need-same-length-3
-same-length-3 c = search needs
-
 returns : tie.Need-returns
-returns c = ap not (rw (c .before .before .before .before .before .before .before .before .before .before .before .before .mark-voids .ensures .1) at (c .before .before .before .before .before .before .contradicts .ensures))
+returns c = ap not (rw (c .before .before .before .before .before .before .mark-voids .ensures .1) at (c .contradicts .ensures))
 
 pub can-be-laid-spec : {M : Type 1} → statement M
 can-be-laid-spec =
@@ -37,7 +28,4 @@ can-be-laid-spec =
     mark-voids-requires
     slice-aggregate-contradicts
     contradicts-requires
-    same-length
-    same-length-2
-    same-length-3
     returns)

@@ -9,127 +9,91 @@ use Rattle.compare.proofs.judge_both.Statement.{statement}
 use Rattle.compare.proofs.judge_both.Tie as tie
 
 larger-requires : tie.Need-larger-requires
-larger-requires c κs = search needs
-
-slice-aggregate-answer-book : tie.Need-slice-aggregate-answer-book
-slice-aggregate-answer-book c = search needs
-
-slice-aggregate-answer-book-2 : tie.Need-slice-aggregate-answer-book-2
-slice-aggregate-answer-book-2 c = search needs
-
-slice-aggregate-answer-book-3 : tie.Need-slice-aggregate-answer-book-3
-slice-aggregate-answer-book-3 c = search needs
+larger-requires c κs = tt
 
 answer-book-requires : tie.Need-answer-book-requires
 answer-book-requires c κs =
     let P = c .before .before .before .before .before .before .before .before .before .before .before .before .pre .0 in
-    (rw (c .before .before .before .before .larger .ensures) (record { counted = first-counted _ _ _ [] (P .sound .first) (P .sound .second) (P .fit); fit = P .fit; rooms = c .before .before .before .before .before .before .before .before .before .before .before .before .pre .1 }), search needs, search needs, search needs)
+    (rw (c .before .before .before .before .larger .ensures) (record { counted = first-counted _ _ _ [] (P .sound .first) (P .sound .second) (P .fit); fit = P .fit; rooms = c .before .before .before .before .before .before .before .before .before .before .before .before .pre .1 }))
 
 enum-known-one : tie.Need-enum-known-one
 enum-known-one c = search needs
 
 same-length : tie.Need-same-length
-same-length c = search needs
+same-length c = c .before .before .before .before .before .answer-book .kept .1 .1 .1 .1 .1 .1 .0
 
 returns : tie.Need-returns
 returns c =
-    let P = c .before .before .before .before .before .before .before .before .before .before .before .before .before .before .before .before .before .before .before .before .before .pre .0 in
-    first-clashed _ _ _ _ (P .sound .first) (P .sound .second) (P .fit) (rw (c .before .before .before .before .before .before .before .before .before .before .before .before .before .larger .ensures) at (c .before .before .before .before .before .before .before .before .answer-book .ensures .outcome-is)) (c .before .one .given .1)
+    let P = c .before .before .before .before .before .before .before .before .before .before .before .before .before .before .before .before .before .before .pre .0 in
+    first-clashed _ _ _ _ (P .sound .first) (P .sound .second) (P .fit) (rw (c .before .before .before .before .before .before .before .before .before .before .larger .ensures) at (c .before .before .before .before .before .answer-book .ensures .outcome-is)) (c .before .one .given .1)
 
 enum-told : tie.Need-enum-told
 enum-told c = search needs
 
-slice-aggregate-answer-book-4 : tie.Need-slice-aggregate-answer-book-4
-slice-aggregate-answer-book-4 c = search needs
-
-slice-aggregate-answer-book-5 : tie.Need-slice-aggregate-answer-book-5
-slice-aggregate-answer-book-5 c = search needs
-
-slice-aggregate-answer-book-6 : tie.Need-slice-aggregate-answer-book-6
-slice-aggregate-answer-book-6 c = search needs
-
 answer-book-requires-2 : tie.Need-answer-book-requires-2
 answer-book-requires-2 c κs =
-    let P = c .before .before .before .before .before .before .before .before .before .before .before .before .before .before .before .before .before .before .before .before .before .before .before .before .pre .0 in
-    (rw (c .before .before .before .before .before .before .before .before .before .before .before .before .before .before .before .before .larger .ensures) (record { counted = second-counted _ _ _ [] (P .sound .first) (P .sound .second) (P .fit); fit = P .fit; rooms = c .before .before .before .before .before .before .before .before .before .before .before .before .before .before .before .before .before .before .before .before .before .before .before .before .pre .2 }), search needs, search needs, search needs)
+    let P = c .before .before .before .before .before .before .before .before .before .before .before .before .before .before .before .before .before .before .before .before .before .pre .0 in
+    (rw (c .before .before .before .before .before .before .before .before .before .before .before .before .before .larger .ensures) (record { counted = second-counted _ _ _ [] (P .sound .first) (P .sound .second) (P .fit); fit = P .fit; rooms = c .before .before .before .before .before .before .before .before .before .before .before .before .before .before .before .before .before .before .before .before .before .pre .2 }))
 
 enum-known-two : tie.Need-enum-known-two
 enum-known-two c = search needs
 
 same-length-2 : tie.Need-same-length-2
-same-length-2 c = search needs
+same-length-2 c = c .before .before .before .before .before .before .before .before .before .before .before .before .before .before .answer-book .kept .1 .1 .1 .1 .1 .1 .0
 
 same-length-3 : tie.Need-same-length-3
-same-length-3 c = search needs
+same-length-3 c = c .before .before .before .before .before .answer-book2 .kept .1 .1 .1 .1 .1 .1 .0
 
 returns-2 : tie.Need-returns-2
 returns-2 c =
-    let P = c .before .before .before .before .before .before .before .before .before .before .before .before .before .before .before .before .before .before .before .before .before .before .before .before .before .before .before .before .before .before .before .before .before .pre .0 in
-    second-clashed _ _ _ _ (P .sound .first) (P .sound .second) (P .fit) (rw (c .before .before .before .before .before .before .before .before .before .before .before .before .before .before .before .before .before .before .before .before .before .before .before .before .before .larger .ensures) at (c .before .before .before .before .before .before .before .before .before .before .before .before .before .before .before .before .before .before .before .before .answer-book .ensures .outcome-is)) (c .before .before .before .before .before .before .before .before .before .before .before .before .before .enum-told .given .1) (rw (c .before .before .before .before .before .before .before .before .before .before .before .before .before .before .before .before .before .before .before .before .before .before .before .before .before .larger .ensures) at (c .before .before .before .before .before .before .before .before .answer-book2 .ensures .outcome-is)) (c .before .two .given .1)
+    let P = c .before .before .before .before .before .before .before .before .before .before .before .before .before .before .before .before .before .before .before .before .before .before .before .before .before .before .before .pre .0 in
+    second-clashed _ _ _ _ (P .sound .first) (P .sound .second) (P .fit) (rw (c .before .before .before .before .before .before .before .before .before .before .before .before .before .before .before .before .before .before .before .larger .ensures) at (c .before .before .before .before .before .before .before .before .before .before .before .before .before .before .answer-book .ensures .outcome-is)) (c .before .before .before .before .before .before .before .before .before .before .enum-told .given .1) (rw (c .before .before .before .before .before .before .before .before .before .before .before .before .before .before .before .before .before .before .before .larger .ensures) at (c .before .before .before .before .before .answer-book2 .ensures .outcome-is)) (c .before .two .given .1)
 
 enum-told-2 : tie.Need-enum-told-2
 enum-told-2 c = search needs
 
-slice-aggregate-can-be-laid : tie.Need-slice-aggregate-can-be-laid
-slice-aggregate-can-be-laid c = search needs
-
-slice-aggregate-can-be-laid-2 : tie.Need-slice-aggregate-can-be-laid-2
-slice-aggregate-can-be-laid-2 c = search needs
-
-slice-aggregate-can-be-laid-3 : tie.Need-slice-aggregate-can-be-laid-3
-slice-aggregate-can-be-laid-3 c = search needs
-
 can-be-laid-requires : tie.Need-can-be-laid-requires
 can-be-laid-requires c κs =
-    let P = c .before .before .before .before .before .before .before .before .before .before .before .before .before .before .before .before .before .before .before .before .before .before .before .before .before .before .before .before .before .before .before .before .before .before .before .pre .0 in
-    (rw (c .before .before .before .before .before .before .before .before .before .before .before .before .before .before .before .before .before .before .before .before .before .before .before .before .before .before .before .larger .ensures, P .sound .joint) (layable _ _ _ _ (P .sound .first) (P .sound .second)), search needs, search needs, search needs)
+    let P = c .before .before .before .before .before .before .before .before .before .before .before .before .before .before .before .before .before .before .before .before .before .before .before .before .before .before .before .before .before .pre .0 in
+    (rw (c .before .before .before .before .before .before .before .before .before .before .before .before .before .before .before .before .before .before .before .before .before .larger .ensures, P .sound .joint) (layable _ _ _ _ (P .sound .first) (P .sound .second)))
 
 write-answers-requires : tie.Need-write-answers-requires
 write-answers-requires c κs =
-    let P = c .before .before .before .before .before .before .before .before .before .before .before .before .before .before .before .before .before .before .before .before .before .before .before .before .before .before .before .before .before .before .before .before .before .before .before .before .before .before .before .before .before .before .pre in
-    let o = c .before .before .before .before .before .before .before .before .before .before .before .before .before .before .before .before .before .before .before .before .before .before .before .before .before .before .before .before .before .answer-book .kept .1 .1 .1 .1 .1 .1 .0 ∙ P .1 in
-    (c .before .before .before .before .before .before .before .before .before .before .before .before .before .before .before .before .before .answer-book2 .kept .1 .1 .1 .1 .1 .1 .0 ∙ P .2 ∙ sym o, omega (arith, o, P .0 .sound .rooms))
+    let P = c .before .before .before .before .before .before .before .before .before .before .before .before .before .before .before .before .before .before .before .before .before .before .before .before .before .before .before .before .before .before .before .before .before .pre in
+    let o = c .before .before .before .before .before .before .before .before .before .before .before .before .before .before .before .before .before .before .before .before .answer-book .kept .1 .1 .1 .1 .1 .1 .0 ∙ P .1 in
+    (c .before .before .before .before .before .before .before .before .before .before .before .answer-book2 .kept .1 .1 .1 .1 .1 .1 .0 ∙ P .2 ∙ sym o, omega (arith, o, P .0 .sound .rooms))
 
 same-length-4 : tie.Need-same-length-4
-same-length-4 c = search needs
+same-length-4 c = c .before .before .before .before .before .before .before .before .before .before .before .before .before .before .before .before .before .before .before .before .before .before .before .answer-book .kept .1 .1 .1 .1 .1 .1 .0
 
 same-length-5 : tie.Need-same-length-5
-same-length-5 c = search needs
+same-length-5 c = c .before .before .before .before .before .before .before .before .before .before .before .before .before .before .answer-book2 .kept .1 .1 .1 .1 .1 .1 .0
 
 same-length-6 : tie.Need-same-length-6
-same-length-6 c = search needs
+same-length-6 c = c .before .before .write-answers .kept .1 .1 .0
 
 returns-3 : tie.Need-returns-3
 returns-3 c =
-    let P = c .before .before .before .before .before .before .before .before .before .before .before .before .before .before .before .before .before .before .before .before .before .before .before .before .before .before .before .before .before .before .before .before .before .before .before .before .before .before .before .before .before .before .before .before .before .pre .0 in
-    both-judged _ _ _ _ (P .sound .first) (P .sound .second) (P .fit) _ _ _ _ (rw (c .before .before .before .before .before .before .before .before .before .before .before .before .before .before .before .before .before .before .before .before .before .before .before .before .before .before .before .before .before .before .before .before .before .before .before .before .before .larger .ensures) at (c .before .before .before .before .before .before .before .before .before .before .before .before .before .before .before .before .before .before .before .before .before .before .before .before .before .before .before .before .before .before .before .before .answer-book .ensures)) (rw (c .before .before .before .before .before .before .before .before .before .before .before .before .before .before .before .before .before .before .before .before .before .before .before .before .before .before .before .before .before .before .before .before .before .before .before .before .before .larger .ensures) at (c .before .before .before .before .before .before .before .before .before .before .before .before .before .before .before .before .before .before .before .before .answer-book2 .ensures)) (c .before .before .before .before .before .before .before .before .before .before .before .before .before .before .before .before .before .before .before .before .before .before .before .before .before .enum-told .given .1) (c .before .before .before .before .before .before .before .before .before .before .before .before .before .enum-told2 .given .1)
-    (rw (c .before .before .before .before .before .before .before .before .before .before .before .before .before .before .before .before .before .before .before .before .before .before .before .before .before .before .before .before .before .before .before .before .before .before .before .before .before .larger .ensures, P .sound .joint) at (c .before .before .before .before .before .before .before .before .before .can-be-laid .ensures)) (c .before .before .write-answers .ensures)
+    let P = c .before .before .before .before .before .before .before .before .before .before .before .before .before .before .before .before .before .before .before .before .before .before .before .before .before .before .before .before .before .before .before .before .before .before .before .before .pre .0 in
+    both-judged _ _ _ _ (P .sound .first) (P .sound .second) (P .fit) _ _ _ _ (rw (c .before .before .before .before .before .before .before .before .before .before .before .before .before .before .before .before .before .before .before .before .before .before .before .before .before .before .before .before .larger .ensures) at (c .before .before .before .before .before .before .before .before .before .before .before .before .before .before .before .before .before .before .before .before .before .before .before .answer-book .ensures)) (rw (c .before .before .before .before .before .before .before .before .before .before .before .before .before .before .before .before .before .before .before .before .before .before .before .before .before .before .before .before .larger .ensures) at (c .before .before .before .before .before .before .before .before .before .before .before .before .before .before .answer-book2 .ensures)) (c .before .before .before .before .before .before .before .before .before .before .before .before .before .before .before .before .before .before .before .enum-told .given .1) (c .before .before .before .before .before .before .before .before .before .before .enum-told2 .given .1)
+    (rw (c .before .before .before .before .before .before .before .before .before .before .before .before .before .before .before .before .before .before .before .before .before .before .before .before .before .before .before .before .larger .ensures, P .sound .joint) at (c .before .before .before .before .before .before .can-be-laid .ensures)) (c .before .before .write-answers .ensures)
 
 pub judge-both-spec : {M : Type 1} → statement M
 judge-both-spec =
     tie.close
     (tie.spec
     larger-requires
-    slice-aggregate-answer-book
-    slice-aggregate-answer-book-2
-    slice-aggregate-answer-book-3
     answer-book-requires
     enum-known-one
     same-length
     returns
     enum-told
-    slice-aggregate-answer-book-4
-    slice-aggregate-answer-book-5
-    slice-aggregate-answer-book-6
     answer-book-requires-2
     enum-known-two
     same-length-2
     same-length-3
     returns-2
     enum-told-2
-    slice-aggregate-can-be-laid
-    slice-aggregate-can-be-laid-2
-    slice-aggregate-can-be-laid-3
     can-be-laid-requires
     write-answers-requires
     same-length-4

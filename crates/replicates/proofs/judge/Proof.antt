@@ -1,11 +1,11 @@
 -- `replicates::judge` meets its contract. Assumes nothing.
+use borrow.Author.Needs.{needs}
 use mathlib.Core.Path.{sym, _∙_}
 use Rattle.records.proofs.Accepted.{accepted}
 use Rattle.closure.proofs.VoidRows.{accepted-markable}
-use Rattle.settling.proofs.Settling.{settleable}
+use Rattle.settling.proofs.Settling.{settleable, settleable-alone}
 use Rattle.replicates.proofs.Rows.{passes}
 use Rattle.replicates.proofs.Calls.{clash-refused, part-refused, part-written}
-use borrow.Author.Needs.{needs}
 use Rattle.replicates.proofs.judge.Statement.{statement}
 use Rattle.replicates.proofs.judge.Tie as tie
 
@@ -15,38 +15,11 @@ slice-aggregate-mark-voids c = search needs
 mark-voids-requires : tie.Need-mark-voids-requires
 mark-voids-requires c κs = (accepted-markable (accepted _ _ (c .before .before .before .before .pre .0)), search needs)
 
-slice-aggregate-settle-stepped : tie.Need-slice-aggregate-settle-stepped
-slice-aggregate-settle-stepped c = search needs
+slice-aggregate-settle-alone : tie.Need-slice-aggregate-settle-alone
+slice-aggregate-settle-alone c = search needs
 
-slice-aggregate-settle-stepped-2 : tie.Need-slice-aggregate-settle-stepped-2
-slice-aggregate-settle-stepped-2 c = search needs
-
-slice-aggregate-settle-stepped-3 : tie.Need-slice-aggregate-settle-stepped-3
-slice-aggregate-settle-stepped-3 c = search needs
-
-slice-aggregate-settle-stepped-4 : tie.Need-slice-aggregate-settle-stepped-4
-slice-aggregate-settle-stepped-4 c = search needs
-
-slice-aggregate-settle-stepped-5 : tie.Need-slice-aggregate-settle-stepped-5
-slice-aggregate-settle-stepped-5 c = search needs
-
-slice-aggregate-settle-stepped-6 : tie.Need-slice-aggregate-settle-stepped-6
-slice-aggregate-settle-stepped-6 c = search needs
-
-slice-aggregate-settle-stepped-7 : tie.Need-slice-aggregate-settle-stepped-7
-slice-aggregate-settle-stepped-7 c = search needs
-
-slice-aggregate-settle-stepped-8 : tie.Need-slice-aggregate-settle-stepped-8
-slice-aggregate-settle-stepped-8 c = search needs
-
-slice-aggregate-settle-stepped-9 : tie.Need-slice-aggregate-settle-stepped-9
-slice-aggregate-settle-stepped-9 c = search needs
-
-slice-aggregate-settle-stepped-10 : tie.Need-slice-aggregate-settle-stepped-10
-slice-aggregate-settle-stepped-10 c = search needs
-
-settle-stepped-requires : tie.Need-settle-stepped-requires
-settle-stepped-requires c κs = (settleable _ _ (c .before .before .before .before .before .before .before .before .before .before .before .before .before .before .before .before .pre .0), search needs, search needs, search needs, search needs, search needs, c .before .before .before .before .before .before .before .before .before .before .before .mark-voids .ensures .0)
+settle-alone-requires : tie.Need-settle-alone-requires
+settle-alone-requires c κs = (settleable-alone (settleable _ _ (c .before .before .before .before .before .before .before .before .before .before .before .before .pre .0)), c .before .before .before .before .before .before .before .mark-voids .ensures .0)
 
 enum-known-settled : tie.Need-enum-known-settled
 enum-known-settled c = search needs
@@ -72,48 +45,32 @@ enum-known-fit-2 c = search needs
 slice-aggregate-write-part : tie.Need-slice-aggregate-write-part
 slice-aggregate-write-part c = search needs
 
-slice-aggregate-write-part-2 : tie.Need-slice-aggregate-write-part-2
-slice-aggregate-write-part-2 c = search needs
-
-slice-aggregate-write-part-3 : tie.Need-slice-aggregate-write-part-3
-slice-aggregate-write-part-3 c = search needs
-
-slice-aggregate-write-part-4 : tie.Need-slice-aggregate-write-part-4
-slice-aggregate-write-part-4 c = search needs
-
-slice-aggregate-write-part-5 : tie.Need-slice-aggregate-write-part-5
-slice-aggregate-write-part-5 c = search needs
-
-slice-aggregate-write-part-6 : tie.Need-slice-aggregate-write-part-6
-slice-aggregate-write-part-6 c = search needs
-
 write-part-requires : tie.Need-write-part-requires
 write-part-requires c κs =
-    let A = c .before .before .before .before .before .before .before .before .before .before .before .before .before .before .before .before .before .before .before .before .before .before .before .before .before .before .before .before .before .before .before .before .before .before .before .before .before .before .before .before .args in
-    let O = c .before .before .before .before .before .before .before .before .before .before .before .before .before .before .before .before .before .before .before .before .before .before .before .settle-stepped .ensures .0 .free _ _ (c .before .before .before .before .before .before .before .before .before .before .before .before .settled2 .given .1) in
-    let W = c .before .before .before .before .before .before .before .before .before .before .before .before .before .before .before .before .before .before .before .before .before .before .before .settle-stepped .ensures .1 .free _ _ (c .before .before .before .before .before .before .before .before .before .before .before .before .settled2 .given .1) in
+    let A = c .before .before .before .before .before .before .before .before .before .before .before .before .before .before .before .before .before .before .before .before .before .before .before .before .before .before .before .args in
+    let O = c .before .before .before .before .before .before .before .before .before .before .before .before .before .before .settle-alone .ensures .0 .free _ _ (c .before .before .before .before .before .before .before .before .before .before .before .before .settled2 .given .1) in
+    let W = c .before .before .before .before .before .before .before .before .before .before .before .before .before .before .settle-alone .ensures .1 .free _ _ (c .before .before .before .before .before .before .before .before .before .before .before .before .settled2 .given .1) in
     record {
-      sound = c .before .before .before .before .before .before .before .before .before .before .before .before .before .before .before .before .before .before .before .before .before .before .before .before .before .before .before .before .before .before .before .before .before .before .before .before .before .before .before .before .pre .0;
-      void = c .before .before .before .before .before .before .before .before .before .before .before .before .before .before .before .before .before .before .before .before .before .before .before .before .before .before .before .before .before .before .before .before .before .before .before .mark-voids .ensures;
+      sound = c .before .before .before .before .before .before .before .before .before .before .before .before .before .before .before .before .before .before .before .before .before .before .before .before .before .before .before .pre .0;
+      void = c .before .before .before .before .before .before .before .before .before .before .before .before .before .before .before .before .before .before .before .before .before .before .mark-voids .ensures;
       free = O .is;
       steps = W;
       parts = O .parts;
-      scratch = search needs;
       fits = passes (A .n) _ _ (A .log .now) (A .window) (sym (c .before .before .before .before .before .before .before .before .before .before .check-part .ensures) ∙ c .before .before .before .before .before .before .before .before .fit2 .given .1) .0;
-      wide = c .before .before .before .before .before .before .before .before .before .before .before .before .before .before .before .before .before .before .before .before .before .before .before .before .before .before .before .before .before .before .before .before .before .before .before .before .before .before .before .before .pre .1;
+      wide = c .before .before .before .before .before .before .before .before .before .before .before .before .before .before .before .before .before .before .before .before .before .before .before .before .before .before .before .pre .1;
     }
 
 returns : tie.Need-returns
 returns c =
-    let A = c .before .before .before .before .before .before .before .before .before .before .before .before .before .before .before .before .before .before .before .before .before .before .before .before .before .before .before .before .before .before .args in
-    clash-refused (A .book .now) (A .n) (c .before .before .before .before .before .before .before .before .before .before .before .before .before .before .before .before .before .before .before .before .before .before .before .before .before .before .before .before .before .before .pre .0) (A .window) (A .log .now) (A .out .now) _ _ (c .refuse .ensures)
-    (rw (c .before .before .before .before .before .before .before .before .before .before .before .before .before .before .before .before .before .before .before .before .before .before .before .before .before .mark-voids .ensures .1) at (c .before .before .before .before .before .before .before .before .before .before .before .before .before .settle-stepped .ensures .0 .clash _ (c .before .before .settled .given .1)))
+    let A = c .before .before .before .before .before .before .before .before .before .before .before .before .before .before .before .before .before .args in
+    clash-refused (A .book .now) (A .n) (c .before .before .before .before .before .before .before .before .before .before .before .before .before .before .before .before .before .pre .0) (A .window) (A .log .now) (A .out .now) _ _ (c .refuse .ensures)
+    (rw (c .before .before .before .before .before .before .before .before .before .before .before .before .mark-voids .ensures .1) at (c .before .before .before .before .settle-alone .ensures .0 .clash _ (c .before .before .settled .given .1)))
 
 returns-2 : tie.Need-returns-2
 returns-2 c =
-    let A = c .before .before .before .before .before .before .before .before .before .before .before .before .before .before .before .before .before .before .before .before .before .before .before .before .before .before .before .before .before .before .before .before .before .before .args in
-    part-refused (A .book .now) (A .n) (c .before .before .before .before .before .before .before .before .before .before .before .before .before .before .before .before .before .before .before .before .before .before .before .before .before .before .before .before .before .before .before .before .before .before .pre .0) (A .window) (A .log .now) (A .out .now)
-    (rw (c .before .before .before .before .before .before .before .before .before .before .before .before .before .before .before .before .before .before .before .before .before .before .before .before .before .before .before .before .before .mark-voids .ensures .1) at (c .before .before .before .before .before .before .before .before .before .before .before .before .before .before .before .before .before .settle-stepped .ensures .0 .free _ _ (c .before .before .before .before .before .before .settled2 .given .1))) _ _ _ (c .refuse2 .ensures)
+    let A = c .before .before .before .before .before .before .before .before .before .before .before .before .before .before .before .before .before .before .before .before .before .args in
+    part-refused (A .book .now) (A .n) (c .before .before .before .before .before .before .before .before .before .before .before .before .before .before .before .before .before .before .before .before .before .pre .0) (A .window) (A .log .now) (A .out .now)
+    (rw (c .before .before .before .before .before .before .before .before .before .before .before .before .before .before .before .before .mark-voids .ensures .1) at (c .before .before .before .before .before .before .before .before .settle-alone .ensures .0 .free _ _ (c .before .before .before .before .before .before .settled2 .given .1) .is)) (c .before .before .before .before .before .before .before .before .settle-alone .ensures .2 .free _ _ (c .before .before .before .before .before .before .settled2 .given .1)) _ _ _ (c .refuse2 .ensures)
     (sym (c .before .before .fit .given .1) ∙ c .before .before .before .before .check-part .ensures)
 
 same-length : tie.Need-same-length
@@ -121,10 +78,10 @@ same-length c = search needs
 
 returns-3 : tie.Need-returns-3
 returns-3 c =
-    let A = c .before .before .before .before .before .before .before .before .before .before .before .before .before .before .before .before .before .before .before .before .before .before .before .before .before .before .before .before .before .before .before .before .before .before .before .before .before .before .before .before .before .before .before .before .args in
-    part-written (A .book .now) (A .n) (c .before .before .before .before .before .before .before .before .before .before .before .before .before .before .before .before .before .before .before .before .before .before .before .before .before .before .before .before .before .before .before .before .before .before .before .before .before .before .before .before .before .before .before .before .pre .0) (A .window) (A .log .now) (A .out .now)
-    (rw (c .before .before .before .before .before .before .before .before .before .before .before .before .before .before .before .before .before .before .before .before .before .before .before .before .before .before .before .before .before .before .before .before .before .before .before .before .before .before .before .mark-voids .ensures .1) at (c .before .before .before .before .before .before .before .before .before .before .before .before .before .before .before .before .before .before .before .before .before .before .before .before .before .before .before .settle-stepped .ensures .0 .free _ _ (c .before .before .before .before .before .before .before .before .before .before .before .before .before .before .before .before .settled2 .given .1))) _ _ _ _ _
-    (sym (c .before .before .before .before .before .before .before .before .before .before .before .before .fit2 .given .1) ∙ c .before .before .before .before .before .before .before .before .before .before .before .before .before .before .check-part .ensures) (c .before .before .before .write-part .ensures .0) (c .before .before .before .write-part .ensures .1)
+    let A = c .before .before .before .before .before .before .before .before .before .before .before .before .before .before .before .before .before .before .before .before .before .before .before .before .before .before .before .before .before .before .args in
+    part-written (A .book .now) (A .n) (c .before .before .before .before .before .before .before .before .before .before .before .before .before .before .before .before .before .before .before .before .before .before .before .before .before .before .before .before .before .before .pre .0) (A .window) (A .log .now) (A .out .now)
+    (rw (c .before .before .before .before .before .before .before .before .before .before .before .before .before .before .before .before .before .before .before .before .before .before .before .before .before .mark-voids .ensures .1) at (c .before .before .before .before .before .before .before .before .before .before .before .before .before .before .before .before .before .settle-alone .ensures .0 .free _ _ (c .before .before .before .before .before .before .before .before .before .before .before .before .before .before .before .settled2 .given .1) .is)) (c .before .before .before .before .before .before .before .before .before .before .before .before .before .before .before .before .before .settle-alone .ensures .2 .free _ _ (c .before .before .before .before .before .before .before .before .before .before .before .before .before .before .before .settled2 .given .1)) _ _ _ _ _
+    (sym (c .before .before .before .before .before .before .before .before .before .before .before .fit2 .given .1) ∙ c .before .before .before .before .before .before .before .before .before .before .before .before .before .check-part .ensures) (c .before .before .write-part .ensures .0) (c .before .before .write-part .ensures .1)
 
 pub judge-spec : {M : Type 1} → statement M
 judge-spec =
@@ -132,17 +89,8 @@ judge-spec =
     (tie.spec
     slice-aggregate-mark-voids
     mark-voids-requires
-    slice-aggregate-settle-stepped
-    slice-aggregate-settle-stepped-2
-    slice-aggregate-settle-stepped-3
-    slice-aggregate-settle-stepped-4
-    slice-aggregate-settle-stepped-5
-    slice-aggregate-settle-stepped-6
-    slice-aggregate-settle-stepped-7
-    slice-aggregate-settle-stepped-8
-    slice-aggregate-settle-stepped-9
-    slice-aggregate-settle-stepped-10
-    settle-stepped-requires
+    slice-aggregate-settle-alone
+    settle-alone-requires
     enum-known-settled
     refuse-requires
     enum-known-settled-2
@@ -151,11 +99,6 @@ judge-spec =
     refuse-requires-2
     enum-known-fit-2
     slice-aggregate-write-part
-    slice-aggregate-write-part-2
-    slice-aggregate-write-part-3
-    slice-aggregate-write-part-4
-    slice-aggregate-write-part-5
-    slice-aggregate-write-part-6
     write-part-requires
     returns
     returns-2

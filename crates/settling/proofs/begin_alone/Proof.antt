@@ -19,7 +19,7 @@ begin-requires : tie.Need-begin-requires
 begin-requires c κs = search needs
 
 returns : tie.Need-returns
-returns c = search needs
+returns c = let B = c .before .before .before .before .begin .ensures in (B .0, B .1, (B .2 .nodes-are, B .2 .shadowed-are))
 
 pub begin-alone-spec : {M : Type 1} → statement M
 begin-alone-spec =
