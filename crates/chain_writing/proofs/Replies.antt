@@ -202,8 +202,8 @@ module _ (n : ℕ) (claim : Record) (s c : List ℕ) (room : 164000 ≤ length c
 -- ---- the rows
 
 pub ground-of :
-    (n : ℕ) (claim : Record) (s voids run : List ℕ) {parens marks shadows places e d t : List ℕ} {nodes shadowed : ℕ} → bookCheck s ≡ book.Accepted n → MarksOf s voids → run ≡ picked s claim
-    → Opened (voidOf voids) n (facts run) parens marks shadows places nodes shadowed d t false → Holds e (edgeBit n (facts run)) → Ground n claim s voids e d t
+    (n : ℕ) (claim : Record) (s voids run : List ℕ) {e d t : List ℕ} → bookCheck s ≡ book.Accepted n → MarksOf s voids → run ≡ picked s claim
+    → Opened (voidOf voids) n (facts run) d t false → Holds e (edgeBit n (facts run)) → Ground n claim s voids e d t
 ground-of n claim s voids run sound M q O E =
     record {
       sound = sound;
@@ -215,8 +215,7 @@ ground-of n claim s voids run sound M q O E =
     }
 
 pub by-marks :
-    {n : ℕ} (s voids run : List ℕ) {parens marks shadows places d t : List ℕ} {nodes shadowed : ℕ} → MarksOf s voids → Opened (voidOf voids) n (facts run) parens marks shadows places nodes shadowed d t false
-    → Opened (marked s) n (facts run) parens marks shadows places nodes shadowed d t false
+    {n : ℕ} (s voids run : List ℕ) {d t : List ℕ} → MarksOf s voids → Opened (voidOf voids) n (facts run) d t false → Opened (marked s) n (facts run) d t false
 by-marks s voids run M O = rw (M .1) at O
 
 module _ (n : ℕ) (claim : Record) (s c : List ℕ) (sound : bookCheck s ≡ book.Accepted n) where
@@ -228,14 +227,15 @@ module _ (n : ℕ) (claim : Record) (s c : List ℕ) (sound : bookCheck s ≡ bo
   judged-clash place r q C = silent (Refused Contradiction place) refl r q (ap (replyOf claim s) (refuses s n (own-count sound) place C))
 
   pub judged-free :
-      {parens marks shadows places d t : List ℕ} {nodes shadowed : ℕ} → Opened (marked s) n (facts s) parens marks shadows places nodes shadowed d t false → (r : Chain) {c′ : List ℕ}
+      {d t : List ℕ} → Opened (marked s) n (facts s) d t false → (r : Chain) {c′ : List ℕ}
       → Answering n claim s c r c′ → Judged n claim s c r c′
   unfolding replyOf
-  judged-free {nodes = nodes} {shadowed = shadowed} O r A =
+  judged-free O r A =
+      let a = accepts s n (own-count sound) _ _ (O .is) refl refl in
       record {
-        reply-is = A .reply-is ∙ ap (replyOf claim s) (accepts s n (own-count sound) nodes shadowed (O .is) (O .index .nodes-are) (O .index .shadowed-are));
+        reply-is = A .reply-is ∙ ap (replyOf claim s) a;
         steps-are = A .steps-are;
-        accepted = λ z. (nodes, shadowed, sym (accepts s n (own-count sound) nodes shadowed (O .is) (O .index .nodes-are) (O .index .shadowed-are)));
+        accepted = λ z. (_, _, sym a);
         none = A .none;
         behind = A .behind;
       }

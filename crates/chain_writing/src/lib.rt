@@ -13,6 +13,8 @@ ghost use Rattle.records.specs.declared.BookCheck.the-variants as is;
 ghost use Rattle.answering.specs.Counted.{MarksOf};
 ghost use Rattle.chain_writing.specs.Found.{Ground};
 ghost use Rattle.chain_writing.specs.declared.Reply.the-variants.{Refused};
+ghost use Rattle.settling.specs.Opened.{Opened};
+ghost use Rattle.closure.specs.Void.{voidOf};
 ghost use Rattle.chain_writing.specs.Call.{Answering, Judged, Written};
 use closure::Answer;
 use records::BookCheck;
@@ -45,9 +47,9 @@ fn write_found(
     claim: Record,
     book: &[u8],
     voids: &[u64],
-    e: &[u64],
-    d: &[u64],
-    t: &[u64],
+    e: &[u64; 65536],
+    d: &[u64; 65536],
+    t: &[u64; 65536],
     c: &mut [u8],
 ) -> Chain
     requires { ⌜ Ground n claim (now book) (now voids) (now e) (now d) (now t) × (stated claim ≡ true) × Within n (saying claim) × (164000 ≤ length (now c)) ⌝ }
@@ -76,39 +78,44 @@ fn write_found(
     }
 }
 
+// An unrestricted claim: from the D and T of the book. The stored steps are put into e.
+fn write_whole(
+    n: usize,
+    claim: Record,
+    book: &[u8],
+    voids: &[u64],
+    e: &mut [u64; 65536],
+    d: &[u64; 65536],
+    t: &[u64; 65536],
+    c: &mut [u8],
+) -> Chain
+    requires { ⌜ (bookCheck (now book) ≡ is.Accepted n) × MarksOf (now book) (now voids) × Opened (voidOf (now voids)) n (facts (now book)) (now d) (now t) false × (claim .origin ≡ 0) × (stated claim ≡ true) × Within n (saying claim) × (164000 ≤ length (now c)) ⌝ }
+    ensures { λ r. ⌜ Answering n claim (now (book .entry)) (now (c .entry)) r (now (c .exit)) ⌝ }
+{
+    closure::edges(book, n, e);
+    write_found(n, claim, book, voids, e, d, t, c)
+}
+
 // A restricted claim: from the steps, D and T of the cutting sheets, for which the matrices are used again. Steps cite the records by their numbers in the book.
 fn write_restricted(
     n: usize,
     claim: Record,
     book: &[u8],
     voids: &[u64],
-    e: &mut [u64],
-    d: &mut [u64],
-    t: &mut [u64],
+    e: &mut [u64; 65536],
+    d: &mut [u64; 65536],
+    t: &mut [u64; 65536],
     c: &mut [u8],
 ) -> Chain
-    requires { ⌜ (bookCheck (now book) ≡ is.Accepted n) × MarksOf (now book) (now voids) × (false ≡ clash (marked (now book)) n (facts (now book))) × (length (now e) ≡ 65536) × (length (now d) ≡ 65536) × (length (now t) ≡ 65536) × ((claim .origin ≡ 0) → ⊥) × (stated claim ≡ true) × Within n (saying claim) × (164000 ≤ length (now c)) ⌝ }
+    requires { ⌜ (bookCheck (now book) ≡ is.Accepted n) × MarksOf (now book) (now voids) × (false ≡ clash (marked (now book)) n (facts (now book))) × ((claim .origin ≡ 0) → ⊥) × (stated claim ≡ true) × Within n (saying claim) × (164000 ≤ length (now c)) ⌝ }
     ensures { λ r. ⌜ Answering n claim (now (book .entry)) (now (c .entry)) r (now (c .exit)) ⌝ }
 {
     let mut kept = [0u8; 49152];
-    let mut parens = [0u8; 2560];
-    let mut marks = [0u8; 1280];
-    let mut shadows = [0u16; 8192];
-    let mut places = [0u16; 2048];
+    let mut order = [0u16; 2048];
+    let mut lead = [0u16; 2048];
     let length = records::keep_sheets(book, &mut kept);
     let run = &kept[..length];
-    settling::settle(
-        run,
-        n,
-        voids,
-        e,
-        d,
-        t,
-        &mut parens,
-        &mut marks,
-        &mut shadows,
-        &mut places,
-    );
+    settling::settle_alone(run, n, voids, e, &mut order, &mut lead, d, t);
     closure::edges(run, n, e);
     write_found(n, claim, book, voids, e, d, t, c)
 }
@@ -122,7 +129,7 @@ fn refuse(refusal: Refusal, place: usize) -> Chain
     }
 }
 
-// Row 14 and the chain, for a book and a claim that pass the rows before. To settling e is scratch: the stored steps are put there behind it.
+// Row 14 and the chain, for a book and a claim that pass the rows before.
 fn judge(book: &[u8], n: usize, claim: Record, c: &mut [u8]) -> Chain
     requires { ⌜ (bookCheck (now book) ≡ is.Accepted n) × (stated claim ≡ true) × Within n (saying claim) × (164000 ≤ length (now c)) ⌝ }
     ensures { λ r. ⌜ Judged n claim (now (book .entry)) (now (c .entry)) r (now (c .exit)) ⌝ }
@@ -130,30 +137,25 @@ fn judge(book: &[u8], n: usize, claim: Record, c: &mut [u8]) -> Chain
     let mut voids = [0u64; 32];
     closure::marking::mark_voids(book, &mut voids);
     let mut e = [0u64; 65536];
+    let mut order = [0u16; 2048];
+    let mut lead = [0u16; 2048];
     let mut d = [0u64; 65536];
     let mut t = [0u64; 65536];
-    let mut parens = [0u8; 2560];
-    let mut marks = [0u8; 1280];
-    let mut shadows = [0u16; 8192];
-    let mut places = [0u16; 2048];
-    let settled = settling::settle(
+    let settled = settling::settle_alone(
         book,
         n,
         &voids,
         &mut e,
+        &mut order,
+        &mut lead,
         &mut d,
         &mut t,
-        &mut parens,
-        &mut marks,
-        &mut shadows,
-        &mut places,
     );
     match settled {
         Settled::Clash(place) => refuse(Refusal::Contradiction, place),
         Settled::Free(_, _) => {
             if claim.origin == 0 {
-                closure::edges(book, n, &mut e);
-                return write_found(n, claim, book, &voids, &e, &d, &t, c);
+                return write_whole(n, claim, book, &voids, &mut e, &d, &t, c);
             }
             write_restricted(n, claim, book, &voids, &mut e, &mut d, &mut t, c)
         }

@@ -92,7 +92,13 @@ fn join(first: &[u8], second: &[u8], run: &mut [u8]) -> usize
 }
 
 // Whether the records of a run can be laid in ice, all its marks counting. The matrices are scratch.
-fn can_be_laid(run: &[u8], n: usize, e: &mut [u64; 65536], d: &mut [u64; 65536], t: &mut [u64; 65536]) -> bool
+fn can_be_laid(
+    run: &[u8],
+    n: usize,
+    e: &mut [u64; 65536],
+    d: &mut [u64; 65536],
+    t: &mut [u64; 65536],
+) -> bool
     requires { ⌜ Layable (now run) n ⌝ }
     ensures { λ r. ⌜ r ≡ not (clash (marked (now (run .entry))) n (facts (now (run .entry)))) ⌝ }
 {

@@ -58,7 +58,14 @@ fn settle(book: &[u8], n: usize) -> Settled
     let mut d = [0u64; 65536];
     let mut t = [0u64; 65536];
     settling::settle_alone(
-        book, n, &voids, &mut e, &mut order, &mut lead, &mut d, &mut t,
+        book,
+        n,
+        &voids,
+        &mut e,
+        &mut order,
+        &mut lead,
+        &mut d,
+        &mut t,
     )
 }
 

@@ -293,7 +293,14 @@ fn judge(book: &[u8], n: usize, window: Window, log: &[u8], out: &mut [u8]) -> R
     let mut d = [0u64; 65536];
     let mut t = [0u64; 65536];
     let settled = settling::settle_alone(
-        book, n, &voids, &mut e, &mut order, &mut lead, &mut d, &mut t,
+        book,
+        n,
+        &voids,
+        &mut e,
+        &mut order,
+        &mut lead,
+        &mut d,
+        &mut t,
     );
     match settled {
         Settled::Clash(place) => refuse(Refusal::Contradiction, place, window),
