@@ -20,14 +20,13 @@ use Rattle.parentheses.specs.Padded.{padded}
 use Rattle.parentheses.proofs.Paddeds.{padded-length}
 use Rattle.index.specs.Index.{visitsOf}
 use Rattle.groups.specs.Groups.{number, groups}
-use Rattle.groups.specs.Index.{edges, bookVisits, bookPlaces}
+use Rattle.groups.specs.Index.{edges, bookVisits, bookPlaces, BookIndex}
 use Rattle.groups.proofs.Numbered.{number-below}
 use Rattle.index.specs.Tree.{visits, whole}
 use Rattle.index.specs.Parts as on
 use Rattle.index.proofs.Packing.{padded-at}
 use Rattle.index.proofs.Standing.{place-small}
 use Rattle.closure.specs.Bounded.{Bounded}
-use Rattle.settling.specs.Opened.{Opened}
 use Rattle.settling.proofs.GroupIndex as of
 use Rattle.settling.proofs.Settling.{settleable, settled-room}
 use Rattle.answers.specs.Call.{pairsOf}
@@ -67,10 +66,9 @@ module _ (s : List ℕ) (n : ℕ) (sound : bookCheck s ≡ book.Accepted n) wher
 
   -- the place list of a free book as it stands in its index
   pub places-are :
-      {parens marks shadows places d t : List ℕ} {nodes shadowed : ℕ} {void : ℕ → Bool} → Opened void n (facts s) parens marks shadows places nodes shadowed d t false → length places ≡ 2048
-      → places ≡ placesOf s n
+      {parens marks shadows places : List ℕ} {nodes shadowed : ℕ} → BookIndex n (pairsOf s) parens marks shadows places nodes shadowed → length places ≡ 2048 → places ≡ placesOf s n
   unfolding placesOf
-  places-are O l = O .index .places-are ∙ ap (λ (k : ℕ). padded 0 k (bookPlaces n (pairsOf s))) l
+  places-are I l = I .places-are ∙ ap (λ (k : ℕ). padded 0 k (bookPlaces n (pairsOf s))) l
 
 -- the list, the areas and the counts
 pub filled-all :

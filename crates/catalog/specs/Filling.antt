@@ -33,12 +33,11 @@ pub record Asked (n k g : ℕ) : Type 0 where
   pub most : k ≤ 3
   pub piece : g < n
 
--- a book that is not contradictory, its marks, its D and T, the place list of its index, and a matrix to work in
-pub record Settled (s : List ℕ) (n : ℕ) (voids m d t places : List ℕ) : Type 0 where
+-- a book that is not contradictory, its marks, its D and T, and the place list of its index
+pub record Settled (s : List ℕ) (n : ℕ) (voids d t places : List ℕ) : Type 0 where
   pub sound : bookCheck s ≡ book.Accepted n
   pub void : MarksOf s voids
   pub free : false ≡ clash (voidOf voids) n (facts s)
-  pub sized : length m ≡ 65536
   pub parts : Holds d (partBit n (facts s))
   pub toward : Holds t (towardBit (voidOf voids) n (facts s))
   pub placed : places ≡ placesOf s n

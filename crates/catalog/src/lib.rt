@@ -39,16 +39,16 @@ fn fill(
     nodes: usize,
     shadowed: usize,
     voids: &[u64],
-    m: &mut [u64],
-    d: &[u64],
-    t: &[u64],
+    m: &mut [u64; 65536],
+    d: &[u64; 65536],
+    t: &[u64; 65536],
     places: &[u16],
     list: &mut [u16],
     meets: &mut [u16],
     apart: &mut [u16],
     notpart: &mut [u16],
 ) -> Counts
-    requires { ⌜ Asked n kind g × Settled (now book) n (now voids) (now m) (now d) (now t) (now places) × Roomy (length (now list)) (length (now meets)) (length (now apart)) (length (now notpart)) ⌝ }
+    requires { ⌜ Asked n kind g × Settled (now book) n (now voids) (now d) (now t) (now places) × Roomy (length (now list)) (length (now meets)) (length (now apart)) (length (now notpart)) ⌝ }
     ensures { λ r. ⌜ Filled (now (book .entry)) kind g n nodes shadowed (now (list .entry)) (now (meets .entry)) (now (apart .entry)) (now (notpart .entry)) r (now (list .exit)) (now (meets .exit)) (now (apart .exit)) (now (notpart .exit)) ⌝ }
 {
     let listed = pieces::list_pieces(book, n, kind, g, voids, d, t, m, list);
@@ -87,6 +87,8 @@ fn judge(
     let mut voids = [0u64; 32];
     closure::marking::mark_voids(book, &mut voids);
     let mut e = [0u64; 65536];
+    let mut order = [0u16; 2048];
+    let mut lead = [0u16; 2048];
     let mut d = [0u64; 65536];
     let mut t = [0u64; 65536];
     let settled = settling::settle(
@@ -94,6 +96,8 @@ fn judge(
         n,
         &voids,
         &mut e,
+        &mut order,
+        &mut lead,
         &mut d,
         &mut t,
         parens,

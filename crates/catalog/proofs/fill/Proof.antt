@@ -7,7 +7,7 @@ use Rattle.catalog.proofs.fill.Tie as tie
 
 list-pieces-requires : tie.Need-list-pieces-requires
 list-pieces-requires c κs =
-    let P = c .before .before .before .before .before .before .before .before .before .before .before .before .pre in
+    let P = c .before .before .before .before .before .before .before .before .before .before .before .pre in
     let B = book-bounded _ _ (P .1 .sound) in
     let h = B .fits in
     let r = P .2 .list-long in
@@ -15,21 +15,21 @@ list-pieces-requires c κs =
 
 fill-area-requires : tie.Need-fill-area-requires
 fill-area-requires c κs =
-    let P = c .before .before .before .before .before .before .before .before .before .before .before .before .before .before .before .before .before .before .before .pre in
+    let P = c .before .before .before .before .before .before .before .before .before .before .before .before .before .before .before .before .pre in
     let B = book-bounded _ _ (P .1 .sound) in
     let W = places-fit _ _ (P .1 .sound) _ (P .1 .placed) in
     (B .within, book-few _ _ (P .1 .sound), B .fits, W .0, W .1, search needs, search needs, search needs, search needs)
 
 fill-area-requires-2 : tie.Need-fill-area-requires-2
 fill-area-requires-2 c κs =
-    let P = c .before .before .before .before .before .before .before .before .before .before .before .before .before .before .before .before .before .before .before .before .before .before .before .before .before .before .pre in
+    let P = c .before .before .before .before .before .before .before .before .before .before .before .before .before .before .before .before .before .before .before .before .before .pre in
     let B = book-bounded _ _ (P .1 .sound) in
     let W = places-fit _ _ (P .1 .sound) _ (P .1 .placed) in
     (B .within, book-few _ _ (P .1 .sound), B .fits, W .0, W .1, search needs, search needs, search needs, search needs)
 
 fill-area-requires-3 : tie.Need-fill-area-requires-3
 fill-area-requires-3 c κs =
-    let P = c .before .before .before .before .before .before .before .before .before .before .before .before .before .before .before .before .before .before .before .before .before .before .before .before .before .before .before .before .before .before .before .before .before .pre in
+    let P = c .before .before .before .before .before .before .before .before .before .before .before .before .before .before .before .before .before .before .before .before .before .before .before .before .before .before .pre in
     let B = book-bounded _ _ (P .1 .sound) in
     let W = places-fit _ _ (P .1 .sound) _ (P .1 .placed) in
     (B .within, book-few _ _ (P .1 .sound), B .fits, W .0, W .1, search needs, search needs, search needs, search needs)
@@ -46,13 +46,10 @@ same-length-3 c = search needs
 same-length-4 : tie.Need-same-length-4
 same-length-4 c = search needs
 
-same-length-5 : tie.Need-same-length-5
-same-length-5 c = search needs
-
 returns : tie.Need-returns
 returns c =
-    let P = c .before .before .before .before .before .before .before .before .before .before .before .before .before .before .before .before .before .before .before .before .before .before .before .before .before .before .before .before .before .before .before .before .before .before .before .before .before .before .pre in
-    filled-all _ _ _ _ _ _ _ (P .1 .placed) _ (P .1 .void .1) _ _ _ _ _ _ _ _ _ _ _ _ (c .before .before .before .before .before .before .before .before .before .before .before .before .before .before .before .before .before .before .before .before .before .before .before .before .before .list-pieces .ensures) (c .before .before .before .before .before .before .before .before .before .before .before .before .before .before .before .before .before .before .fill-area .ensures) (c .before .before .before .before .before .before .before .before .before .before .before .fill-area2 .ensures) (c .before .before .before .before .fill-area3 .ensures)
+    let P = c .before .before .before .before .before .before .before .before .before .before .before .before .before .before .before .before .before .before .before .before .before .before .before .before .before .before .before .before .before .pre in
+    filled-all _ _ _ _ _ _ _ (P .1 .placed) _ (P .1 .void .1) _ _ _ _ _ _ _ _ _ _ _ _ (c .before .before .before .before .before .before .before .before .before .before .before .before .before .before .before .before .before .list-pieces .ensures) (c .before .before .before .before .before .before .before .before .before .before .before .before .fill-area .ensures) (c .before .before .before .before .before .before .before .fill-area2 .ensures) (c .before .before .fill-area3 .ensures)
 
 pub fill-spec : {M : Type 1} → statement M
 fill-spec =
@@ -66,5 +63,4 @@ fill-spec =
     same-length-2
     same-length-3
     same-length-4
-    same-length-5
     returns)
