@@ -1,6 +1,6 @@
 -- What the whole call promises, row by row. Assumes nothing.
 use Prim.Native.Nat.{ℕ}
-use mathlib.Core.Path.{_≡_, refl, sym, ap, subst, _∙_}
+use mathlib.Core.Path.{_≡_, refl, sym, ap, ap₂, subst, _∙_}
 use mathlib.Core.Bool.{Bool, true, false, _||_, false≢true}
 use mathlib.Core.List.{List, [], _∷_}
 use native.Mathlib.Omega.{arith}
@@ -13,14 +13,16 @@ use Rattle.records.specs.Refusal.{refusalNumber}
 use Rattle.records.specs.Check.{bookCheck, claimsCheck}
 use Rattle.records.specs.declared.Refusal.{Refusal}
 use Rattle.records.specs.declared.Refusal.the-variants.{ShortBuffer}
+use Rattle.records.specs.declared.BookCheck.{BookCheck}
 use Rattle.records.specs.declared.BookCheck.the-variants as book
+use Rattle.records.specs.declared.ClaimsCheck.{ClaimsCheck}
 use Rattle.records.specs.declared.ClaimsCheck.the-variants as claims
 use Rattle.answers.specs.Lent.{Lent, lent, shortLent}
 use Rattle.answers.specs.Call.{byClaims, byBook, outcome, Passed, left, Determined}
 use Rattle.answers.specs.Outcome.{number, place, nodeCount}
 use Rattle.answers.specs.Demands.{Demand2, Demand3, Contradicted}
 use Rattle.answers.specs.Fitting.{Fitting}
-use Rattle.answers.specs.Judging.{Exact, Judged}
+use Rattle.answers.specs.Judging.{afterClaims, afterBook, rowsCheck, Exact, Judged}
 use Rattle.answers.specs.declared.Outcome.{Outcome}
 use Rattle.answers.specs.declared.Outcome.the-variants.{Refused}
 use Rattle.answers.proofs.Outcomes.{Other, book-other, claims-other, Told, runs-told, passed-outcome}
@@ -97,6 +99,40 @@ module _ (s cs : List ℕ) (l : Lent) where
           let p : Passed s cs l n = record { lent = ok; sound = sound; fit = fit } in
           let t : Told s cs l r = rw (J .outcome-is) (runs-told s cs l n p) in
           promised (J .outcome-is ∙ sym (passed-outcome s cs l n p), ap (put-back (records cs) l) (J .left-is) ∙ left-back s cs l r (long cs l ok) (fitted s cs l r t))
+
+-- rows 3 to 13 at once
+module _ (s cs : List ℕ) {n : ℕ} where
+  claims-passed :
+      {m : ℕ} → bookCheck s ≡ book.Accepted m → (c : ClaimsCheck) → claimsCheck m cs ≡ c → afterClaims m c ≡ book.Accepted n
+      → (bookCheck s ≡ book.Accepted n) × (claimsCheck n cs ≡ claims.Accepted)
+  unfolding afterClaims
+  claims-passed e (claims.Refused r i) f q = let z : _≡_ {A = ℕ} 0 1 = cc in absurd (omega arith)
+  claims-passed {m} e claims.Accepted f q = let x : m ≡ n = cc in (e ∙ q, subst (λ (k : ℕ). claimsCheck k cs ≡ claims.Accepted) x f)
+
+  book-passed : (b : BookCheck) → bookCheck s ≡ b → afterBook cs b ≡ book.Accepted n → (bookCheck s ≡ book.Accepted n) × (claimsCheck n cs ≡ claims.Accepted)
+  unfolding afterBook
+  book-passed (book.Refused r i) e q = let z : _≡_ {A = ℕ} 0 1 = cc in absurd (omega arith)
+  book-passed (book.Accepted m) e q = claims-passed e (claimsCheck m cs) refl q
+
+  pub rows-accepted : rowsCheck s cs ≡ book.Accepted n → (bookCheck s ≡ book.Accepted n) × (claimsCheck n cs ≡ claims.Accepted)
+  unfolding rowsCheck
+  rows-accepted q = book-passed (bookCheck s) refl q
+
+module _ (s cs : List ℕ) (l : Lent) (ok : shortLent cs l ≡ false) {r : Refusal} {i : ℕ} where
+  claims-told :
+      {m : ℕ} → bookCheck s ≡ book.Accepted m → (c : ClaimsCheck) → claimsCheck m cs ≡ c → afterClaims m c ≡ book.Refused r i → Promised s cs l (Refused r i) l
+  unfolding afterClaims
+  claims-told e (claims.Refused x j) f q = let a : x ≡ r = cc in let b : j ≡ i = cc in claims-refused s cs l ok e (f ∙ ap₂ claims.Refused a b)
+  claims-told e claims.Accepted f q = let z : _≡_ {A = ℕ} 0 1 = cc in absurd (omega arith)
+
+  book-told : (b : BookCheck) → bookCheck s ≡ b → afterBook cs b ≡ book.Refused r i → Promised s cs l (Refused r i) l
+  unfolding afterBook
+  book-told (book.Refused x j) e q = book-refused s cs l ok (e ∙ q)
+  book-told (book.Accepted m) e q = claims-told e (claimsCheck m cs) refl q
+
+  pub rows-refused : rowsCheck s cs ≡ book.Refused r i → Promised s cs l (Refused r i) l
+  unfolding rowsCheck
+  rows-refused q = book-told (bookCheck s) refl q
 
 -- with no answers
 empty : (x : List ℕ) → length x ≡ 0 → x ≡ []

@@ -4,12 +4,27 @@ use mathlib.Core.Path.{_≡_}
 use mathlib.Core.List.{List}
 use lib.ListN.{length, replicate}
 use Rattle.records.specs.Record.{records}
-use Rattle.records.specs.Check.{claimsCheck}
+use Rattle.records.specs.Check.{bookCheck, claimsCheck}
+use Rattle.records.specs.declared.BookCheck.{BookCheck}
+use Rattle.records.specs.declared.BookCheck.the-variants as book
+use Rattle.records.specs.declared.ClaimsCheck.{ClaimsCheck}
 use Rattle.records.specs.declared.ClaimsCheck.the-variants as claims
 use Rattle.answering.specs.Counted.{Counted}
 use Rattle.answers.specs.Lent.{Lent}
 use Rattle.answers.specs.Call.{byRuns, left}
 use Rattle.answers.specs.declared.Outcome.{Outcome}
+
+-- rows 3 to 13: the piece count, or the first refusal
+unfoldable pub afterClaims : ℕ → ClaimsCheck → BookCheck
+afterClaims n (claims.Refused r i) = book.Refused r i
+afterClaims n claims.Accepted = book.Accepted n
+
+unfoldable pub afterBook : List ℕ → BookCheck → BookCheck
+afterBook cs (book.Refused r i) = book.Refused r i
+afterBook cs (book.Accepted n) = afterClaims n (claimsCheck n cs)
+
+unfoldable pub rowsCheck : List ℕ → List ℕ → BookCheck
+rowsCheck s cs = afterBook cs (bookCheck s)
 
 -- zeroes of these lengths
 pub record Cleared (a b c d : ℕ) (parens marks shadows places : List ℕ) : Type 0 where

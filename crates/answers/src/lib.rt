@@ -10,7 +10,7 @@ ghost use Rattle.answers.specs.Fresh.{freshCall};
 ghost use Rattle.answers.specs.Outcome.{number, place, nodeCount};
 ghost use Rattle.answers.specs.Demands.{Demand2, Demand3, Contradicted};
 ghost use Rattle.answers.specs.Fitting.{Fitting};
-ghost use Rattle.answers.specs.Judging.{Cleared, Exact, Judged};
+ghost use Rattle.answers.specs.Judging.{rowsCheck, Cleared, Exact, Judged};
 use records::BookCheck;
 use records::ClaimsCheck;
 use records::Refusal;
@@ -91,38 +91,6 @@ pub fn judge_in(
     }
 }
 
-// The same in matrices of its own.
-fn judge(
-    book: &[u8],
-    n: usize,
-    claims: &[u8],
-    parens: &mut [u8],
-    marks: &mut [u8],
-    shadows: &mut [u16],
-    places: &mut [u16],
-    answers: &mut [u8],
-) -> Outcome
-    requires { ⌜ Exact (now book) n (now claims) (lent (now parens) (now marks) (now shadows) (now places) (now answers)) ⌝ }
-    ensures { λ r. ⌜ Judged (now (book .entry)) n (now (claims .entry)) (lent (now (parens .entry)) (now (marks .entry)) (now (shadows .entry)) (now (places .entry)) (now (answers .entry))) r (lent (now (parens .exit)) (now (marks .exit)) (now (shadows .exit)) (now (places .exit)) (now (answers .exit))) ⌝ }
-{
-    let mut e = [0u64; 65536];
-    let mut d = [0u64; 65536];
-    let mut t = [0u64; 65536];
-    judge_in(
-        book,
-        n,
-        claims,
-        &mut e,
-        &mut d,
-        &mut t,
-        parens,
-        marks,
-        shadows,
-        places,
-        answers,
-    )
-}
-
 // Row 1.
 pub fn short(
     parens: usize,
@@ -147,6 +115,23 @@ pub fn short(
         return true;
     }
     answers < claims
+}
+
+// Rows 3 to 13: the piece count of a book that passes them with its claims.
+fn check_rows(book: &[u8], claims: &[u8]) -> BookCheck
+    ensures { λ r. ⌜ r ≡ rowsCheck (now (book .entry)) (now (claims .entry)) ⌝ }
+{
+    let checked = records::check_book(book);
+    match checked {
+        BookCheck::Refused(refusal, place) => BookCheck::Refused(refusal, place),
+        BookCheck::Accepted(n) => {
+            let fit = records::check_claims(claims, n);
+            match fit {
+                ClaimsCheck::Refused(refusal, place) => BookCheck::Refused(refusal, place),
+                ClaimsCheck::Accepted => BookCheck::Accepted(n),
+            }
+        }
+    }
 }
 
 // Answers the claims about the book and writes the index. Demands 1 to 3 stand in the promises.
@@ -176,24 +161,26 @@ pub fn answer_claims(
     ) {
         return Outcome::Refused(Refusal::ShortBuffer, 0);
     }
-    let checked = records::check_book(book);
+    let checked = check_rows(book, claims);
     match checked {
         BookCheck::Refused(refusal, place) => Outcome::Refused(refusal, place),
         BookCheck::Accepted(n) => {
-            let fit = records::check_claims(claims, n);
-            match fit {
-                ClaimsCheck::Refused(refusal, place) => Outcome::Refused(refusal, place),
-                ClaimsCheck::Accepted => judge(
-                    book,
-                    n,
-                    claims,
-                    &mut parens[..2560],
-                    &mut marks[..1280],
-                    &mut shadows[..8192],
-                    &mut places[..2048],
-                    &mut answers[..asked],
-                ),
-            }
+            let mut e = [0u64; 65536];
+            let mut d = [0u64; 65536];
+            let mut t = [0u64; 65536];
+            judge_in(
+                book,
+                n,
+                claims,
+                &mut e,
+                &mut d,
+                &mut t,
+                &mut parens[..2560],
+                &mut marks[..1280],
+                &mut shadows[..8192],
+                &mut places[..2048],
+                &mut answers[..asked],
+            )
         }
     }
 }
