@@ -42,20 +42,20 @@ use Rattle.answers.specs.Call.{byRuns}
 use Rattle.answers.specs.One.{refuseIf}
 use Rattle.answers.specs.declared.Outcome.the-variants as call
 use Rattle.answers.proofs.Judges.{refuses, accepts}
-use Rattle.chains.specs.declared.Step.{Step}
-use Rattle.chains.specs.Step.{stepAt, steps, shows}
-use Rattle.chains.specs.Citing.{Cited, citing}
-use Rattle.chains.specs.Chain.{allOk, concludes, chainOk}
+use Rattle.chain_steps.specs.declared.Step.{Step}
+use Rattle.chain_steps.specs.Step.{stepAt, steps, shows}
+use Rattle.chain_steps.specs.Citing.{Cited, citing}
+use Rattle.chain_steps.specs.Chain.{allOk, concludes, chainOk}
 use Rattle.chains.specs.Call.{asked, passes}
-use Rattle.chains.proofs.Kept.{step-kept, all-kept}
-use Rattle.chains.proofs.Passing.{all-none}
+use Rattle.chain_steps.proofs.Kept.{step-kept, all-kept}
+use Rattle.chain_steps.proofs.Passing.{all-none}
 use Rattle.chains.proofs.Asking.{asked-refused, asked-misfit, asked-claim, asked-runs, passes-chain}
 use Rattle.chain_writing.specs.declared.Reply.{Reply}
 use Rattle.chain_writing.specs.declared.Reply.the-variants.{Answered, Refused}
 use Rattle.chain_writing.specs.declared.Chain.{Chain}
-use Rattle.chain_writing.specs.Written.{Edited}
-use Rattle.chain_writing.specs.Shown.{Writes}
-use Rattle.chain_writing.specs.Found.{Ground, Chained}
+use Rattle.derivations.specs.Written.{Edited}
+use Rattle.derivations.specs.Shown.{Writes}
+use Rattle.derivations.specs.Found.{Ground, Chained}
 use Rattle.chain_writing.specs.Call.{answerFor, answerTo, replyOf, reply, shown, Steps, Written, Answering, Judged}
 
 -- ---- a buffer with a new front

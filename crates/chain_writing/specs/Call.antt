@@ -20,8 +20,8 @@ use Rattle.answers.specs.Call.{byRuns}
 use Rattle.answers.specs.One.{refuseIf}
 use Rattle.answers.specs.declared.Outcome.{Outcome}
 use Rattle.answers.specs.declared.Outcome.the-variants as call
-use Rattle.chains.specs.Citing.{citing}
-use Rattle.chains.specs.Chain.{chainOk}
+use Rattle.chain_steps.specs.Citing.{citing}
+use Rattle.chain_steps.specs.Chain.{chainOk}
 use Rattle.chains.specs.Call.{asked, passes}
 use Rattle.chain_writing.specs.declared.Reply.{Reply}
 use Rattle.chain_writing.specs.declared.Reply.the-variants.{Answered, Refused}

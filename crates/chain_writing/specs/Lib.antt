@@ -1,10 +1,1 @@
-pub mod Written
-pub mod Hops
-pub mod Queue
-pub mod Sources
-pub mod Shown
-pub mod Climbs
-pub mod Lifts
-pub mod Aim
-pub mod Found
 pub mod Call

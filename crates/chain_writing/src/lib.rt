@@ -11,7 +11,7 @@ ghost use Rattle.records.specs.Marked.{marked};
 ghost use Rattle.records.specs.Check.{bookCheck};
 ghost use Rattle.records.specs.declared.BookCheck.the-variants as is;
 ghost use Rattle.answering.specs.Counted.{MarksOf};
-ghost use Rattle.chain_writing.specs.Found.{Ground};
+ghost use Rattle.derivations.specs.Found.{Ground};
 ghost use Rattle.chain_writing.specs.declared.Reply.the-variants.{Refused};
 ghost use Rattle.settling.specs.Opened.{Opened};
 ghost use Rattle.closure.specs.Void.{voidOf};
@@ -22,12 +22,6 @@ use records::ClaimsCheck;
 use records::Record;
 use records::Refusal;
 use settling::Settled;
-
-pub mod facts;
-pub mod hops;
-pub mod kinds;
-pub mod search;
-pub mod writing;
 
 // What the call says: the answer, or the refusal and its place.
 pub enum Reply {
@@ -58,14 +52,14 @@ fn write_found(
     let kind = claim.kind;
     let a = claim.a;
     let b = claim.b;
-    let m = crate::kinds::chain_for(n, claim, book, voids, e, d, t, kind, a, b, c);
+    let m = derivations::kinds::chain_for(n, claim, book, voids, e, d, t, kind, a, b, c);
     if 0 < m {
         return Chain {
             reply: Reply::Answered(Answer::Follows),
             steps: m,
         };
     }
-    let k = crate::kinds::chain_for(n, claim, book, voids, e, d, t, 5 - kind, a, b, c);
+    let k = derivations::kinds::chain_for(n, claim, book, voids, e, d, t, 5 - kind, a, b, c);
     if 0 < k {
         return Chain {
             reply: Reply::Answered(Answer::Denied),

@@ -28,8 +28,8 @@ use Rattle.answers.specs.Fresh.{freshCall}
 use Rattle.answers.specs.One.{refuseIf, byOne}
 use Rattle.answers.specs.declared.Outcome.{Outcome}
 use Rattle.answers.specs.declared.Outcome.the-variants.{Accepted, Refused}
-use Rattle.chains.specs.Citing.{citing}
-use Rattle.chains.specs.Chain.{chainOk}
+use Rattle.chain_steps.specs.Citing.{citing}
+use Rattle.chain_steps.specs.Chain.{chainOk}
 use Rattle.chains.specs.Call.{asked, passing, passes}
 
 -- ---- down the rows

@@ -1,14 +1,2 @@
-pub mod Somes
-pub mod Showing
-pub mod Tables
-pub mod Citings
-pub mod Computed
-pub mod Solved
-pub mod Asked
-pub mod Stepping
-pub mod Sound
-pub mod Passing
-pub mod Kept
 pub mod Asking
 pub mod Meaning
-pub mod Session

@@ -25,13 +25,14 @@ use Rattle.settling.proofs.Settling.{settleable, whole-unmarked}
 use Rattle.answers.specs.declared.Outcome.{Outcome}
 use Rattle.answers.specs.declared.Outcome.the-variants.{Accepted, Refused}
 use Rattle.answering.proofs.Fewer.{fewer-within, fewer-consistent}
-use Rattle.chains.specs.Step.{stepAt, steps, shows}
-use Rattle.chains.specs.Citing.{Cited, fact, mark, none, citing}
-use Rattle.chains.specs.Chain.{allOk, concludes, chainOk, factIn, citedBy}
+use Rattle.chain_steps.specs.Step.{stepAt, steps, shows}
+use Rattle.chain_steps.specs.Citing.{Cited, fact, mark, none, citing}
+use Rattle.chain_steps.specs.Chain.{allOk, concludes, chainOk, factIn, citedBy}
 use Rattle.chains.specs.Call.{asked, passing, passes}
 use Rattle.chains.specs.Derived.{claimIn, factsFor, Concludes, citedIn, Proved, ChainDerives}
-use Rattle.chains.proofs.Sound.{Given, Told, shown-derives, cited-listed}
-use Rattle.chains.proofs.Citings.{cited-picked, cited-marked, marks-same}
+use Rattle.chain_steps.proofs.Sound.{Told, shown-derives, cited-listed}
+use Rattle.chain_steps.proofs.Givens.{given}
+use Rattle.chain_steps.proofs.Citings.{cited-picked}
 use Rattle.chains.proofs.Asking.{Passed, asked-passed, runs-consistent}
 
 -- what it is to be a chain
@@ -101,9 +102,6 @@ module _ (s : List ℕ) (claim : Record) (c : List ℕ) where
       pick more (is-false r) = more (rw (r, citedBy) at k)
 
 -- ---- the theorem
-
-pub given : (claim : Record) (s : List ℕ) → Given (marked s) (citing claim s)
-given claim s = record { marks = λ i g t. cited-marked claim s i g t .1; bare = λ g e. sym (marks-same claim s g) ∙ e }
 
 module _ (s cs c : List ℕ) where
   abbrev Passes : Outcome → Type 0

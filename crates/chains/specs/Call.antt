@@ -10,8 +10,8 @@ use Rattle.answers.specs.Call.{byRuns}
 use Rattle.answers.specs.One.{byOne}
 use Rattle.answers.specs.declared.Outcome.{Outcome}
 use Rattle.answers.specs.declared.Outcome.the-variants.{Accepted, Refused}
-use Rattle.chains.specs.Citing.{citing}
-use Rattle.chains.specs.Chain.{chainOk}
+use Rattle.chain_steps.specs.Citing.{citing}
+use Rattle.chain_steps.specs.Chain.{chainOk}
 
 -- a book and its one claim
 unfoldable pub asked : List ℕ → List ℕ → Outcome

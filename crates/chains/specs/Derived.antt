@@ -12,9 +12,9 @@ use Rattle.records.specs.Facts.{saying, facts}
 use Rattle.records.specs.Kept.{picked}
 use Rattle.records.specs.Marked.{marked}
 use Rattle.answers.specs.declared.Outcome.the-variants.{Accepted}
-use Rattle.chains.specs.Step.{stepAt, steps, shows}
-use Rattle.chains.specs.Citing.{citing}
-use Rattle.chains.specs.Chain.{citedBy}
+use Rattle.chain_steps.specs.Step.{stepAt, steps, shows}
+use Rattle.chain_steps.specs.Citing.{citing}
+use Rattle.chain_steps.specs.Chain.{citedBy}
 use Rattle.chains.specs.Call.{asked, passes}
 
 -- the one claim as a fact, and the facts that it picks

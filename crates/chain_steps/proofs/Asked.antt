@@ -1,0 +1,50 @@
+-- Which rule numbers ask for premises, and what the others come to. Assumes nothing.
+use Prim.Native.Nat.{ℕ, zero, suc}
+use mathlib.Core.Path.{_≡_, refl}
+use mathlib.Core.Bool.{Bool, true, false, _&&_}
+use mathlib.Core.List.{List}
+use lib.Dec.{ltb}
+use Rattle.chain_steps.specs.Citing.{Cited}
+use Rattle.chain_steps.specs.declared.Step.{Step}
+use Rattle.chain_steps.specs.Rule.{table, rule}
+use Rattle.chain_steps.specs.Justified.{premised, keeps}
+
+module _ (s p q : Step) where
+  pub unpremised :
+      (r : ℕ) → (r ≡ 1 → ⊥) → (r ≡ 2 → ⊥) → (r ≡ 5 → ⊥) → (r ≡ 6 → ⊥) → (r ≡ 7 → ⊥) → (r ≡ 8 → ⊥) → (g h k : ℕ) → premised s p q (rule r g h k) ≡ false
+  unfolding premised rule table
+  unpremised zero a b a′ b′ c′ d′ g h k = refl
+  unpremised (suc zero) a b a′ b′ c′ d′ g h k = absurd (a refl)
+  unpremised (suc (suc zero)) a b a′ b′ c′ d′ g h k = absurd (b refl)
+  unpremised (suc (suc (suc zero))) a b a′ b′ c′ d′ g h k = refl
+  unpremised (suc (suc (suc (suc zero)))) a b a′ b′ c′ d′ g h k = refl
+  unpremised (suc (suc (suc (suc (suc zero))))) a b a′ b′ c′ d′ g h k = absurd (a′ refl)
+  unpremised (suc (suc (suc (suc (suc (suc zero)))))) a b a′ b′ c′ d′ g h k = absurd (b′ refl)
+  unpremised (suc (suc (suc (suc (suc (suc (suc zero))))))) a b a′ b′ c′ d′ g h k = absurd (c′ refl)
+  unpremised (suc (suc (suc (suc (suc (suc (suc (suc zero)))))))) a b a′ b′ c′ d′ g h k = absurd (d′ refl)
+  unpremised (suc (suc (suc (suc (suc (suc (suc (suc (suc zero))))))))) a b a′ b′ c′ d′ g h k = refl
+  unpremised (suc (suc (suc (suc (suc (suc (suc (suc (suc (suc zero)))))))))) a b a′ b′ c′ d′ g h k = refl
+  unpremised (suc (suc (suc (suc (suc (suc (suc (suc (suc (suc (suc zero))))))))))) a b a′ b′ c′ d′ g h k = refl
+  unpremised (suc (suc (suc (suc (suc (suc (suc (suc (suc (suc (suc (suc r)))))))))))) a b a′ b′ c′ d′ g h k = refl
+
+  off : (b : Bool) → false ≡ (b && false)
+  off true = refl
+  off false = refl
+
+  pub premises-first :
+      (es : List Cited) (i r : ℕ) → (r ≡ 0 → ⊥) → (r ≡ 3 → ⊥) → (r ≡ 4 → ⊥) → (r ≡ 9 → ⊥) → (r ≡ 10 → ⊥) → (r ≡ 11 → ⊥) → (g h k : ℕ)
+      → keeps es i s p q (rule r g h k) ≡ ((ltb (s .first) i && ltb (s .second) i) && premised s p q (rule r g h k))
+  unfolding premised keeps rule table
+  premises-first es i zero o c f e′ d e g h k = absurd (o refl)
+  premises-first es i (suc zero) o c f e′ d e g h k = refl
+  premises-first es i (suc (suc zero)) o c f e′ d e g h k = refl
+  premises-first es i (suc (suc (suc zero))) o c f e′ d e g h k = absurd (c refl)
+  premises-first es i (suc (suc (suc (suc zero)))) o c f e′ d e g h k = absurd (f refl)
+  premises-first es i (suc (suc (suc (suc (suc zero))))) o c f e′ d e g h k = refl
+  premises-first es i (suc (suc (suc (suc (suc (suc zero)))))) o c f e′ d e g h k = refl
+  premises-first es i (suc (suc (suc (suc (suc (suc (suc zero))))))) o c f e′ d e g h k = refl
+  premises-first es i (suc (suc (suc (suc (suc (suc (suc (suc zero)))))))) o c f e′ d e g h k = refl
+  premises-first es i (suc (suc (suc (suc (suc (suc (suc (suc (suc zero))))))))) o c f e′ d e g h k = absurd (e′ refl)
+  premises-first es i (suc (suc (suc (suc (suc (suc (suc (suc (suc (suc zero)))))))))) o c f e′ d e g h k = absurd (d refl)
+  premises-first es i (suc (suc (suc (suc (suc (suc (suc (suc (suc (suc (suc zero))))))))))) o c f e′ d e g h k = absurd (e refl)
+  premises-first es i (suc (suc (suc (suc (suc (suc (suc (suc (suc (suc (suc (suc r)))))))))))) o c f e′ d e g h k = off (ltb (s .first) i && ltb (s .second) i)

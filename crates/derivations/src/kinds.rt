@@ -1,0 +1,289 @@
+// The chain that ends in a given fact, from step 0 on: its length, or 0 where the fact does not follow.
+ghost use mathlib.Core.Path.{_≡_};
+ghost use mathlib.Core.Bool.{true, false};
+ghost use Prim.Native.Nat.{_<_, _≤_};
+ghost use lib.ListN.{length};
+ghost use Rattle.rules.specs.Fact as fact;
+ghost use Rattle.records.specs.Record.{recordAt, records};
+ghost use Rattle.records.specs.Marked.{marked};
+ghost use Rattle.derivations.specs.Aim.{serving};
+ghost use Rattle.derivations.specs.declared.search.Aim.the-variants.{Outside};
+ghost use Rattle.derivations.specs.Found.{Ground, Voided, Chained};
+use crate::search::Aim;
+use chain_steps::Step;
+use records::Record;
+
+// a PART b: by a mark of a, or along stored PARTs.
+fn chain_part(
+    n: usize,
+    claim: Record,
+    book: &[u8],
+    voids: &[u64],
+    e: &[u64],
+    d: &[u64],
+    t: &[u64],
+    a: usize,
+    b: usize,
+    c: &mut [u8],
+) -> usize
+    requires { ⌜ Ground n claim (now book) (now voids) (now e) (now d) (now t) × (a < n) × (b < n) × (164000 ≤ length (now c)) ⌝ }
+    ensures { λ r. ⌜ Chained n claim (now (book .entry)) (fact.PART a b) (now (c .entry)) (now (c .exit)) r ⌝ }
+{
+    if relation::has(voids, a) {
+        let i = crate::search::find_mark(book, a);
+        crate::writing::put_step(
+            c,
+            0,
+            Step {
+                rule: 11,
+                kind: 1,
+                a,
+                b,
+                first: i,
+                second: 0,
+            },
+        );
+        return 1;
+    }
+    if !relation::test(d, b, a) {
+        return 0;
+    }
+    crate::facts::show_part(book, n, claim, e, a, b, c, 0)
+}
+
+// The step a APART b by a mark of g, which is a or b.
+fn void_step(book: &[u8], g: usize, a: usize, b: usize, c: &mut [u8]) -> usize
+    requires { ⌜ (marked (now book) g ≡ true) × (records (now book) ≤ 8192) × (a < 2048) × (b < 2048) × (164000 ≤ length (now c)) ⌝ }
+    ensures { λ r. ⌜ Voided (now (book .entry)) g a b (now (c .entry)) (now (c .exit)) r ⌝ }
+{
+    let i = crate::search::find_mark(book, g);
+    crate::writing::put_step(
+        c,
+        0,
+        Step {
+            rule: 10,
+            kind: 2,
+            a,
+            b,
+            first: i,
+            second: 0,
+        },
+    );
+    1
+}
+
+// a APART b: by a mark of either, or by a stored APART.
+fn chain_apart(
+    n: usize,
+    claim: Record,
+    book: &[u8],
+    voids: &[u64],
+    e: &[u64],
+    d: &[u64],
+    t: &[u64],
+    a: usize,
+    b: usize,
+    c: &mut [u8],
+) -> usize
+    requires { ⌜ Ground n claim (now book) (now voids) (now e) (now d) (now t) × (a < n) × (b < n) × (164000 ≤ length (now c)) ⌝ }
+    ensures { λ r. ⌜ Chained n claim (now (book .entry)) (fact.APART a b) (now (c .entry)) (now (c .exit)) r ⌝ }
+{
+    if relation::has(voids, a) {
+        return void_step(book, a, a, b, c);
+    }
+    if relation::has(voids, b) {
+        return void_step(book, b, a, b, c);
+    }
+    let i = crate::search::find_record(Aim::Apart, claim, book, d, t, a, b);
+    if book.len() / 6 <= i {
+        return 0;
+    }
+    let w = crate::search::cite_record(Aim::Apart, n, claim, book, voids, e, d, t, a, b, i);
+    let step = w.step;
+    crate::facts::show_apart(book, n, claim, e, step, w.x, w.y, a, b, c, 0)
+}
+
+// a MEETS b: by a common part, or by a stored MEETS.
+fn chain_meets(
+    n: usize,
+    claim: Record,
+    book: &[u8],
+    voids: &[u64],
+    e: &[u64],
+    d: &[u64],
+    t: &[u64],
+    a: usize,
+    b: usize,
+    c: &mut [u8],
+) -> usize
+    requires { ⌜ Ground n claim (now book) (now voids) (now e) (now d) (now t) × (a < n) × (b < n) × (164000 ≤ length (now c)) ⌝ }
+    ensures { λ r. ⌜ Chained n claim (now (book .entry)) (fact.MEETS a b) (now (c .entry)) (now (c .exit)) r ⌝ }
+{
+    let w = crate::search::find_meeting(n, claim, book, voids, e, d, t, a, b);
+    if !w.found {
+        return 0;
+    }
+    let step = w.step;
+    crate::facts::show_meets(book, n, claim, e, step, w.x, w.y, a, b, c, 0)
+}
+
+// a NOTPART b of a piece that is not marked and one that is: a MEETS a, b APART a, and rule (d').
+fn chain_outside_void(
+    n: usize,
+    claim: Record,
+    book: &[u8],
+    voids: &[u64],
+    e: &[u64],
+    d: &[u64],
+    t: &[u64],
+    a: usize,
+    b: usize,
+    c: &mut [u8],
+) -> usize
+    requires { ⌜ Ground n claim (now book) (now voids) (now e) (now d) (now t) × (a < n) × (b < n) × (marked (now book) a ≡ false) × (marked (now book) b ≡ true) × (164000 ≤ length (now c)) ⌝ }
+    ensures { λ r. ⌜ Chained n claim (now (book .entry)) (fact.NOTPART a b) (now (c .entry)) (now (c .exit)) r ⌝ }
+{
+    let i = crate::search::find_mark(book, b);
+    crate::writing::put_step(
+        c,
+        0,
+        Step {
+            rule: 9,
+            kind: 3,
+            a,
+            b: a,
+            first: 0,
+            second: 0,
+        },
+    );
+    crate::writing::put_step(
+        c,
+        1,
+        Step {
+            rule: 10,
+            kind: 2,
+            a: b,
+            b: a,
+            first: i,
+            second: 0,
+        },
+    );
+    crate::writing::put_step(
+        c,
+        2,
+        Step {
+            rule: 8,
+            kind: 4,
+            a,
+            b,
+            first: 0,
+            second: 1,
+        },
+    );
+    3
+}
+
+// a NOTPART b by a stored APART of which b lies in one piece and a meets the other.
+fn chain_outside(
+    n: usize,
+    claim: Record,
+    book: &[u8],
+    voids: &[u64],
+    e: &[u64],
+    d: &[u64],
+    t: &[u64],
+    a: usize,
+    b: usize,
+    i: usize,
+    c: &mut [u8],
+) -> usize
+    requires { ⌜ Ground n claim (now book) (now voids) (now e) (now d) (now t) × (a < n) × (b < n) × (i < records (now book)) × (serving Outside claim (now d) (now t) a b (recordAt (now book) i) ≡ true) × (164000 ≤ length (now c)) ⌝ }
+    ensures { λ r. ⌜ Chained n claim (now (book .entry)) (fact.NOTPART a b) (now (c .entry)) (now (c .exit)) r ⌝ }
+{
+    let u = crate::search::cite_record(Aim::Outside, n, claim, book, voids, e, d, t, a, b, i);
+    let y = u.y;
+    let w = crate::search::find_meeting(n, claim, book, voids, e, d, t, a, y);
+    if !w.found {
+        return 0;
+    }
+    let apart = u.step;
+    let meets = w.step;
+    crate::facts::show_outside(
+        book,
+        n,
+        claim,
+        e,
+        apart,
+        u.x,
+        u.y,
+        meets,
+        w.x,
+        w.y,
+        a,
+        b,
+        c,
+        0,
+    )
+}
+
+// a NOTPART b: by a mark of b, by a stored NOTPART, or by a stored APART.
+fn chain_notpart(
+    n: usize,
+    claim: Record,
+    book: &[u8],
+    voids: &[u64],
+    e: &[u64],
+    d: &[u64],
+    t: &[u64],
+    a: usize,
+    b: usize,
+    c: &mut [u8],
+) -> usize
+    requires { ⌜ Ground n claim (now book) (now voids) (now e) (now d) (now t) × (a < n) × (b < n) × (164000 ≤ length (now c)) ⌝ }
+    ensures { λ r. ⌜ Chained n claim (now (book .entry)) (fact.NOTPART a b) (now (c .entry)) (now (c .exit)) r ⌝ }
+{
+    if closure::marks_tell(4, a, b, voids) {
+        return chain_outside_void(n, claim, book, voids, e, d, t, a, b, c);
+    }
+    let m = book.len() / 6;
+    let i = crate::search::find_record(Aim::NotPart, claim, book, d, t, a, b);
+    if i < m {
+        let w = crate::search::cite_record(Aim::NotPart, n, claim, book, voids, e, d, t, a, b, i);
+        let step = w.step;
+        return crate::facts::show_notpart(book, n, claim, e, step, w.x, w.y, a, b, c, 0);
+    }
+    let j = crate::search::find_record(Aim::Outside, claim, book, d, t, a, b);
+    if m <= j {
+        return 0;
+    }
+    chain_outside(n, claim, book, voids, e, d, t, a, b, j, c)
+}
+
+// The fact of a kind 1 to 4 about a and b.
+pub fn chain_for(
+    n: usize,
+    claim: Record,
+    book: &[u8],
+    voids: &[u64],
+    e: &[u64],
+    d: &[u64],
+    t: &[u64],
+    kind: u8,
+    a: usize,
+    b: usize,
+    c: &mut [u8],
+) -> usize
+    requires { ⌜ Ground n claim (now book) (now voids) (now e) (now d) (now t) × (a < n) × (b < n) × (164000 ≤ length (now c)) ⌝ }
+    ensures { λ r. ⌜ Chained n claim (now (book .entry)) (fact.factOf kind a b) (now (c .entry)) (now (c .exit)) r ⌝ }
+{
+    if kind == 1 {
+        return chain_part(n, claim, book, voids, e, d, t, a, b, c);
+    }
+    if kind == 2 {
+        return chain_apart(n, claim, book, voids, e, d, t, a, b, c);
+    }
+    if kind == 3 {
+        return chain_meets(n, claim, book, voids, e, d, t, a, b, c);
+    }
+    chain_notpart(n, claim, book, voids, e, d, t, a, b, c)
+}

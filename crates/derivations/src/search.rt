@@ -1,0 +1,264 @@
+// The searches for what a chain begins with: a record that leads to the fact, a mark, a common piece.
+ghost use mathlib.Core.Path.{_≡_};
+ghost use mathlib.Core.Bool.{true, not, _&&_};
+ghost use Prim.Native.Nat.{ℕ, _+_, _*_, _<_, _≤_};
+ghost use lib.ListN.{length, getD};
+ghost use Rattle.relation.specs.Matrix.{bitOf};
+ghost use Rattle.rules.specs.Fact.{AllWithin};
+ghost use Rattle.records.specs.Record.{recordAt, records};
+ghost use Rattle.records.specs.Facts.{facts};
+ghost use Rattle.records.specs.Marked.{marks, marked};
+ghost use Rattle.closure.specs.Void.{voidOf};
+ghost use Rattle.chain_steps.specs.Citing.{citing};
+ghost use Rattle.derivations.specs.Aim.{kindFor, joining, serving};
+ghost use Rattle.derivations.specs.Found.{Found, Ground, Witnessed, Met};
+use chain_steps::Step;
+use records::Record;
+
+// What a record is searched for: the three kinds of stored facts, and an APART that shows NOTPART by rule (d').
+pub enum Aim {
+    Apart,
+    Meets,
+    NotPart,
+    Outside,
+}
+
+// A step that cites a record, and the record's pieces in the order that the fact asks for.
+pub struct Witness {
+    pub step: Step,
+    pub x: usize,
+    pub y: usize,
+}
+
+// Whether two pieces meet, and if so a step that shows it of a part of each.
+pub struct Meeting {
+    pub found: bool,
+    pub step: Step,
+    pub x: usize,
+    pub y: usize,
+}
+
+// Two bits of a matrix.
+fn both(d: &[u64], r: usize, i: usize, s: usize, j: usize) -> bool
+    requires { ⌜ (length (now d) ≡ 65536) × (r < 2048) × (i < 2048) × (s < 2048) × (j < 2048) ⌝ }
+    ensures { λ b. ⌜ b ≡ (bitOf (now (d .entry)) r i && bitOf (now (d .entry)) s j) ⌝ }
+{
+    if !relation::test(d, r, i) {
+        return false;
+    }
+    relation::test(d, s, j)
+}
+
+// Whether the pieces x and y of a record lead to a fact about a and b.
+fn joins(aim: Aim, d: &[u64], t: &[u64], a: usize, b: usize, x: usize, y: usize) -> bool
+    requires { ⌜ (length (now d) ≡ 65536) × (length (now t) ≡ 65536) × (a < 2048) × (b < 2048) × (x < 2048) × (y < 2048) ⌝ }
+    ensures { λ r. ⌜ r ≡ joining aim (now (d .entry)) (now (t .entry)) a b x y ⌝ }
+{
+    match aim {
+        Aim::Apart => both(d, x, a, y, b),
+        Aim::Meets => both(d, a, x, b, y),
+        Aim::NotPart => both(d, a, x, y, b),
+        Aim::Outside => {
+            if !relation::test(d, x, b) {
+                return false;
+            }
+            relation::meet(t, a, d, y)
+        }
+    }
+}
+
+fn kind_for(aim: Aim) -> u8
+    ensures { λ k. ⌜ k ≡ kindFor aim ⌝ }
+{
+    match aim {
+        Aim::Apart => 2,
+        Aim::Meets => 3,
+        Aim::NotPart => 4,
+        Aim::Outside => 2,
+    }
+}
+
+// Whether a record may be cited and leads to a fact about a and b.
+fn serves(aim: Aim, claim: Record, d: &[u64], t: &[u64], a: usize, b: usize, r: Record) -> bool
+    requires { ⌜ (length (now d) ≡ 65536) × (length (now t) ≡ 65536) × (a < 2048) × (b < 2048) × (1 ≤ r .kind → r .kind ≤ 4 → (r .a < 2048) × (r .b < 2048)) ⌝ }
+    ensures { λ x. ⌜ x ≡ serving aim claim (now (d .entry)) (now (t .entry)) a b r ⌝ }
+{
+    if r.kind != kind_for(aim) {
+        return false;
+    }
+    if !chain_steps::lets(claim, r) {
+        return false;
+    }
+    if joins(aim, d, t, a, b, r.a, r.b) {
+        return true;
+    }
+    if r.kind == 4 {
+        return false;
+    }
+    joins(aim, d, t, a, b, r.b, r.a)
+}
+
+// The first record that does; the number of records where none does.
+pub fn find_record(
+    aim: Aim,
+    claim: Record,
+    book: &[u8],
+    d: &[u64],
+    t: &[u64],
+    a: usize,
+    b: usize,
+) -> usize
+    requires { ⌜ (length (now d) ≡ 65536) × (length (now t) ≡ 65536) × (a < 2048) × (b < 2048) × AllWithin 2048 (facts (now book)) ⌝ }
+    ensures { λ r. ⌜ Found (λ i. serving aim claim (now (d .entry)) (now (t .entry)) a b (recordAt (now (book .entry)) i)) (records (now (book .entry))) r ⌝ }
+{
+    let m = book.len() / 6;
+    let mut i: usize = 0;
+    while i < m {
+        let r = records::record_at(book, i);
+        if serves(aim, claim, d, t, a, b, r) {
+            return i;
+        }
+        i += 1;
+    }
+    i
+}
+
+// What record i, which leads to the fact, is cited for.
+pub fn cite_record(
+    aim: Aim,
+    n: usize,
+    claim: Record,
+    book: &[u8],
+    voids: &[u64],
+    e: &[u64],
+    d: &[u64],
+    t: &[u64],
+    a: usize,
+    b: usize,
+    i: usize,
+) -> Witness
+    requires { ⌜ Ground n claim (now book) (now voids) (now e) (now d) (now t) × (a < n) × (b < n) × (i < records (now book)) × (serving aim claim (now d) (now t) a b (recordAt (now book) i) ≡ true) ⌝ }
+    ensures { λ r. ⌜ Witnessed n (citing claim (now (book .entry))) aim (now (d .entry)) (now (t .entry)) a b r ⌝ }
+{
+    let r = records::record_at(book, i);
+    let step = Step {
+        rule: 0,
+        kind: r.kind,
+        a: r.a,
+        b: r.b,
+        first: i,
+        second: 0,
+    };
+    if joins(aim, d, t, a, b, r.a, r.b) {
+        return Witness {
+            step,
+            x: r.a,
+            y: r.b,
+        };
+    }
+    Witness {
+        step,
+        x: r.b,
+        y: r.a,
+    }
+}
+
+// The first record that marks piece g; the number of records where none does.
+pub fn find_mark(book: &[u8], g: usize) -> usize
+    ensures { λ r. ⌜ Found (λ i. marks g (recordAt (now (book .entry)) i)) (records (now (book .entry))) r ⌝ }
+{
+    let m = book.len() / 6;
+    let mut i: usize = 0;
+    while i < m {
+        let r = records::record_at(book, i);
+        if r.kind != 6 {
+            i += 1;
+            continue;
+        }
+        if r.a == g {
+            return i;
+        }
+        i += 1;
+    }
+    i
+}
+
+// The first piece in both a and b that is not marked; n where there is none.
+fn find_common(n: usize, voids: &[u64], d: &[u64], a: usize, b: usize) -> usize
+    requires { ⌜ (n ≤ 2048) × (length (now voids) ≡ 32) × (length (now d) ≡ 65536) × (a < 2048) × (b < 2048) ⌝ }
+    ensures { λ r. ⌜ Found (λ x. not (voidOf (now (voids .entry)) x) && (bitOf (now (d .entry)) a x && bitOf (now (d .entry)) b x)) n r ⌝ }
+{
+    let mut x: usize = 0;
+    while x < n {
+        if relation::has(voids, x) {
+            x += 1;
+            continue;
+        }
+        if both(d, a, x, b, x) {
+            return x;
+        }
+        x += 1;
+    }
+    x
+}
+
+// Whether a and b meet: in a common piece that is not marked, or by a stored MEETS.
+pub fn find_meeting(
+    n: usize,
+    claim: Record,
+    book: &[u8],
+    voids: &[u64],
+    e: &[u64],
+    d: &[u64],
+    t: &[u64],
+    a: usize,
+    b: usize,
+) -> Meeting
+    requires { ⌜ Ground n claim (now book) (now voids) (now e) (now d) (now t) × (a < n) × (b < n) ⌝ }
+    ensures { λ r. ⌜ Met n claim (now (book .entry)) a b r ⌝ }
+{
+    let g = find_common(n, voids, d, a, b);
+    if g < n {
+        let itself = Step {
+            rule: 9,
+            kind: 3,
+            a: g,
+            b: g,
+            first: 0,
+            second: 0,
+        };
+        return Meeting {
+            found: true,
+            step: itself,
+            x: g,
+            y: g,
+        };
+    }
+    let i = find_record(Aim::Meets, claim, book, d, t, a, b);
+    if book.len() / 6 <= i {
+        let nothing = Step {
+            rule: 0,
+            kind: 0,
+            a: 0,
+            b: 0,
+            first: 0,
+            second: 0,
+        };
+        return Meeting {
+            found: false,
+            step: nothing,
+            x: 0,
+            y: 0,
+        };
+    }
+    let w = cite_record(Aim::Meets, n, claim, book, voids, e, d, t, a, b, i);
+    let step = w.step;
+    let x = w.x;
+    let y = w.y;
+    Meeting {
+        found: true,
+        step,
+        x,
+        y,
+    }
+}
