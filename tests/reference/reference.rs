@@ -266,6 +266,18 @@ impl Circles {
         self.in_circles += twice.iter().filter(|&&part| containers[part].iter().any(|&container| members[container] > 1)).count();
     }
 
+    fn join(&mut self, other: &Circles) {
+        let Circles { late, own, several, long, with_zero, whole, of_circles, in_circles } = other;
+        self.late += late;
+        self.own += own;
+        self.several += several;
+        self.long += long;
+        self.with_zero += with_zero;
+        self.whole += whole;
+        self.of_circles += of_circles;
+        self.in_circles += in_circles;
+    }
+
     fn counts(&self) -> [(&'static str, usize); 8] {
         [
             ("late container", self.late),
@@ -295,6 +307,11 @@ impl Seen {
             let circles = if number == 0 { &mut self.accepted } else { &mut self.contradictory };
             circles.add(book.pieces, &pairs_of(&book.facts));
         }
+    }
+
+    pub fn add(&mut self, other: &Seen) {
+        self.accepted.join(&other.accepted);
+        self.contradictory.join(&other.contradictory);
     }
 
     /// For each thing whether it occurred, with its name. A contradictory book has no shadows.
