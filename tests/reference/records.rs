@@ -65,13 +65,25 @@ fn rows(book: &[u8], edition: Edition) -> Result<usize, Refusal> {
     read_book(book, edition).map(|book| book.pieces)
 }
 
-/// Each book in all three calls.
+/// A book in all three calls. Where its rows let it pass, a claim about its last piece does too, and one about the next is 13: that shows the piece count, whether the book
+/// is contradictory or not.
+fn try_book(tally: &mut Tally, name: &str, number: usize, book: &[u8]) {
+    let pieces = rows(book, Edition::InForce);
+    let mut ask = |piece: usize| {
+        let lengths = enough(&mut tally.random, 1);
+        tally.try_case(name, number, &Case { book: book.to_vec(), claims: record(PART, piece, 0).to_vec(), lengths }).outcome.number
+    };
+    let last = ask(pieces.map_or(0, |pieces| pieces - 1));
+    let next = pieces.map_or(13, |pieces| ask(pieces));
+    tally.count((last == 13 || next != 13).then(|| format!("{name}, book {number}: the reference says {last} and {next} of pieces")));
+    tally.try_conversion(name, number, book, book.len());
+}
+
+/// Many of them, and how the rows of both editions refuse them.
 fn books(tally: &mut Tally, name: &str, all: &[Vec<u8>], in_force: Told, former: Told) {
     let failed = tally.failed;
     for (number, book) in all.iter().enumerate() {
-        let lengths = enough(&mut tally.random, 1);
-        tally.try_case(name, number, &Case { book: book.clone(), claims: record(PART, 0, 0).to_vec(), lengths });
-        tally.try_conversion(name, number, book, book.len());
+        try_book(tally, name, number, book);
     }
     for (edition, wanted) in [(Edition::InForce, in_force), (Edition::Former, former)] {
         let outcomes: Vec<_> = all.iter().map(|book| rows(book, edition)).collect();
@@ -124,9 +136,7 @@ fn long_books(tally: &mut Tally) {
                 let got = rows(&book, edition);
                 tally.count((got != wanted).then(|| format!("long book {number} of kind {kind}, {edition:?}: the reference says {got:?}, the papers {wanted:?}")));
             }
-            let lengths = enough(&mut tally.random, 1);
-            tally.try_case("long books", number, &Case { book: book.clone(), claims: record(PART, 0, 0).to_vec(), lengths });
-            tally.try_conversion("long books", number, &book, book.len());
+            try_book(tally, "long books", number, &book);
             count += 1;
         }
     }
