@@ -1,6 +1,8 @@
 //! The leaves that the crate `exports` exports, at every position of many strings of bits, against plain counts: ranks by running counts, matches by a stack of
 //! open positions, no byte table and no search. The last line is 'N passed, M failed', where N + M are the strings and matrices compared and what must occur.
 
+use std::collections::BTreeSet;
+
 extern "C" {
     fn parentheses_ones_before(bytes: *const u8, length: usize, k: usize) -> usize;
     fn parentheses_select(bytes: *const u8, length: usize, j: usize) -> usize;
@@ -122,6 +124,8 @@ enum Shape {
     Unclosed,
 }
 use Shape::*;
+
+const ALL: [Shape; 4] = [Deep, Flat, Bushy, Unclosed];
 
 /// The 2 n bits of a string of n nodes; all ones where it is not closed.
 fn shape(shape: Shape, n: usize) -> Vec<bool> {
@@ -246,16 +250,13 @@ fn main() {
     beyond(&mut tally);
     tally.group("no byte and one", std::iter::once(vec![]).chain((0..=255).map(|byte| vec![byte])));
     tally.group("two bytes", (0..=65535u16).map(|two| two.to_le_bytes().to_vec()));
-    for n in [1, 5, 1000, 10240] {
-        for kind in [Deep, Flat, Bushy] {
+    for (n, kinds) in [(1, &[Deep, Flat, Bushy][..]), (5, &ALL), (1000, &ALL), (10240, &ALL)] {
+        for &kind in kinds {
             let bits = shape(kind, n);
             // of the greatest length, and no longer than need be
-            tally.group(&format!("{kind:?}, {n} nodes"), [2560, bits.len().div_ceil(8)].into_iter().map(|length| packed(&bits, length)));
+            let lengths = BTreeSet::from([2560, bits.len().div_ceil(8)]);
+            tally.group(&format!("{kind:?}, {n} nodes"), lengths.into_iter().map(|length| packed(&bits, length)));
         }
-    }
-    for n in [5, 1000, 10240] {
-        let bits = shape(Unclosed, n);
-        tally.group(&format!("{Unclosed:?}, {n} nodes"), [2560, bits.len().div_ceil(8)].into_iter().map(|length| packed(&bits, length)));
     }
     let mut random = Random(1);
     tally.group(

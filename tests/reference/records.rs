@@ -6,6 +6,7 @@ use crate::books::*;
 use crate::reference::{read_book, read_claims, Edition, Refusal};
 use crate::{enough, Case, Tally};
 use std::collections::BTreeMap;
+use std::time::Instant;
 
 /// Sound records, and one that each row refuses, together with what later rows refuse.
 fn samples() -> [Bytes; 14] {
@@ -81,7 +82,7 @@ fn try_book(tally: &mut Tally, name: &str, number: usize, book: &[u8]) {
 
 /// Many of them, and how the rows of both editions refuse them.
 fn books(tally: &mut Tally, name: &str, all: &[Vec<u8>], in_force: Told, former: Told) {
-    let failed = tally.failed;
+    let (failed, start) = (tally.failed, Instant::now());
     for (number, book) in all.iter().enumerate() {
         try_book(tally, name, number, book);
     }
@@ -89,12 +90,12 @@ fn books(tally: &mut Tally, name: &str, all: &[Vec<u8>], in_force: Told, former:
         let outcomes: Vec<_> = all.iter().map(|book| rows(book, edition)).collect();
         tally.count(told(&outcomes, wanted).map(|wrong| format!("{name}, {edition:?}: {wrong}")));
     }
-    tally.say(format!("{name}: {} books in both editions; {} failed", all.len(), tally.failed - failed));
+    tally.say(format!("{name}: {} books in both editions; {} failed; {:.1} s", all.len(), tally.failed - failed, start.elapsed().as_secs_f64()));
 }
 
 /// Each list of claims on a book of so many pieces.
 fn claims_on(tally: &mut Tally, name: &str, pieces: usize, all: &[Vec<u8>], wanted: Told) {
-    let failed = tally.failed;
+    let (failed, start) = (tally.failed, Instant::now());
     let book = if pieces == 1 { vec![] } else { record(MEETS, pieces - 1, pieces - 1).to_vec() };
     for (number, claims) in all.iter().enumerate() {
         let lengths = enough(&mut tally.random, claims.len() / 6);
@@ -102,12 +103,12 @@ fn claims_on(tally: &mut Tally, name: &str, pieces: usize, all: &[Vec<u8>], want
     }
     let outcomes: Vec<_> = all.iter().map(|claims| read_claims(claims, pieces).map(|_| 0)).collect();
     tally.count(told(&outcomes, wanted).map(|wrong| format!("{name}: {wrong}")));
-    tally.say(format!("{name}: {} lists of claims; {} failed", all.len(), tally.failed - failed));
+    tally.say(format!("{name}: {} lists of claims; {} failed; {:.1} s", all.len(), tally.failed - failed, start.elapsed().as_secs_f64()));
 }
 
 /// As many records as a book may have and one more, with one of them repeated, of a kind that is none, a mark or a TRAY: what the rows of each edition say.
 fn long_books(tally: &mut Tally) {
-    let failed = tally.failed;
+    let (failed, start) = (tally.failed, Instant::now());
     let mut count = 0;
     for kind in [APART, MEETS] {
         let many = |changes: &[(usize, Bytes)]| {
@@ -140,12 +141,12 @@ fn long_books(tally: &mut Tally) {
             count += 1;
         }
     }
-    tally.say(format!("long books: {count} in both editions; {} failed", tally.failed - failed));
+    tally.say(format!("long books: {count} in both editions; {} failed; {:.1} s", tally.failed - failed, start.elapsed().as_secs_f64()));
 }
 
 /// As many claims as there may be and one more, the last or the last but one refused.
 fn long_claims(tally: &mut Tally) {
-    let failed = tally.failed;
+    let (failed, start) = (tally.failed, Instant::now());
     let (late, kind) = ((4095, record(PART, 0, 1)), (4094, record(TRAY, 0, 0)));
     let cases: [(&[(usize, Bytes)], usize, usize, Result<usize, Refusal>); 6] = [
         (&[], 24576, 1, Ok(0)),
@@ -165,7 +166,7 @@ fn long_claims(tally: &mut Tally) {
         let lengths = enough(&mut tally.random, length / 6);
         tally.try_case("long claims", number, &Case { book, claims, lengths });
     }
-    tally.say(format!("long claims: 6 lists; {} failed", tally.failed - failed));
+    tally.say(format!("long claims: 6 lists; {} failed; {:.1} s", tally.failed - failed, start.elapsed().as_secs_f64()));
 }
 
 /// All of it, in parts that can be tried by themselves.
