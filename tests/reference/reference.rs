@@ -212,6 +212,10 @@ pub fn lowest_members(pieces: usize, pairs: &[(usize, usize)]) -> Vec<usize> {
     }
     let mut lowest = vec![None; pieces];
     for piece in 0..pieces {
+        if parts[piece].is_empty() {
+            // nothing is PART of it but itself
+            lowest[piece] = Some(piece);
+        }
         if lowest[piece].is_none() {
             let (above, below) = (found_from(piece, &containers, &lowest), found_from(piece, &parts, &lowest));
             (0..pieces).filter(|&other| above[other] && below[other]).for_each(|other| lowest[other] = Some(piece));
