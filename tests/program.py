@@ -3,7 +3,7 @@
 
     program.py [BINARY]     target/bin/query where none is given; the last line is 'N passed, M failed'
 
-Small books are judged here by the rules one after another; large ones are made so that their answers are known beforehand.
+Small books are judged here by the rules one after another; large ones are made so that their answers are known beforehand; document 01's edges are those of edges.py.
 """
 import pathlib
 import subprocess
@@ -14,6 +14,7 @@ import time
 ROOT = pathlib.Path(__file__).resolve().parent.parent
 sys.dont_write_bytecode = True
 sys.path.insert(0, str(ROOT / "tests"))
+from edges import edges  # noqa: E402
 from rules import APART, CLAIMS, MEETS, NAMES, NOTPART, PART, SESSION, answer, contradictory, saturate  # noqa: E402
 
 WORDS = {1: "FOLLOWS", 2: "DENIED", 3: "OPEN"}
@@ -96,6 +97,8 @@ def many_claims(count):
 
 
 def cases():
+    for name, book, claims, expected in edges():
+        yield f"edge {name}", book, claims, expected
     session, asked = run_of(SESSION), run_of(CLAIMS)
     empty = page([], [(PART, 0, 0), (MEETS, 0, 0), (NOTPART, 0, 0), (APART, 0, 0)])
     about_nothing = run_of([(PART, 0, 0), (MEETS, 0, 0), (NOTPART, 0, 0), (APART, 0, 0)])

@@ -17,6 +17,8 @@ pub struct Met {
     pub damaged: [usize; 2],
     pub longest: usize,
     pub seen: Seen,
+    /// the session's chains
+    pub told: Vec<String>,
 }
 
 fn number(bytes: &[u8], at: usize) -> usize {
@@ -315,7 +317,7 @@ pub fn session(random: &mut Random, met: &mut Met) -> Option<String> {
         let told = |s: &Step| format!("{} {} {} by {}", s.a, NAMES[usize::from(s.kind)], s.b, ["record", "a", "b", "c", "f", "a'", "b'", "c'", "d'", "e'", "d", "e"][usize::from(s.rule)]);
         let steps: Vec<String> = chain.chunks(10).map(|s| told(&Step::read(s))).collect();
         let name = ["", "FOLLOWS", "DENIED", "OPEN"][answer];
-        println!("chain {i} {} {} {} {name}: {}", NAMES[usize::from(claim[0])], number(claim, 2), number(claim, 4), if steps.is_empty() { "no steps".into() } else { steps.join(", ") });
+        met.told.push(format!("chain {i} {} {} {} {name}: {}", NAMES[usize::from(claim[0])], number(claim, 2), number(claim, 4), if steps.is_empty() { "no steps".into() } else { steps.join(", ") }));
     }
     None
 }

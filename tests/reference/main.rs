@@ -1,5 +1,6 @@
 //! Compares the library's calls with the reference on many books: the outcome, every answer and every byte of every buffer, with guard
 //! values before and behind what is lent. The last line is 'N passed, M failed', where N + M are the books compared and the numbers and answers that must occur.
+//! What is compared is cut into parts that need nothing of each other; threads take these one after another, and what they found is told in the order of the parts.
 
 mod books;
 mod catalogs;
@@ -7,15 +8,18 @@ mod chains;
 mod compare;
 mod days;
 mod piecebook;
+mod records;
 mod reference;
 mod replicates;
 mod rules;
+mod shapes;
 mod sheets;
 
 use books::*;
 use piecebook::{Converted, Outcome, Parts};
 use reference::{convert, judge, Change, Edition, Expected, Lengths, Seen};
 use std::collections::{BTreeMap, BTreeSet};
+use std::sync::{mpsc, Mutex};
 use std::time::Instant;
 
 /// A lent buffer: guard values, the lent part, guard values.
@@ -27,10 +31,12 @@ struct Buffer<T> {
 }
 
 impl<T: Copy + PartialEq> Buffer<T> {
-    fn new(random: &mut Random, length: usize, value: fn(u64) -> T) -> Buffer<T> {
+    fn new(random: &mut Random, length: usize, value: impl Fn(u64) -> T) -> Buffer<T> {
         let front = random.below(9);
         let behind = random.range(1, 40);
-        Buffer { all: (0..front + length + behind).map(|_| value(random.next())).collect(), front, length }
+        let start = random.next();
+        let all = (0..(front + length + behind) as u64).map(|i| value((start.wrapping_add(i)).wrapping_mul(0x9e37_79b9_7f4a_7c15) >> 32));
+        Buffer { all: all.collect(), front, length }
     }
 
     fn lend(&mut self) -> &mut [T] {
@@ -43,6 +49,9 @@ impl<T: Copy + PartialEq> Buffer<T> {
 
     /// The first place in which two differ, counted from the lent part's start.
     fn difference(&self, other: &Buffer<T>) -> Option<isize> {
+        if self.all == other.all {
+            return None;
+        }
         let at = self.all.iter().zip(&other.all).position(|(x, y)| x != y)?;
         Some(at as isize - self.front as isize)
     }
@@ -232,6 +241,8 @@ struct Tally {
     random: Random,
     passed: usize,
     failed: usize,
+    /// what is to be told
+    lines: Vec<String>,
     /// How often each number and each answer occurred.
     numbers: [usize; 20],
     /// the same of conversions
@@ -246,6 +257,41 @@ struct Tally {
 }
 
 impl Tally {
+    fn new(random: Random) -> Tally {
+        Tally {
+            random,
+            passed: 0,
+            failed: 0,
+            lines: vec![],
+            numbers: [0; 20],
+            conversions: [0; 20],
+            catalog_numbers: [0; 20],
+            answers: [[0; 4]; 2],
+            seen: Seen::default(),
+            catalog_seen: Seen::default(),
+        }
+    }
+
+    fn say(&mut self, line: String) {
+        self.lines.push(line);
+    }
+
+    /// Adds what another has counted; its lines are told by then.
+    fn add(&mut self, other: &Tally) {
+        self.passed += other.passed;
+        self.failed += other.failed;
+        for (mine, theirs) in [
+            (&mut self.numbers, &other.numbers),
+            (&mut self.conversions, &other.conversions),
+            (&mut self.catalog_numbers, &other.catalog_numbers),
+        ] {
+            mine.iter_mut().zip(theirs).for_each(|(mine, theirs)| *mine += theirs);
+        }
+        self.answers.iter_mut().flatten().zip(other.answers.iter().flatten()).for_each(|(mine, theirs)| *mine += theirs);
+        self.seen.add(&other.seen);
+        self.catalog_seen.add(&other.catalog_seen);
+    }
+
     fn try_case(&mut self, group: &str, number: usize, case: &Case) -> Expected {
         let (expected, wrong) = compare(&mut self.random, &case.book, Some(&case.claims), case.lengths);
         let (_, wrong_index) = compare(&mut self.random, &case.book, None, case.lengths);
@@ -268,7 +314,7 @@ impl Tally {
             Some(wrong) => {
                 self.failed += 1;
                 if self.failed <= 10 {
-                    println!("FAIL {wrong}");
+                    self.say(format!("FAIL {wrong}"));
                 }
             }
         }
@@ -317,7 +363,8 @@ impl Tally {
         }
         self.occurred("working books", &met.numbers, &[0, 1, 3, 4, 5, 6, 7, 9, 10, 12, 13, 14, 18, 19]);
         self.circles_occurred("working books", &met.seen);
-        println!("working books: {count} days, {} circles; {} failed; {:.1} s", met.seen.circles(), self.failed - failed, start.elapsed().as_secs_f64());
+        let line = format!("working books: {count} days, {} circles; {} failed; {:.1} s", met.seen.circles(), self.failed - failed, start.elapsed().as_secs_f64());
+        self.say(line);
     }
 
     /// The grids of books of few pieces.
@@ -330,14 +377,15 @@ impl Tally {
         }
         self.occurred("grids", &numbers, &[0, 3, 5, 6, 7, 9, 14, 16, 19]);
         self.circles_occurred("grids", &seen);
-        println!("grids: {count} books, {} accepted, {} circles; {} failed; {:.1} s", numbers[0], seen.circles(), self.failed - failed, start.elapsed().as_secs_f64());
+        let line = format!("grids: {count} books, {} accepted, {} circles; {} failed; {:.1} s", numbers[0], seen.circles(), self.failed - failed, start.elapsed().as_secs_f64());
+        self.say(line);
     }
 
     /// Catalogs of random books, and range questions on what they leave.
     fn catalogs(&mut self, name: &str, count: usize, make: impl Fn(&mut Random, usize) -> catalogs::Case) {
         let start = Instant::now();
         let failed = self.failed;
-        let mut random = Random(name.bytes().fold(7, |seed, byte| seed * 31 + u64::from(byte)));
+        let mut random = seed(name);
         let (mut numbers, mut yes) = (BTreeMap::new(), [0; 2]);
         for number in 0..count {
             let case = make(&mut random, number);
@@ -352,7 +400,7 @@ impl Tally {
         }
         let accepted = numbers.remove(&0).unwrap_or(0);
         let refused: Vec<String> = numbers.iter().map(|(number, count)| format!("{number}: {count}")).collect();
-        println!(
+        let line = format!(
             "{name}: {count} books, {accepted} accepted, refused {{{}}}; range questions {} yes, {} no; {} failed; {:.1} s",
             refused.join(", "),
             yes[1],
@@ -360,6 +408,7 @@ impl Tally {
             self.failed - failed,
             start.elapsed().as_secs_f64()
         );
+        self.say(line);
     }
 
     /// Measurement logs, whole and in parts.
@@ -380,7 +429,8 @@ impl Tally {
             self.count((count == 0).then(|| format!("no {what} occurred")));
         }
         let parts: usize = met.numbers.iter().sum();
-        println!("replicates: {count} books, {parts} parts of logs, {} full windows APART; {} failed; {:.1} s", met.full_apart, self.failed - failed, start.elapsed().as_secs_f64());
+        let line = format!("replicates: {count} books, {parts} parts of logs, {} full windows APART; {} failed; {:.1} s", met.full_apart, self.failed - failed, start.elapsed().as_secs_f64());
+        self.say(line);
     }
 
     /// Pairs of books.
@@ -419,7 +469,8 @@ impl Tally {
         for which in 0..3 {
             self.count((met.larger[which] == 0).then(|| format!("which is larger: {which} never occurred")));
         }
-        println!("two books: {count} pairs, {} accepted; {} failed; {:.1} s", met.numbers[0][0], self.failed - failed, start.elapsed().as_secs_f64());
+        let line = format!("two books: {count} pairs, {} accepted; {} failed; {:.1} s", met.numbers[0][0], self.failed - failed, start.elapsed().as_secs_f64());
+        self.say(line);
     }
 
     /// Chains, those that the library writes and damaged ones.
@@ -433,6 +484,7 @@ impl Tally {
             self.count(wrong.map(|wrong| format!("chains, book {number}: {wrong}")));
         }
         let wrong = chains::session(&mut random, &mut met);
+        self.lines.append(&mut met.told);
         self.count(wrong.map(|wrong| format!("chains, {wrong}")));
         for long in [chains::deep, chains::round] {
             let wrong = long(&mut random, &mut met);
@@ -447,7 +499,7 @@ impl Tally {
             self.count((count == 0).then(|| format!("no {what}")));
         }
         let all: usize = met.numbers.iter().sum();
-        println!(
+        let line = format!(
             "chains: {count} books, {all} claims, {} chains, the longest of {} steps; {} damaged ones, of which {} pass; {} failed; {:.1} s",
             met.answers[1] + met.answers[2],
             met.longest,
@@ -456,6 +508,15 @@ impl Tally {
             self.failed - failed,
             start.elapsed().as_secs_f64()
         );
+        self.say(line);
+    }
+
+    /// A book of a known shape.
+    fn shape(&mut self, named: &shapes::Named) {
+        let start = Instant::now();
+        let wrong = named.compare(&mut self.random);
+        self.count(wrong.map(|wrong| format!("shape {}: {wrong}", named.name)));
+        self.say(format!("shape {}: every byte of its index, all PART claims; {} failed; {:.1} s", named.name, self.failed, start.elapsed().as_secs_f64()));
     }
 
     fn try_conversion(&mut self, group: &str, number: usize, book: &[u8], room: usize) -> Converted {
@@ -472,7 +533,7 @@ impl Tally {
     fn converted(&mut self, name: &str, count: usize, make: impl Fn(&mut Random, usize) -> (Vec<u8>, usize)) {
         let start = Instant::now();
         let failed = self.failed;
-        let mut random = Random(name.bytes().fold(7, |seed, byte| seed * 31 + u64::from(byte)));
+        let mut random = seed(name);
         let mut numbers = BTreeMap::new();
         let (mut with_trays, mut grown) = (0, 0);
         for number in 0..count {
@@ -485,19 +546,20 @@ impl Tally {
         }
         let accepted = numbers.remove(&0).unwrap_or(0);
         let refused: Vec<String> = numbers.iter().map(|(number, count)| format!("{number}: {count}")).collect();
-        println!(
+        let line = format!(
             "{name}: {count} books, {accepted} converted, {with_trays} of them with trays, {grown} with a record added, refused {{{}}}; {} failed; {:.1} s",
             refused.join(", "),
             self.failed - failed,
             start.elapsed().as_secs_f64()
         );
+        self.say(line);
     }
 
     /// A group of random books, each made from the group's random numbers; prints one line.
     fn group(&mut self, name: &str, count: usize, make: impl Fn(&mut Random, usize) -> Case) {
         let start = Instant::now();
         let failed = self.failed;
-        let mut random = Random(name.bytes().fold(7, |seed, byte| seed * 31 + u64::from(byte)));
+        let mut random = seed(name);
         let mut numbers = BTreeMap::new();
         let mut answers = [0; 4];
         for number in 0..count {
@@ -510,7 +572,7 @@ impl Tally {
         }
         let accepted = numbers.remove(&0).unwrap_or(0);
         let refused: Vec<String> = numbers.iter().map(|(number, count)| format!("{number}: {count}")).collect();
-        println!(
+        let line = format!(
             "{name}: {count} books, {accepted} accepted, refused {{{}}}; answers {} FOLLOWS, {} DENIED, {} OPEN; {} failed; {:.1} s",
             refused.join(", "),
             answers[1],
@@ -519,6 +581,7 @@ impl Tally {
             self.failed - failed,
             start.elapsed().as_secs_f64()
         );
+        self.say(line);
     }
 }
 
@@ -544,7 +607,8 @@ fn reordered(tally: &mut Tally, count: usize) {
     }
     tally.count((moved == 0).then(|| "the place of 14 never moved".into()));
     tally.circles_occurred("reordered", &seen);
-    println!("reordered: {count} books, the place of 14 moved in {moved}, {} circles; {} failed", seen.circles(), tally.failed - failed);
+    let line = format!("reordered: {count} books, the place of 14 moved in {moved}, {} circles; {} failed", seen.circles(), tally.failed - failed);
+    tally.say(line);
 }
 
 // Document 01's own examples, its numbers written out.
@@ -567,13 +631,37 @@ fn session(random: &mut Random) -> Option<String> {
     if printed != PRINTED {
         return Some(format!("printed session: {printed}"));
     }
-    let index = [
-        lent.parentheses.lend()[..3] == [55, 6, 0],
-        lent.marks.lend()[..2] == [64, 0],
-        lent.shadows.lend()[..2] == [3, 0],
-        lent.places.lend()[..7] == [0, 1, 5, 2, 3, 4, 0],
-    ];
-    (index != [true; 4]).then(|| "printed session: its index".into())
+    let mut alone = Lent::new(random, LEAST);
+    let outcome = alone.call(BOOK, None);
+    if outcome != (Outcome { number: 0, place: 0, pieces: 6, nodes: 7, shadows: 1 }) {
+        return Some(format!("printed session, index alone: {outcome:?}"));
+    }
+    for mut lent in [lent, alone] {
+        let index = [
+            lent.parentheses.lend()[..3] == [55, 6, 0],
+            lent.marks.lend()[..2] == [64, 0],
+            lent.shadows.lend()[..2] == [3, 0],
+            lent.places.lend()[..7] == [0, 1, 5, 2, 3, 4, 0],
+            lent.parentheses.lend()[3..].iter().all(|&x| x == 0),
+            lent.marks.lend()[2..].iter().all(|&x| x == 0),
+            lent.shadows.lend()[2..].iter().all(|&x| x == 0),
+            lent.places.lend()[7..].iter().all(|&x| x == 0),
+        ];
+        if index != [true; 8] {
+            return Some("printed session: its index".into());
+        }
+    }
+    contained(random, BOOK)
+}
+
+/// Which of the printed session's pieces are in each: bit g of number h for g in h.
+fn contained(random: &mut Random, book: &[u8]) -> Option<String> {
+    let claims: Vec<u8> = (0..6).flat_map(|h| (0..6).flat_map(move |g| record(PART, g, h))).collect();
+    let mut lent = Lent::new(random, Lengths { answers: 36, ..LEAST });
+    lent.call(book, Some(&claims));
+    let row = |answers: &[u8]| answers.iter().enumerate().filter(|(_, &answer)| answer == piecebook::FOLLOWS).map(|(g, _)| 1 << g).sum::<u32>();
+    let rows: Vec<u32> = lent.answers.lend().chunks(6).map(row).collect();
+    (rows != [63, 58, 52, 8, 48, 32]).then(|| format!("printed session: what its pieces contain is {rows:?}"))
 }
 
 /// A fact of each kind from the scanner alone: it and its opposite are decided by all facts and open from the sheets.
@@ -855,6 +943,7 @@ fn conversions() -> Vec<(&'static str, Vec<Bytes>, Result<Vec<Bytes>, (usize, us
         ("a tray twice", vec![tray(1, 1), tray(1, 2), tray(1, 1)], Err((9, 2))),
         ("a tray of both origins", vec![tray(1, 1), of(SCANNER, tray(1, 1))], Ok(one(PART, 1, 0))),
         ("PART 3 3 behind a tray", vec![tray(1, 1), record(PART, 3, 3)], Err((8, 1))),
+        ("PART 3 3", one(PART, 3, 3), Err((8, 0))),
         ("PART 0 0", one(PART, 0, 0), Err((8, 0))),
         ("PART 1 2 and 2 1", vec![record(PART, 2, 1), record(PART, 1, 2)], Err((8, 1))),
         ("PART 1 2,048 is 7 and not 8", one(PART, 1, 2048), Err((7, 0))),
@@ -897,11 +986,43 @@ fn examples(tally: &mut Tally) {
         let case = case(&mut tally.random, &book, &claims);
         let Outcome { number, place: at, .. } = tally.try_case(name, i, &case).outcome;
         if (number, at) != place {
-            println!("FAIL {name}: the reference says {number} at {at}, the papers {place:?}");
-            tally.failed += 1;
+            tally.count(Some(format!("{name}: the reference says {number} at {at}, the papers {place:?}")));
         }
     }
-    println!("document 01's session and edges, restricted claims, marks and circles: {count} books; {} failed", tally.failed - failed);
+    let line = format!("document 01's session and edges, restricted claims, marks and circles: {count} books; {} failed", tally.failed - failed);
+    tally.say(line);
+}
+
+/// Each part of the index and the answers one short of what they must be, alone, whatever the book is: refused by 1 at 0, and nothing is written. Short answers
+/// are nothing to the call that writes the index alone.
+fn one_short(tally: &mut Tally) {
+    let failed = tally.failed;
+    let session: &[u8] = include_bytes!("../../examples/book.rec");
+    let claims: &[u8] = include_bytes!("../../examples/claims");
+    let just = Lengths { answers: claims.len() / 6, ..LEAST };
+    let lengths = [
+        ("a parenthesis byte", Lengths { parentheses: 2559, ..just }),
+        ("a mark byte", Lengths { marks: 1279, ..just }),
+        ("a shadow number", Lengths { shadows: 8191, ..just }),
+        ("places-2047", Lengths { places: 2047, ..just }),
+        ("an answer byte", Lengths { answers: claims.len() / 6 - 1, ..just }),
+    ];
+    let one = |kind, a, b| record(kind, a, b).to_vec();
+    let books = [session.to_vec(), one(MEETS, 0, 0), vec![], one(APART, 2, 2), one(7, 0, 0), vec![1; 5], many(8193).concat()];
+    for (number, book) in books.iter().enumerate() {
+        for (name, lengths) in lengths {
+            let case = Case { book: book.clone(), claims: claims.to_vec(), lengths };
+            let Outcome { number, place, .. } = tally.try_case(name, number, &case).outcome;
+            tally.count(((number, place) != (1, 0)).then(|| format!("{name} short: the reference says {number} at {place}")));
+        }
+        let room = book.len().saturating_sub(1);
+        let number = tally.try_conversion("an output one byte short", number, book, room).number;
+        tally.count((number != 1 && !book.is_empty()).then(|| format!("an output one byte short: the reference says {number}")));
+    }
+    // nothing short: the session is accepted
+    let expected = tally.try_case("just enough", 0, &Case { book: session.to_vec(), claims: claims.to_vec(), lengths: just });
+    tally.count((expected.outcome.number != 0).then(|| "just enough is too little".into()));
+    tally.say(format!("parts one short: {} books, each with six; {} failed", books.len(), tally.failed - failed));
 }
 
 fn conversion_examples(tally: &mut Tally) {
@@ -916,12 +1037,12 @@ fn conversion_examples(tally: &mut Tally) {
         };
         let (converted, new, _) = convert(&book, book.len());
         if (converted, &new) != (Converted { number, place, length: bytes.len() }, &bytes) {
-            println!("FAIL {name}: the reference says {converted:?}");
-            tally.failed += 1;
+            tally.count(Some(format!("{name}: the reference says {converted:?}")));
         }
         tally.try_conversion(name, i, &book, book.len());
     }
-    println!("conversions by hand: {count} books; {} failed", tally.failed - failed);
+    let line = format!("conversions by hand: {count} books; {} failed", tally.failed - failed);
+    tally.say(line);
 }
 
 // Random groups.
@@ -1089,109 +1210,200 @@ fn ask(random: &mut Random, case: Case) -> catalogs::Case {
     catalogs::ask(random, case.book, usize::from(pieces.unwrap_or(0)) + 1, case.lengths)
 }
 
-/// Compares them all, `times` as many random books where that is more than once.
-fn run(times: usize) -> bool {
-    let mut tally = Tally {
-        random: Random(1),
-        passed: 0,
-        failed: 0,
-        numbers: [0; 20],
-        conversions: [0; 20],
-        catalog_numbers: [0; 20],
-        answers: [[0; 4]; 2],
-        seen: Seen::default(),
-        catalog_seen: Seen::default(),
-    };
-    let shapes = || RISING.into_iter().chain(FREE);
-    examples(&mut tally);
-    tally.group("small, from a laying", 3000 * times, |random, _| small_sound(random));
-    tally.group("small, facts thrown in", 3000 * times, |random, _| small_contradictory(random));
-    tally.group("damaged", 4000 * times, damaged);
-    tally.group("short buffers", 1000 * times, short_buffers);
-    tally.group("junk", 1000 * times, |random, _| junk(random));
-    for shape in shapes() {
-        tally.group(&format!("60 to 300 pieces, {shape:?}"), 16 * times, |random, number| middle(random, shape, number));
+/// Parts of the test that need nothing of each other, each with its name.
+struct Jobs {
+    times: usize,
+    list: Vec<(String, Box<dyn FnOnce(&mut Tally) + Send>)>,
+}
+
+fn seed(name: &str) -> Random {
+    Random(name.bytes().fold(7, |seed, byte| seed * 31 + u64::from(byte)))
+}
+
+impl Jobs {
+    fn add(&mut self, name: &str, work: impl FnOnce(&mut Tally) + Send + 'static) {
+        self.list.push((name.into(), Box::new(work)));
     }
-    tally.group("most nodes", 1, |random, _| {
-        let asked = claims(random, 2048, 4096);
-        case(random, &widest(), &asked)
-    });
-    tally.group("8,192 random pairs", 2, |random, number| {
-        let (book, asked) = (scattered(random, number), claims(random, 2048, 4096));
-        case(random, &book, &asked)
-    });
-    for shape in shapes() {
-        tally.group(&format!("2,048 pieces, 8,192 records, 4,096 claims, {shape:?}"), times, |random, number| {
-            largest(random, shape, 1000 + 3000 * (number % 2), 0)
+
+    /// A group of random books.
+    fn group(&mut self, name: &str, count: usize, make: impl Fn(&mut Random, usize) -> Case + Send + 'static) {
+        let own = name.to_string();
+        self.add(name, move |tally| tally.group(&own, count, make));
+    }
+
+    fn converted(&mut self, name: &str, count: usize, make: impl Fn(&mut Random, usize) -> (Vec<u8>, usize) + Send + 'static) {
+        let own = name.to_string();
+        self.add(name, move |tally| tally.converted(&own, count, make));
+    }
+
+    fn catalogs(&mut self, name: &str, count: usize, make: impl Fn(&mut Random, usize) -> catalogs::Case + Send + 'static) {
+        let own = name.to_string();
+        self.add(name, move |tally| tally.catalogs(&own, count, make));
+    }
+
+    /// Those that take longest come first, so that no thread is left alone with one at the end.
+    fn all(times: usize) -> Vec<(String, Box<dyn FnOnce(&mut Tally) + Send>)> {
+        let mut jobs = Jobs { times, list: vec![] };
+        jobs.add("examples", examples);
+        jobs.add("conversions by hand", conversion_examples);
+        jobs.add("parts one short", one_short);
+        // plain C has no working book, no grids and no chains
+        if !cfg!(plain) {
+            jobs.add("chains", move |tally| tally.chains(400 * times));
+            jobs.add("working books", move |tally| tally.days(60 * times));
+            jobs.add("grids", move |tally| tally.grids(600 * times));
+        }
+        jobs.add("replicates", move |tally| tally.logs(800 * times));
+        jobs.add("two books", move |tally| tally.pairs(2400 * times, times));
+        for named in shapes::all() {
+            jobs.add(&format!("shape {}", named.name), move |tally| tally.shape(&named));
+        }
+        for (name, part) in records::parts() {
+            jobs.add(&name, part);
+        }
+        jobs.small_books();
+        jobs.large_books();
+        jobs.conversions();
+        jobs.catalogs_of_books();
+        jobs.list
+    }
+
+    fn small_books(&mut self) {
+        let times = self.times;
+        self.group("small, from a laying", 3000 * times, |random, _| small_sound(random));
+        self.group("small, facts thrown in", 3000 * times, |random, _| small_contradictory(random));
+        self.group("damaged", 4000 * times, damaged);
+        self.group("short buffers", 1000 * times, short_buffers);
+        self.group("junk", 1000 * times, |random, _| junk(random));
+        self.add("reordered", move |tally| reordered(tally, 1500 * times));
+    }
+
+    fn large_books(&mut self) {
+        let times = self.times;
+        let shapes = || RISING.into_iter().chain(FREE);
+        for shape in shapes() {
+            self.group(&format!("60 to 300 pieces, {shape:?}"), 16 * times, move |random, number| middle(random, shape, number));
+        }
+        self.group("most nodes", 1, |random, _| {
+            let asked = claims(random, 2048, 4096);
+            case(random, &widest(), &asked)
         });
-    }
-    for shape in RISING.into_iter().chain([Shape::Couples, Shape::Entwined]) {
-        tally.group(&format!("2,048 pieces, 8,192 records, 4,096 claims, marks, {shape:?}"), times, |random, _| largest(random, shape, 2000, 20));
-    }
-    for shape in shapes() {
-        tally.group(&format!("2,048 pieces, 8,192 records, contradictory, {shape:?}"), times, |random, number| {
-            largest_contradictory(random, shape, [8191, 4000, 100][(number + shape as usize) % 3])
+        self.group("8,192 random pairs", 2, |random, number| {
+            let (book, asked) = (scattered(random, number), claims(random, 2048, 4096));
+            case(random, &book, &asked)
         });
+        for shape in shapes() {
+            self.group(&format!("2,048 pieces, 8,192 records, 4,096 claims, {shape:?}"), times, move |random, number| {
+                largest(random, shape, 1000 + 3000 * (number % 2), 0)
+            });
+        }
+        for shape in RISING.into_iter().chain([Shape::Couples, Shape::Entwined]) {
+            self.group(&format!("2,048 pieces, 8,192 records, 4,096 claims, marks, {shape:?}"), times, move |random, _| largest(random, shape, 2000, 20));
+        }
+        for shape in shapes() {
+            self.group(&format!("2,048 pieces, 8,192 records, contradictory, {shape:?}"), times, move |random, number| {
+                largest_contradictory(random, shape, [8191, 4000, 100][(number + shape as usize) % 3])
+            });
+        }
     }
-    reordered(&mut tally, 1500 * times);
-    conversion_examples(&mut tally);
-    tally.converted("converted, small", 3000 * times, small_former);
-    tally.converted("converted, damaged", 3000 * times, damaged_former);
-    tally.converted("converted, short outputs", 1000 * times, short_output);
-    for shape in RISING {
-        tally.converted(&format!("converted, 60 to 300 pieces, {shape:?}"), 20 * times, |random, number| middle_former(random, shape, number));
+
+    fn conversions(&mut self) {
+        let times = self.times;
+        self.converted("converted, small", 3000 * times, small_former);
+        self.converted("converted, damaged", 3000 * times, damaged_former);
+        self.converted("converted, short outputs", 1000 * times, short_output);
+        for shape in RISING {
+            self.converted(&format!("converted, 60 to 300 pieces, {shape:?}"), 20 * times, move |random, number| middle_former(random, shape, number));
+        }
     }
-    for wrong in [catalogs::session, catalogs::void_piece, catalogs::circle] {
-        let wrong = wrong(&mut tally.random);
-        tally.count(wrong);
-    }
-    for (name, make) in [
-        ("catalogs, small", small_sound as fn(&mut Random) -> Case),
-        ("catalogs, facts thrown in", small_contradictory),
-    ] {
-        tally.catalogs(name, 1500 * times, |random, _| {
-            let case = make(random);
+
+    fn catalogs_of_books(&mut self) {
+        let times = self.times;
+        self.add("catalogs by hand", |tally| {
+            for wrong in [catalogs::session, catalogs::void_piece, catalogs::circle] {
+                let wrong = wrong(&mut tally.random);
+                tally.count(wrong);
+            }
+        });
+        for (name, make) in [
+            ("catalogs, small", small_sound as fn(&mut Random) -> Case),
+            ("catalogs, facts thrown in", small_contradictory),
+        ] {
+            self.catalogs(name, 1500 * times, move |random, _| {
+                let case = make(random);
+                ask(random, case)
+            });
+        }
+        self.catalogs("catalogs, damaged", 1500 * times, |random, number| {
+            let case = damaged(random, number);
             ask(random, case)
         });
-    }
-    tally.catalogs("catalogs, damaged", 1500 * times, |random, number| {
-        let case = damaged(random, number);
-        ask(random, case)
-    });
-    tally.catalogs("catalogs, short buffers", 300 * times, |random, number| {
-        let case = short_buffers(random, number);
-        ask(random, case)
-    });
-    for shape in shapes() {
-        tally.catalogs(&format!("catalogs, 60 to 300 pieces, {shape:?}"), 8 * times, |random, number| {
-            let case = middle(random, shape, number);
+        self.catalogs("catalogs, short buffers", 300 * times, |random, number| {
+            let case = short_buffers(random, number);
             ask(random, case)
         });
-        tally.catalogs(&format!("catalogs, 2,048 pieces, 8,192 records, {shape:?}"), times, |random, number| {
-            let number = number + shape as usize;
-            let case = largest(random, shape, 1000 + 3000 * (number % 2), 10 * (number % 3));
-            catalogs::ask_soundly(random, case.book, 2048, 1 + number % 3, case.lengths)
+        for shape in RISING.into_iter().chain(FREE) {
+            self.catalogs(&format!("catalogs, 60 to 300 pieces, {shape:?}"), 8 * times, move |random, number| {
+                let case = middle(random, shape, number);
+                ask(random, case)
+            });
+            self.catalogs(&format!("catalogs, 2,048 pieces, 8,192 records, {shape:?}"), times, move |random, number| {
+                let number = number + shape as usize;
+                let case = largest(random, shape, 1000 + 3000 * (number % 2), 10 * (number % 3));
+                catalogs::ask_soundly(random, case.book, 2048, 1 + number % 3, case.lengths)
+            });
+        }
+        self.catalogs("catalogs, 8,193 records", 1, |random, _| {
+            let book: Vec<Bytes> = (0..8193).map(|i| record(MEETS, i / 2048, i % 2048)).collect();
+            let case = case(random, &book, &[]);
+            catalogs::ask_soundly(random, case.book, 2048, 1, case.lengths)
         });
     }
-    tally.catalogs("catalogs, 8,193 records", 1, |random, _| {
-        let book: Vec<Bytes> = (0..8193).map(|i| record(MEETS, i / 2048, i % 2048)).collect();
-        let case = case(random, &book, &[]);
-        catalogs::ask_soundly(random, case.book, 2048, 1, case.lengths)
+}
+
+/// Compares them all, `times` as many random books where that is more than once, on so many threads.
+fn run(times: usize, threads: usize) -> bool {
+    let jobs = Jobs::all(times);
+    let count = jobs.len();
+    let waiting = Mutex::new(jobs.into_iter().enumerate());
+    let (done, told) = mpsc::channel();
+    let mut tally = Tally::new(seed("all"));
+    std::thread::scope(|scope| {
+        for _ in 0..threads {
+            let (waiting, done) = (&waiting, done.clone());
+            let work = move || {
+                while let Some((number, (name, job))) = { waiting.lock().expect("no thread has failed").next() } {
+                    let mut tally = Tally::new(seed(&format!("lent, {name}")));
+                    job(&mut tally);
+                    done.send((number, tally)).expect("all are awaited");
+                }
+            };
+            // the calls hold up to 4 MiB
+            std::thread::Builder::new().stack_size(1 << 24).spawn_scoped(scope, work).expect("a thread");
+        }
+        drop(done);
+        let mut early = BTreeMap::new();
+        let mut next = 0;
+        for (number, part) in told {
+            early.insert(number, part);
+            while let Some(part) = early.remove(&next) {
+                part.lines.iter().for_each(|line| println!("{line}"));
+                tally.add(&part);
+                next += 1;
+            }
+        }
+        tally.count((next != count).then(|| format!("{next} of {count} parts were tried")));
     });
-    // plain C has no working book, no grids and no chains
-    if !cfg!(plain) {
-        tally.days(60 * times);
-        tally.grids(600 * times);
-        tally.chains(400 * times);
-    }
-    tally.logs(800 * times);
-    tally.pairs(2400 * times, times);
     tally.all_occurred();
+    tally.lines.iter().for_each(|line| println!("{line}"));
     println!("{} passed, {} failed", tally.passed, tally.failed);
     tally.failed == 0
 }
 
-fn main() {
-    let times = std::env::args().nth(1).map_or(1, |times| times.parse().expect("a number of times"));
-    std::process::exit(if run(times) { 0 } else { 1 });
+pub fn main() {
+    let number = |at: usize| std::env::args().nth(at).map(|text| text.parse::<usize>().expect("a number"));
+    let times = number(1).unwrap_or(1);
+    // plain C has its matrices in one place
+    let threads = if cfg!(plain) { 1 } else { number(2).unwrap_or_else(|| std::thread::available_parallelism().map_or(1, |cores| cores.get())) };
+    std::process::exit(if run(times, threads) { 0 } else { 1 });
 }

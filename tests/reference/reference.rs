@@ -212,6 +212,10 @@ pub fn lowest_members(pieces: usize, pairs: &[(usize, usize)]) -> Vec<usize> {
     }
     let mut lowest = vec![None; pieces];
     for piece in 0..pieces {
+        if parts[piece].is_empty() {
+            // nothing is PART of it but itself
+            lowest[piece] = Some(piece);
+        }
         if lowest[piece].is_none() {
             let (above, below) = (found_from(piece, &containers, &lowest), found_from(piece, &parts, &lowest));
             (0..pieces).filter(|&other| above[other] && below[other]).for_each(|other| lowest[other] = Some(piece));
@@ -266,6 +270,18 @@ impl Circles {
         self.in_circles += twice.iter().filter(|&&part| containers[part].iter().any(|&container| members[container] > 1)).count();
     }
 
+    fn join(&mut self, other: &Circles) {
+        let Circles { late, own, several, long, with_zero, whole, of_circles, in_circles } = other;
+        self.late += late;
+        self.own += own;
+        self.several += several;
+        self.long += long;
+        self.with_zero += with_zero;
+        self.whole += whole;
+        self.of_circles += of_circles;
+        self.in_circles += in_circles;
+    }
+
     fn counts(&self) -> [(&'static str, usize); 8] {
         [
             ("late container", self.late),
@@ -295,6 +311,11 @@ impl Seen {
             let circles = if number == 0 { &mut self.accepted } else { &mut self.contradictory };
             circles.add(book.pieces, &pairs_of(&book.facts));
         }
+    }
+
+    pub fn add(&mut self, other: &Seen) {
+        self.accepted.join(&other.accepted);
+        self.contradictory.join(&other.contradictory);
     }
 
     /// For each thing whether it occurred, with its name. A contradictory book has no shadows.

@@ -1,12 +1,14 @@
-// Bits and parentheses, for bench/parentheses.c: of at most 2,560 bytes, the ones before position k, the position that closes the
-// parenthesis at open (the number of bits where there is none), and the first place past a node's subtree. All else is answered by 0.
+// Bits and parentheses, for bench/parentheses.c and tests/leaves/: of at most 2,560 bytes, the ones before position k, the position of the
+// j-th 1, the positions that close and that enclose the parenthesis at open, and the first place past a node's subtree. A position that is
+// missing is the number of bits. All else is answered by 0.
 ghost use mathlib.Core.Path.{_≡_};
 ghost use mathlib.Core.Bool.{true, false};
 ghost use Prim.Native.Nat.{_*_, _<_, _≤_};
 ghost use lib.ListN.{length, getD};
 ghost use Rattle.parentheses.specs.Bits.{bits};
-ghost use Rattle.parentheses.specs.Rank.{rank};
+ghost use Rattle.parentheses.specs.Rank.{rank, select};
 ghost use Rattle.parentheses.specs.Close.{close};
+ghost use Rattle.parentheses.specs.Enclose.{enclosing};
 ghost use Rattle.parentheses.specs.Subtree.{after};
 ghost use Rattle.parentheses.specs.Found.{foundBelow};
 ghost use Rattle.exports.specs.Positions.{positionOf};
@@ -26,6 +28,19 @@ pub extern "C" fn parentheses_ones_before(bytes: &[u8], k: usize) -> usize
 }
 
 #[no_mangle]
+pub extern "C" fn parentheses_select(bytes: &[u8], j: usize) -> usize
+    ensures { λ r. ⌜ (length (now (bytes .entry)) ≤ 2560 → r ≡ positionOf (8 * length (now (bytes .entry))) (foundBelow (8 * length (now (bytes .entry))) (select (bits (now (bytes .entry))) j))) ⌝ }
+{
+    if bytes.len() > 2560 {
+        return 0;
+    }
+    let Found::At(position) = parentheses::select(bytes, j) else {
+        return bytes.len() * 8;
+    };
+    position
+}
+
+#[no_mangle]
 pub extern "C" fn parentheses_find_close(bytes: &[u8], open: usize) -> usize
     ensures { λ r. ⌜ (length (now (bytes .entry)) ≤ 2560 → «open» < 8 * length (now (bytes .entry)) → getD (bits (now (bytes .entry))) «open» false ≡ true → r ≡ positionOf (8 * length (now (bytes .entry))) (foundBelow (8 * length (now (bytes .entry))) (close (bits (now (bytes .entry))) «open»))) ⌝ }
 {
@@ -42,6 +57,44 @@ pub extern "C" fn parentheses_find_close(bytes: &[u8], open: usize) -> usize
         return bytes.len() * 8;
     };
     close
+}
+
+// The same search with the ones before each byte counted first, as the calls do it.
+#[no_mangle]
+pub extern "C" fn parentheses_find_close_by(bytes: &[u8], open: usize) -> usize
+    ensures { λ r. ⌜ (length (now (bytes .entry)) ≤ 2560 → «open» < 8 * length (now (bytes .entry)) → getD (bits (now (bytes .entry))) «open» false ≡ true → r ≡ positionOf (8 * length (now (bytes .entry))) (foundBelow (8 * length (now (bytes .entry))) (close (bits (now (bytes .entry))) «open»))) ⌝ }
+{
+    if bytes.len() > 2560 {
+        return 0;
+    }
+    if open >= bytes.len() * 8 {
+        return 0;
+    }
+    if !parentheses::get(bytes, open) {
+        return 0;
+    }
+    let mut ranks = [0u16; 2561];
+    parentheses::rank_bytes(bytes, &mut ranks);
+    let Found::At(close) = parentheses::find_close_by(bytes, &ranks, open) else {
+        return bytes.len() * 8;
+    };
+    close
+}
+
+#[no_mangle]
+pub extern "C" fn parentheses_enclose(bytes: &[u8], open: usize) -> usize
+    ensures { λ r. ⌜ (length (now (bytes .entry)) ≤ 2560 → «open» ≤ 8 * length (now (bytes .entry)) → r ≡ positionOf (8 * length (now (bytes .entry))) (enclosing (bits (now (bytes .entry))) «open»)) ⌝ }
+{
+    if bytes.len() > 2560 {
+        return 0;
+    }
+    if open > bytes.len() * 8 {
+        return 0;
+    }
+    let Found::At(position) = parentheses::enclose(bytes, open) else {
+        return bytes.len() * 8;
+    };
+    position
 }
 
 #[no_mangle]

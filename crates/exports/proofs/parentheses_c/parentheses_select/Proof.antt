@@ -1,0 +1,34 @@
+-- `exports::parentheses_c::parentheses_select` meets its contract.
+-- Assumes nothing.
+use mathlib.Core.Path.{sym, ap, _∙_}
+use native.Mathlib.Nat.{mul-comm}
+use borrow.Author.Needs.{needs}
+use Rattle.exports.specs.Positions.{positionOf}
+use Rattle.exports.proofs.parentheses_c.parentheses_select.Statement.{statement}
+use Rattle.exports.proofs.parentheses_c.parentheses_select.Tie as tie
+
+returns : tie.Need-returns
+returns c = search needs
+
+select-requires : tie.Need-select-requires
+select-requires c κs = search needs
+
+enum-known-position : tie.Need-enum-known-position
+enum-known-position c = search needs
+
+enum-told : tie.Need-enum-told
+enum-told c = search needs
+
+mul-result : tie.Need-mul-result
+mul-result c = search needs
+
+returns-2 : tie.Need-returns-2
+returns-2 c = λ h. mul-comm _ 8 ∙ ap (positionOf _) (sym (c .enum-told .given .1) ∙ c .before .before .select .ensures)
+
+returns-3 : tie.Need-returns-3
+returns-3 c = λ h. ap (positionOf _) (sym (c .before .position .given .1) ∙ c .before .before .before .select .ensures)
+
+pub parentheses-select-spec : {M : Type 1} → statement M
+parentheses-select-spec =
+    tie.close
+    (tie.spec returns select-requires enum-known-position enum-told mul-result returns-2 returns-3)
