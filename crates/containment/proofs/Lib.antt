@@ -6,4 +6,3 @@ pub mod Rows
 pub mod Pieces
 pub mod Ends
 pub mod Table
-pub mod Built
