@@ -66,8 +66,8 @@ module _ (m : List ℕ) (c : ℕ) (held₀ : List ℕ) where
     later = λ q b. getD-set-other held p q 1 0 (λ x. omega arith) ∙ M .later q (omega arith);
   }
 
-  pub mark-done : (held : List ℕ) (p : ℕ) → Marking m c held₀ held p → 2048 ≤ p → Marked m c held₀ held
-  mark-done held p M l = record { hit = λ q b. M .hit q (omega arith); miss = λ q b. M .miss q (omega arith) }
+  pub mark-done : (held : List ℕ) (p : ℕ) → Marking m c held₀ held p → 2048 ≤ p → length held ≡ length held₀ → Marked m c held₀ held
+  mark-done held p M l e = record { same = e; hit = λ q b. M .hit q (omega arith); miss = λ q b. M .miss q (omega arith) }
 
 -- ## The parts of all pieces
 

@@ -11,6 +11,7 @@ pub mod Packing
 pub mod Bounds
 pub mod Matrices
 pub mod Events
+mod Fits
 mod Nexts
 mod Queue
 mod Rounds

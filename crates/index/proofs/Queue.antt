@@ -157,6 +157,10 @@ module _ (n : ℕ) (edge : ℕ → ℕ → Bool) (c : ℕ) (par₀ ord₀ : List
         at q (yes x) = rw x (getD-set-same par p c 0 (omega (arith, S .parLength)) ∙ sym (after-hit edge par₀ c (p + 1) p (omega arith) (sym same-fresh ∙ f) g))
         at q (no x) = getD-set-other par p q c 0 x ∙ S .parents q ∙ sym (after-other edge par₀ c p q x)
 
+    -- and there is room for it
+    pub spread-room : p < n → getD par p 0 ≡ 2048 → edge p c ≡ true → tail₀ + length (unmet n par₀) ≤ length ord₀ → n ≤ length par₀ → length ord₀ ≡ 2048 → tail < 2048
+    spread-room l w g room room′ e = omega (arith, spread-take l w g room room′ .0, S .ordLength)
+
     -- or passed over
     pub spread-pass : ((fresh par p && edge p c) ≡ false) → Spreading n edge c par₀ ord₀ tail₀ par ord tail (p + 1)
     spread-pass f =

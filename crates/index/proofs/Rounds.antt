@@ -180,13 +180,6 @@ module _ (n : ℕ) (edge : ℕ → ℕ → Bool) where
 
 -- ## As the code sees it
 
-pub filled : (par : List ℕ) (i : ℕ) → i < length par → ((q : ℕ) → q < i → getD par q 0 ≡ 2048) → (q : ℕ) → q < i + 1 → getD (set par i 2048) q 0 ≡ 2048
-filled par i l h q b = go (ℕ-discrete q i)
-  where
-    go : Dec (q ≡ i) → getD (set par i 2048) q 0 ≡ 2048
-    go (yes x) = rw x (getD-set-same par i 2048 0 l)
-    go (no x) = getD-set-other par i q 2048 0 x ∙ h q (omega arith)
-
 pub unmet-all : (par : List ℕ) (n : ℕ) → ((q : ℕ) → q < n → getD par q 0 ≡ 2048) → (q : ℕ) → q < n → fresh par q ≡ true
 unfolding fresh
 unmet-all par n h q l = eq-eqb (getD par q 0) 2048 (h q l)

@@ -1,13 +1,17 @@
 -- The four parts while the tree is walked: at the node c, whose parts below `from` are done. Assumes nothing.
 use mathlib.Core.Path.{_≡_, sym, ap, _∙_}
-use mathlib.Core.Bool.{Bool}
+use mathlib.Core.Bool.{Bool, true}
 use mathlib.Core.List.{List, [], _∷_}
-use Prim.Native.Nat.{ℕ, _+_, _*_, _≤_, _<_}
+use Prim.Native.Nat.{ℕ, _+_, _*_, _-_, _≤_, _<_}
 use native.Mathlib.Omega.{arith}
 use native.Mathlib.Numerals.{add-one}
 use native.Mathlib.Decide.{ℕ-discrete, decLt}
 use lib.ListN.{length, getD, set, replicate, length-set, length-replicate, getD-replicate, List·getD-eq-default}
-use lib.Seq.{getD-set-other}
+use lib.Seq.{getD-set-other, set-getD}
+use Rattle.lists.specs.First.{first}
+use Rattle.relation.specs.Matrix.{bitOf}
+use Rattle.parentheses.specs.Bits.{bits}
+use Rattle.parentheses.proofs.Packed.{bits-put}
 use Rattle.index.specs.Pairs.{Book}
 use Rattle.index.specs.Breadth.{parent}
 use Rattle.index.specs.Tree.{Visit, node, shadow, whole, visits}
@@ -16,11 +20,12 @@ use Rattle.index.specs.Index.{parenthesesOf, visitsOf}
 use Rattle.index.specs.Matrix.{pairOf}
 use Rattle.index.specs.Steps.{Walkable, Walked, Zero}
 use Rattle.index.proofs.Reached.{parent-edge}
+use Rattle.index.proofs.Fits.{upto}
 use Rattle.index.proofs.Nodes.{once}
 use Rattle.index.proofs.Sizes.{node-or-shadow}
 use Rattle.index.proofs.Ranges.{parens-length}
 use Rattle.index.proofs.Standing.{node-at, place-small}
-use Rattle.index.proofs.Nexts.{Next}
+use Rattle.index.proofs.Nexts.{Next, next-part}
 use Rattle.index.proofs.Events.{enter, leave, events, rest, parens-events, visits-events, step-next, step-shadow, step-node, step-leave, step-end, start}
 use Rattle.index.proofs.Written.{Written, Put, Done, written-start, written-leave, written-node, written-shadow, written-end, bit-room, shadow-room}
 
@@ -72,6 +77,11 @@ pub resized : {n : ℕ} {m par : List ℕ} {lb lm ls lp lb′ lm′ ls′ lp′ 
     → Walkable n m par lb′ lm′ ls′ lp′
 resized W a b d e = rw (a, b, d, e) W
 
+-- the next part, as the walk finds it
+pub stepping : {n : ℕ} {e par : List ℕ} {lb lm ls lp : ℕ} {ps mks sh pl : List ℕ} {c from at k m p : ℕ} → Walkable n e par lb lm ls lp
+    → Walking n (pairOf n e) lb lm ls lp ps mks sh pl c from at k m → p ≡ first (bitOf e c) from (2048 - from) → Next n (pairOf n e) c from p
+stepping W G f = next-part _ _ _ _ _ (W .small) (upto _ _ _ (G .upto) (W .small)) f
+
 -- cleared
 pub cleared : {xs : List ℕ} (n : ℕ) → xs ≡ replicate n 0 → Zero xs
 cleared n e = record {
@@ -89,21 +99,32 @@ module _ {n : ℕ} {edge : ℕ → ℕ → Bool} {par : List ℕ} {lb lm ls lp :
     begun = rw (start n edge (R .book)) at (written-start (P n edge) (U n edge) ps mks sh pl (events (whole n edge)) (parens-events (whole n edge)) (visits-events (whole n edge))
         (rw a (R .parensRoom)) (rw b (R .marksRoom)) (rw d (R .shadowRoom)) (z₁ .zeros) (z₂ .zeros) (z₃ .zeros))
 
-    pub start-room : (0 < 8 * length ps) × (0 < length pl)
-    start-room = (bit-room (P n edge) (U n edge) ps mks sh pl 0 0 0 (rest n edge 0 1) (node 0) begun .1, omega (arith, R .placeRoom, R .book .some))
+    start-room : 0 < 8 * length ps
+    start-room = bit-room (P n edge) (U n edge) ps mks sh pl 0 0 0 (rest n edge 0 1) (node 0) begun .1
 
-    pub walk-start : {ps′ pl′ : List ℕ} → Put ps ps′ 0 → pl′ ≡ set pl 0 0 → Walking n edge lb lm ls lp ps′ mks sh pl′ 0 1 1 1 0
-    walk-start {ps′} {pl′} w f = rw f
-        (record {
+    pub start-byte : 0 < length ps
+    start-byte = omega (arith, start-room)
+
+    -- the first byte holds nothing yet
+    first-bit : bits (set ps 0 1) ≡ set (bits ps) 0 true
+    first-bit = rw (z₁ .zeros 0) at (bits-put ps 0 start-room)
+
+    -- piece 0 has place 0 already
+    first-place : set pl 0 0 ≡ pl
+    first-place = rw (z₄ .zeros 0) at (set-getD pl 0 0)
+
+    pub walk-start : Walking n edge lb lm ls lp (set ps 0 1) mks sh pl 0 1 1 1 0
+    walk-start =
+        record {
           inner = R .book .some;
           upto = R .book .some;
-          lenParens = w .same ∙ a;
+          lenParens = length-set ps 0 1 ∙ a;
           lenMarks = b;
           lenShadows = d;
-          lenPlaces = length-set pl 0 0 ∙ e;
-          spare = λ q h. getD-set-other pl 0 q 0 0 (λ x. omega (arith, R .book .some)) ∙ z₄ .zeros q;
-          state = written-node (P n edge) (U n edge) ps mks sh pl 0 0 0 (rest n edge 0 1) 0 ps′ begun w (once n edge (R .book) 0 (R .book .some)) (start-room .1);
-        })
+          lenPlaces = e;
+          spare = λ q h. z₄ .zeros q;
+          state = rw first-place at (written-node (P n edge) (U n edge) ps mks sh pl 0 0 0 (rest n edge 0 1) 0 (set ps 0 1) begun (record { same = length-set ps 0 1; bit = first-bit }) (once n edge (R .book) 0 (R .book .some)) (omega (arith, R .placeRoom, R .book .some)));
+        }
 
   module _ {ps mks sh pl : List ℕ} {c from at k m : ℕ} (G : Walking n edge lb lm ls lp ps mks sh pl c from at k m) {p : ℕ} (N : Next n edge c from p) where
     its-parent : p < n → getD par p 0 ≡ parent n edge p

@@ -11,7 +11,7 @@ use Rattle.parentheses.specs.Bits.{bits}
 use Rattle.lists.specs.Tally.{num}
 use Rattle.relation.specs.Matrix.{bitOf}
 use Rattle.lists.specs.Numbers.{range, keep}
-use Rattle.index.specs.Pairs.{Book}
+use Rattle.index.specs.Pairs.{joined, Book}
 use Rattle.index.specs.Breadth.{parent}
 use Rattle.index.specs.Parts.{place, marks, shadows}
 use Rattle.index.specs.Index.{parenthesesOf, visitsOf, Room}
@@ -21,12 +21,20 @@ use Rattle.index.specs.Matrix.{pairOf}
 
 -- held has a 1 for each part of c, and is as it was elsewhere
 pub record Marked (m : List ℕ) (c : ℕ) (held held′ : List ℕ) : Type 0 where
+  pub same : length held′ ≡ length held
   pub hit : (q : ℕ) → q < 2048 → bitOf m c q ≡ true → getD held′ q 0 ≡ 1
   pub miss : (q : ℕ) → q < 2048 → bitOf m c q ≡ false → getD held′ q 0 ≡ getD held q 0
 
 -- held has a 1 for each part of one of the first n pieces, and 0 elsewhere
 pub record Held (n : ℕ) (m held : List ℕ) : Type 0 where
   pub each : (q : ℕ) → q < 2048 → getD held q 0 ≡ num (anyBelow (λ c. bitOf m c q) n)
+
+-- a matrix that is a book's once it has the joins
+pub record Joinable (n : ℕ) (m : List ℕ) : Type 0 where
+  pub some : 0 < n
+  pub small : n ≤ 2048
+  pub matrix : length m ≡ 65536
+  pub book : Book n (joined n (pairOf n m))
 
 -- ---- the parents, breadth first
 
@@ -70,7 +78,6 @@ pub record Walkable (n : ℕ) (m par : List ℕ) (bytes markBytes shadowCount pl
   pub book : Book n (pairOf n m)
   pub small : n ≤ 2048
   pub matrix : length m ≡ 65536
-  pub listed : n ≤ length par
   pub parents : (p : ℕ) → 0 < p → p < n → getD par p 0 ≡ parent n (pairOf n m) p
   pub room : Room n (pairOf n m) bytes markBytes shadowCount placeCount
   pub few : length (visitsOf n (pairOf n m)) ≤ 65536

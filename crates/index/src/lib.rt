@@ -7,7 +7,7 @@ ghost use Rattle.parentheses.specs.Padded.{padded};
 ghost use Rattle.index.specs.Pairs.{joined};
 ghost use Rattle.index.specs.Index.{Indexed};
 ghost use Rattle.index.specs.Matrix.{pairOf, Buildable, Completed};
-ghost use Rattle.index.specs.Steps.{Marked, Held, Sized, unmet, Spread, Parented, Zero, Walkable, Walked, Resolvable, Resolved};
+ghost use Rattle.index.specs.Steps.{Marked, Held, Joinable, Sized, unmet, Spread, Parented, Zero, Walkable, Walked, Resolvable, Resolved};
 
 // A piece's number.
 pub struct DatasetId(pub usize);
@@ -42,15 +42,6 @@ pub fn place_of(places: &[u16], g: DatasetId) -> TreeId
     TreeId(wide(places[i]))
 }
 
-fn set_place(places: &mut [u16], g: DatasetId, t: TreeId)
-    requires { ⌜ (g .0 < length (now places)) × (t .0 < 65536) ⌝ }
-    ensures { λ _. ⌜ now (places .exit) ≡ set (now (places .entry)) (g .0) (t .0) ⌝ }
-{
-    let i = g.0;
-    let k = t.0;
-    places[i] = narrow(k);
-}
-
 pub fn clear(list: &mut [u16])
     ensures { λ _. ⌜ now (list .exit) ≡ replicate (length (now (list .entry))) 0 ⌝ }
 {
@@ -62,7 +53,7 @@ pub fn clear(list: &mut [u16])
 }
 
 // Marks the parts of c.
-fn mark_parts(edges: &[u64], c: usize, held: &mut [u16])
+fn mark_parts(edges: &[u64], c: usize, held: &mut [u16; 2048])
     requires { ⌜ (length (now edges) ≡ 65536) × (c < 2048) × (length (now held) ≡ 2048) ⌝ }
     ensures { λ _. ⌜ Marked (now (edges .entry)) c (now (held .entry)) (now (held .exit)) ⌝ }
 {
@@ -74,7 +65,7 @@ fn mark_parts(edges: &[u64], c: usize, held: &mut [u16])
 }
 
 // Marks the pieces that are somebody's part.
-fn mark_held(n: usize, edges: &[u64], held: &mut [u16])
+fn mark_held(n: usize, edges: &[u64], held: &mut [u16; 2048])
     requires { ⌜ (n ≤ 2048) × (length (now edges) ≡ 65536) × (length (now held) ≡ 2048) × Zero (now held) ⌝ }
     ensures { λ _. ⌜ Held n (now (edges .entry)) (now (held .exit)) ⌝ }
 {
@@ -86,8 +77,8 @@ fn mark_held(n: usize, edges: &[u64], held: &mut [u16])
 }
 
 // Joins each piece but 0 that is nobody's part to 0.
-fn join(n: usize, edges: &mut [u64], held: &[u16])
-    requires { ⌜ (n ≤ 2048) × (0 < n) × (length (now edges) ≡ 65536) × (length (now held) ≡ 2048) × Held n (now edges) (now held) ⌝ }
+fn join(n: usize, edges: &mut [u64], held: &[u16; 2048])
+    requires { ⌜ (n ≤ 2048) × (0 < n) × (length (now edges) ≡ 65536) × Held n (now edges) (now held) ⌝ }
     ensures { λ _. ⌜ Completed n (now (edges .entry)) (now (edges .exit)) ⌝ }
 {
     let mut p: usize = 1;
@@ -106,11 +97,11 @@ fn spread(
     n: usize,
     c: usize,
     edges: &[u64],
-    parent: &mut [u16],
-    order: &mut [u16],
+    parent: &mut [u16; 2048],
+    order: &mut [u16; 2048],
     tail: usize,
 ) -> usize
-    requires { ⌜ Sized n (now edges) (length (now parent)) (length (now order)) × (c < n) × (tail + length (unmet n (now parent)) ≤ length (now order)) ⌝ }
+    requires { ⌜ Sized n (now edges) (length (now parent)) (length (now order)) × (c < n) × (tail + length (unmet n (now parent)) ≤ length (now order)) × (length (now order) ≡ 2048) ⌝ }
     ensures { λ r. ⌜ Spread n (pairOf n (now (edges .entry))) c (now (parent .entry)) (now (order .entry)) tail (now (parent .exit)) (now (order .exit)) r ⌝ }
 {
     let mut end = tail;
@@ -128,40 +119,29 @@ fn spread(
     end
 }
 
-// No piece has a parent yet.
-fn forget(n: usize, parent: &mut [u16])
-    requires { ⌜ n ≤ length (now parent) ⌝ }
-    ensures { λ _. ⌜ ((q : ℕ) → q < n → getD (now (parent .exit)) q 0 ≡ 2048) ⌝ }
+// The parent of each piece but 0, breadth first from 0. 2048 stands for none yet.
+fn find_parents(n: usize, edges: &[u64]) -> [u16; 2048]
+    requires { ⌜ Sized n (now edges) 2048 2048 ⌝ }
+    ensures { λ r. ⌜ Parented n (pairOf n (now (edges .entry))) r ⌝ }
 {
-    let mut i: usize = 0;
-    while i < n {
-        parent[i] = 2048;
-        i += 1;
-    }
-}
-
-// The parent of each piece but 0, breadth first from 0.
-fn find_parents(n: usize, edges: &[u64], parent: &mut [u16], order: &mut [u16])
-    requires { ⌜ Sized n (now edges) (length (now parent)) (length (now order)) ⌝ }
-    ensures { λ _. ⌜ Parented n (pairOf n (now (edges .entry))) (now (parent .exit)) ⌝ }
-{
-    forget(n, parent);
-    order[0] = 0;
+    let mut parent = [2048u16; 2048];
+    let mut order = [0u16; 2048];
     let mut head: usize = 0;
     let mut tail: usize = 1;
     while head < tail {
         let c = wide(order[head]);
-        tail = spread(n, c, edges, parent, order, tail);
+        tail = spread(n, c, edges, &mut parent, &mut order, tail);
         head += 1;
     }
+    parent
 }
 
-// The four parts, into parts that are zero, depth first: the walk stands at the node of c, whose parts below `from` are done. The shadow
-// list has the number of each shadow's piece yet, as the piece's node may come later.
+// The four parts, into parts that are zero, depth first. The shadow list has the number of each shadow's piece yet, as the piece's node
+// may come later. Piece 0 has place 0 already.
 fn walk(
     n: usize,
     edges: &[u64],
-    parent: &[u16],
+    parent: &[u16; 2048],
     parens: &mut [u8],
     marks: &mut [u8],
     shadows: &mut [u16],
@@ -170,8 +150,7 @@ fn walk(
     requires { ⌜ Walkable n (now edges) (now parent) (length (now parens)) (length (now marks)) (length (now shadows)) (length (now places)) × Zero (now parens) × Zero (now marks) × Zero (now shadows) × Zero (now places) ⌝ }
     ensures { λ r. ⌜ Walked n (pairOf n (now (edges .entry))) (now (parens .exit)) (now (marks .exit)) (now (shadows .exit)) (now (places .exit)) (r .nodes) (r .shadows) ⌝ }
 {
-    parentheses::put(parens, 0);
-    set_place(places, DatasetId(0), TreeId(0));
+    parens[0] = 1;
     let mut c = DatasetId(0);
     let mut from: usize = 1;
     let mut at: usize = 1;
@@ -182,7 +161,7 @@ fn walk(
         if p < n {
             parentheses::put(parens, at);
             if wide(parent[p]) == c.0 {
-                set_place(places, DatasetId(p), TreeId(k.0));
+                places[p] = narrow(k.0);
                 at += 1;
                 k = TreeId(k.0 + 1);
                 c = DatasetId(p);
@@ -224,37 +203,15 @@ fn resolve(shadows: &mut [u16], places: &[u16], m: usize)
     }
 }
 
-// Puts the joins into row 0.
-fn complete(n: usize, edges: &mut [u64])
-    requires { ⌜ (n ≤ 2048) × (0 < n) × (length (now edges) ≡ 65536) ⌝ }
-    ensures { λ _. ⌜ Completed n (now (edges .entry)) (now (edges .exit)) ⌝ }
+// Puts the joins into row 0, and then finds the parents.
+fn complete(n: usize, edges: &mut [u64]) -> [u16; 2048]
+    requires { ⌜ Joinable n (now edges) ⌝ }
+    ensures { λ r. ⌜ Completed n (now (edges .entry)) (now (edges .exit)) × Parented n (pairOf n (now (edges .exit))) r ⌝ }
 {
     let mut held = [0u16; 2048];
     mark_held(n, edges, &mut held);
     join(n, edges, &held);
-}
-
-// The four parts of the book in a matrix that has the joins, with its parents.
-fn fill(
-    n: usize,
-    edges: &[u64],
-    parent: &[u16],
-    parens: &mut [u8],
-    marks: &mut [u8],
-    shadows: &mut [u16],
-    places: &mut [u16],
-) -> Counts
-    requires { ⌜ Walkable n (now edges) (now parent) (length (now parens)) (length (now marks)) (length (now shadows)) (length (now places)) ⌝ }
-    ensures { λ r. ⌜ Indexed n (pairOf n (now (edges .entry))) (now (parens .exit)) (now (marks .exit)) (now (shadows .exit)) (now (places .exit)) (r .nodes) (r .shadows) ⌝ }
-{
-    parentheses::clear(parens);
-    parentheses::clear(marks);
-    clear(shadows);
-    clear(places);
-    let counts = walk(n, edges, parent, parens, marks, shadows, places);
-    let m = counts.shadows;
-    resolve(shadows, places, m);
-    counts
+    find_parents(n, edges)
 }
 
 // Writes the index of the book whose pairs are in `edges` into the four lent parts, and the joins into `edges`.
@@ -270,11 +227,15 @@ pub fn build(
     ensures index { λ r. ⌜ Indexed n (joined n (pairOf n (now (edges .entry)))) (now (parens .exit)) (now (marks .exit)) (now (shadows .exit)) (now (places .exit)) (r .nodes) (r .shadows) ⌝ }
     ensures joins { λ _. ⌜ Completed n (now (edges .entry)) (now (edges .exit)) ⌝ }
 {
-    let mut parent = [0u16; 2048];
-    let mut order = [0u16; 2048];
-    complete(n, edges);
-    find_parents(n, edges, &mut parent, &mut order);
-    fill(n, edges, &parent, parens, marks, shadows, places)
+    let parent = complete(n, edges);
+    parentheses::clear(parens);
+    parentheses::clear(marks);
+    clear(shadows);
+    clear(places);
+    let counts = walk(n, edges, &parent, parens, marks, shadows, places);
+    let m = counts.shadows;
+    resolve(shadows, places, m);
+    counts
 }
 
 // Gives each piece below n the place of its group.

@@ -6,7 +6,7 @@ use Prim.Native.Nat.{ℕ, _+_, _*_, _/_, _≤_, _<_}
 use native.Mathlib.Omega.{arith}
 use borrow.Author.Tests.{lt-ltb, le-ltb, le-leb, lt-leb, eq-eqb, ne-eqb}
 use lib.Dec.{ltb, leb, eqb}
-use lib.ListN.{length, take, drop, replicate}
+use lib.ListN.{length, take, drop, replicate, length-append, length-drop}
 use lib.Seq.{length-take-le}
 use Rattle.lists.specs.Front.{front}
 use Rattle.records.specs.Record.{records}
@@ -53,10 +53,18 @@ unfolding byArea
 past-area area k rest l m = off (ltb (length area) 49152) ShortBuffer _ (le-ltb (length area) 49152 l) ∙ off (ltb 8192 k) TooManyRecords rest (le-ltb 8192 k m)
 
 -- ---- what is kept
+
+-- the image and nothing behind it fit the front of the area
+pub image-room : (image area : List ℕ) → length image ≡ 49152 → 49152 ≤ length area → length image + length {A = ℕ} [] ≤ length (take 49152 area)
+image-room image area l m = omega (arith, length-take-le 49152 area m)
+
+pub front-length : (last area : List ℕ) → length last ≡ length (take 49152 area) → 49152 ≤ length area → length (last ++ drop 49152 area) ≡ length area
+front-length last area e m = omega (arith, length-append last (drop 49152 area), length-take-le 49152 area m, length-drop 49152 area)
+
 module _ (w : Working) (area : List ℕ) where
-  pub settled-refused : (image : List ℕ) (k : ℕ) (o : Outcome) {x : Refusal} {i : ℕ} → o ≡ Refused x i → (Refused x i ≡ o) × ((w ≡ keptState w k o) × (area ≡ keptArea area image o))
+  pub settled-refused : (image : List ℕ) (k : ℕ) (o : Outcome) {x : Refusal} {i : ℕ} → o ≡ Refused x i → (o ≡ o) × ((w ≡ keptState w k o) × (area ≡ keptArea area image o))
   unfolding keptState keptArea
-  settled-refused image k o e = (sym e, rw e (refl, refl))
+  settled-refused image k o e = (refl, rw e (refl, refl))
 
   pub settled-accepted : (image : List ℕ) (k : ℕ) (o : Outcome) {n v h : ℕ} → o ≡ Accepted n v h → (last : List ℕ) → length image ≡ 49152 → 49152 ≤ length area → last ≡ padded 0 (length (take 49152 area)) (image ++ [])
       → (Accepted n v h ≡ o) × ((record { records = k; pieces = n } ≡ keptState w k o) × (last ++ drop 49152 area ≡ keptArea area image o))

@@ -90,15 +90,15 @@ fn settle(was: Working, area: &mut [u8], image: &[u8], records: usize, outcome: 
     ensures { λ r. ⌜ (r .outcome ≡ outcome) × ((r .working ≡ keptState was records outcome) × (now (area .exit) ≡ keptArea (now (area .entry)) (now (image .entry)) outcome)) ⌝ }
 {
     match outcome {
-        Outcome::Refused(refusal, place) => Settled {
+        Outcome::Refused(_, _) => Settled {
             working: was,
-            outcome: Outcome::Refused(refusal, place),
+            outcome,
         },
-        Outcome::Accepted(pieces, nodes, shadows) => {
+        Outcome::Accepted(pieces, _, _) => {
             write_runs(image, &image[..0], &mut area[..49152]);
             Settled {
                 working: Working { records, pieces },
-                outcome: Outcome::Accepted(pieces, nodes, shadows),
+                outcome,
             }
         }
     }

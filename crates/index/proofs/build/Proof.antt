@@ -1,56 +1,86 @@
 -- `index::build` meets its contract.
 -- Assumes nothing.
-use Rattle.index.proofs.Buildings.{sized, walkable, indexed}
-use borrow.Author.Needs.{needs}
+use mathlib.Core.Path.{_∙_}
+use lib.ListN.{length}
+use Rattle.index.proofs.Fits.{byte}
+use Rattle.index.proofs.Walking.{resized, cleared}
+use Rattle.index.proofs.Resolution.{resolvable, index-is}
+use Rattle.index.proofs.Buildings.{joinable, walkable, indexed}
 use Rattle.index.proofs.build.Statement.{statement}
 use Rattle.index.proofs.build.Tie as tie
 
 complete-requires : tie.Need-complete-requires
-complete-requires c κs = search needs
+complete-requires c κs = joinable (c .before .before .before .before .before .before .pre)
 
-slice-aggregate-find-parents : tie.Need-slice-aggregate-find-parents
-slice-aggregate-find-parents c = search needs
+clear-requires : tie.Need-clear-requires
+clear-requires c κs = tt
 
-slice-aggregate-find-parents-2 : tie.Need-slice-aggregate-find-parents-2
-slice-aggregate-find-parents-2 c = search needs
+clear-requires-2 : tie.Need-clear-requires-2
+clear-requires-2 c κs = tt
 
-find-parents-requires : tie.Need-find-parents-requires
-find-parents-requires c κs = let s = c .before .before .before .before .before .before .before .before .before .before .before .before in sized (s .pre) (c .before .before .before .before .before .complete .ensures) (c .before .before .before .before .before .complete .kept .1 .0)
+clear-requires-3 : tie.Need-clear-requires-3
+clear-requires-3 c κs = tt
 
-slice-aggregate-fill : tie.Need-slice-aggregate-fill
-slice-aggregate-fill c = search needs
+clear-requires-4 : tie.Need-clear-requires-4
+clear-requires-4 c κs = tt
 
-fill-requires : tie.Need-fill-requires
-fill-requires c κs = let s = c .before .before .before .before .before .before .before .before .before .before .before .before .before .before .before .before .before .before .before .before .before in walkable (s .pre) (c .before .before .before .before .before .before .before .before .before .before .before .before .before .before .complete .ensures) (c .before .before .before .before .before .before .before .before .before .before .before .before .before .before .complete .kept .1 .0) (c .before .before .before .before .before .before .before .before .find-parents .kept .1 .1 .0) (c .before .before .before .before .before .before .before .before .find-parents .ensures)
+walk-requires : tie.Need-walk-requires
+walk-requires c κs =
+    let s = c .before .before .before .before .before .before .before .before .before .before .before .before .before .before .before .before .before .before .before .before .before .before .before .before .before .before .before .before .before .before .before in
+    let d = c .before .before .before .before .before .before .before .before .before .before .before .before .before .before .before .before .before .before .before .before .before .before .before .before .complete in
+    let W = walkable (s .pre) (d .ensures .0) (d .kept .1 .0) (d .ensures .1) in (
+      resized W (c .before .before .before .before .before .before .before .before .before .before .before .before .before .before .before .before .before .before .before .before .clear .kept .0) (c .before .before .before .before .before .before .before .before .before .before .before .before .before .before .before .before .clear2 .kept .0) (c .before .before .before .before .before .before .before .before .before .before .before .before .clear3 .kept .0) (c .before .before .before .before .before .before .before .before .clear4 .kept .0),
+      cleared (length (s .args .parens .now)) (c .before .before .before .before .before .before .before .before .before .before .before .before .before .before .before .before .before .before .before .before .clear .ensures),
+      cleared (length (s .args .marks .now)) (c .before .before .before .before .before .before .before .before .before .before .before .before .before .before .before .before .clear2 .ensures),
+      cleared (length (s .args .shadows .now)) (c .before .before .before .before .before .before .before .before .before .before .before .before .clear3 .ensures),
+      cleared (length (s .args .places .now)) (c .before .before .before .before .before .before .before .before .clear4 .ensures),
+    )
+
+resolve-requires : tie.Need-resolve-requires
+resolve-requires c κs =
+    let s = c .before .before .before .before .before .before .before .before .before .before .before .before .before .before .before .before .before .before .before .before .before .before .before .before .before .before .before .before .before .before .before .before .before .before .before .before .before .before .before .before .before .before in
+    let d = c .before .before .before .before .before .before .before .before .before .before .before .before .before .before .before .before .before .before .before .before .before .before .before .before .before .before .before .before .before .before .before .before .before .before .before .complete in
+    let W = walkable (s .pre) (d .ensures .0) (d .kept .1 .0) (d .ensures .1) in
+    let w = c .before .before .before .before .before .before .before .before .before .before .walk .kept .1 .1 .1 in
+    let R = resized W (w .0 ∙ c .before .before .before .before .before .before .before .before .before .before .before .before .before .before .before .before .before .before .before .before .before .before .before .before .before .before .before .before .before .before .before .clear .kept .0) (w .1 .0 ∙ c .before .before .before .before .before .before .before .before .before .before .before .before .before .before .before .before .before .before .before .before .before .before .before .before .before .before .before .clear2 .kept .0) (w .1 .1 .0 ∙ c .before .before .before .before .before .before .before .before .before .before .before .before .before .before .before .before .before .before .before .before .before .before .before .clear3 .kept .0) (w .1 .1 .1 .0 ∙ c .before .before .before .before .before .before .before .before .before .before .before .before .before .before .before .before .before .before .before .clear4 .kept .0) in
+    resolvable _ _ (R .book) _ _ _ _ _ _ (c .before .before .before .before .before .before .before .before .before .before .walk .ensures) (R .room .shadows) (R .room .places)
 
 same-length : tie.Need-same-length
-same-length c = search needs
+same-length c = c .before .before .before .before .before .before .before .before .before .before .before .before .before .before .before .before .before .before .before .before .before .before .before .before .before .before .before .before .before .before .before .before .before .before .before .before .before .before .complete .kept .1 .0
 
 same-length-2 : tie.Need-same-length-2
-same-length-2 c = search needs
+same-length-2 c = c .before .before .before .before .before .before .before .before .before .before .before .before .before .walk .kept .1 .1 .1 .0 ∙ c .before .before .before .before .before .before .before .before .before .before .before .before .before .before .before .before .before .before .before .before .before .before .before .before .before .before .before .before .before .before .before .before .before .before .clear .kept .0
 
 same-length-3 : tie.Need-same-length-3
-same-length-3 c = search needs
+same-length-3 c = c .before .before .before .before .before .before .before .before .before .before .before .before .before .walk .kept .1 .1 .1 .1 .0 ∙ c .before .before .before .before .before .before .before .before .before .before .before .before .before .before .before .before .before .before .before .before .before .before .before .before .before .before .before .before .before .before .clear2 .kept .0
 
 same-length-4 : tie.Need-same-length-4
-same-length-4 c = search needs
+same-length-4 c = c .before .before .resolve .kept .0 ∙ c .before .before .before .before .before .before .before .before .before .before .before .before .before .walk .kept .1 .1 .1 .1 .1 .0 ∙ c .before .before .before .before .before .before .before .before .before .before .before .before .before .before .before .before .before .before .before .before .before .before .before .before .before .before .clear3 .kept .0
 
 same-length-5 : tie.Need-same-length-5
-same-length-5 c = search needs
+same-length-5 c = c .before .before .before .before .before .before .before .before .before .before .before .before .before .walk .kept .1 .1 .1 .1 .1 .1 .0 ∙ c .before .before .before .before .before .before .before .before .before .before .before .before .before .before .before .before .before .before .before .before .before .before .clear4 .kept .0
 
 returns : tie.Need-returns
-returns c = let s = c .before .before .before .before .before .before .before .before .before .before .before .before .before .before .before .before .before .before .before .before .before .before .before .before .before .before .before .before .before .before in let d = c .before .before .before .before .before .before .before .before .before .before .before .before .before .before .before .before .before .before .before .before .before .before .before .complete in (indexed (s .pre) (d .ensures) (d .kept .1 .0) (c .before .before .before .before .before .before .before .before .fill .ensures), d .ensures)
+returns c =
+    let s = c .before .before .before .before .before .before .before .before .before .before .before .before .before .before .before .before .before .before .before .before .before .before .before .before .before .before .before .before .before .before .before .before .before .before .before .before .before .before .before .before .before .before .before .before .before in
+    let d = c .before .before .before .before .before .before .before .before .before .before .before .before .before .before .before .before .before .before .before .before .before .before .before .before .before .before .before .before .before .before .before .before .before .before .before .before .before .before .complete in
+    let W = walkable (s .pre) (d .ensures .0) (d .kept .1 .0) (d .ensures .1) in
+    let w = c .before .before .before .before .before .before .before .before .before .before .before .before .before .walk .kept .1 .1 .1 in
+    let R = resized W (w .0 ∙ c .before .before .before .before .before .before .before .before .before .before .before .before .before .before .before .before .before .before .before .before .before .before .before .before .before .before .before .before .before .before .before .before .before .before .clear .kept .0) (w .1 .0 ∙ c .before .before .before .before .before .before .before .before .before .before .before .before .before .before .before .before .before .before .before .before .before .before .before .before .before .before .before .before .before .before .clear2 .kept .0) (w .1 .1 .0 ∙ c .before .before .before .before .before .before .before .before .before .before .before .before .before .before .before .before .before .before .before .before .before .before .before .before .before .before .clear3 .kept .0) (w .1 .1 .1 .0 ∙ c .before .before .before .before .before .before .before .before .before .before .before .before .before .before .before .before .before .before .before .before .before .before .clear4 .kept .0) in
+    let I = index-is _ _ (R .book) _ _ _ _ _ _ (c .before .before .before .before .before .before .before .before .before .before .before .before .before .walk .ensures) (R .room) _ (c .before .before .resolve .ensures) (λ i. byte _ (c .before .before .before .before .before .before .before .before .before .before .before .slice-known11 .given i)) (λ i. byte _ (c .before .before .before .before .before .before .before .before .before .slice-known12 .given i)) in
+    (indexed (s .pre) (d .ensures .0) (d .kept .1 .0) I, d .ensures .0)
 
 pub build-spec : {M : Type 1} → statement M
 build-spec =
     tie.close
     (tie.spec
     complete-requires
-    slice-aggregate-find-parents
-    slice-aggregate-find-parents-2
-    find-parents-requires
-    slice-aggregate-fill
-    fill-requires
+    clear-requires
+    clear-requires-2
+    clear-requires-3
+    clear-requires-4
+    walk-requires
+    resolve-requires
     same-length
     same-length-2
     same-length-3

@@ -1,36 +1,26 @@
 -- `index::complete` meets its contract.
 -- Assumes nothing.
 use mathlib.Core.Path.{refl}
+use Rattle.index.proofs.Buildings.{sized}
 use Rattle.index.proofs.Walking.{cleared}
-use borrow.Author.Needs.{needs}
 use Rattle.index.proofs.complete.Statement.{statement}
 use Rattle.index.proofs.complete.Tie as tie
 
-slice-aggregate-mark-held : tie.Need-slice-aggregate-mark-held
-slice-aggregate-mark-held c = search needs
-
 mark-held-requires : tie.Need-mark-held-requires
-mark-held-requires c κs = (search needs, search needs, refl, cleared 2048 refl)
-
-slice-aggregate-join : tie.Need-slice-aggregate-join
-slice-aggregate-join c = search needs
+mark-held-requires c κs = let s = c .before .before .before in (s .pre .small, s .pre .matrix, refl, cleared 2048 refl)
 
 join-requires : tie.Need-join-requires
-join-requires c κs = search needs
+join-requires c κs = let s = c .before .before .before .before .before .before in (s .pre .small, s .pre .some, s .pre .matrix, c .before .before .mark-held .ensures)
+
+find-parents-requires : tie.Need-find-parents-requires
+find-parents-requires c κs = sized (c .before .before .before .before .before .before .before .before .before .before .pre) (c .before .before .before .join .ensures) (c .before .before .before .join .kept .1 .0)
 
 same-length : tie.Need-same-length
-same-length c = search needs
+same-length c = c .before .before .before .before .join .kept .1 .0
 
 returns : tie.Need-returns
-returns c = search needs
+returns c = (c .before .before .before .before .join .ensures, c .find-parents .ensures)
 
 pub complete-spec : {M : Type 1} → statement M
 complete-spec =
-    tie.close
-    (tie.spec
-    slice-aggregate-mark-held
-    mark-held-requires
-    slice-aggregate-join
-    join-requires
-    same-length
-    returns)
+    tie.close (tie.spec mark-held-requires join-requires find-parents-requires same-length returns)

@@ -22,8 +22,8 @@ loop-holds c = (omega arith, omega arith, refl, join-start _ _)
 mul-if1 : tie.Need-mul-if1 Inv-loop μ-loop
 mul-if1 c = search needs
 
-shared-slice-read-if1 : tie.Need-shared-slice-read-if1 Inv-loop μ-loop
-shared-slice-read-if1 c = search needs
+element-copy-out-if1 : tie.Need-element-copy-out-if1 Inv-loop μ-loop
+element-copy-out-if1 c = search needs
 
 insert-requires : tie.Need-insert-requires Inv-loop μ-loop
 insert-requires c κs = (omega arith, omega arith, omega arith)
@@ -37,11 +37,11 @@ loop-less c = search needs
 loop-again : tie.Need-loop-again Inv-loop μ-loop
 loop-again c =
     let L = c .before .before .before .before .before .before .before .loop in
-    let s = c .before .before .before .before .before .before .before .before .before .before in (
+    let s = c .before .before .before .before .before .before .before .before .before in (
       omega arith,
       omega arith,
       c .before .before .insert .kept .0 ∙ L .inv .2,
-      join-more _ _ (L .edges) (s .args .held .now) (L .p) (L .inv .3) (s .pre .4) (omega arith) (omega arith) _ (c .before .before .before .before .if1 .taken) (c .before .before .insert .ensures),
+      join-more _ _ (L .edges) (s .args .held .now) (L .p) (L .inv .3) (s .pre .3) (omega arith) (omega arith) _ (c .before .before .before .before .if1 .taken) (c .before .before .insert .ensures),
     )
 
 add-p-2 : tie.Need-add-p-2 Inv-loop μ-loop
@@ -53,14 +53,14 @@ loop-less-2 c = search needs
 loop-again-2 : tie.Need-loop-again-2 Inv-loop μ-loop
 loop-again-2 c =
     let L = c .before .before .before .loop in
-    let s = c .before .before .before .before .before .before in
-    (omega arith, omega arith, L .inv .2, join-pass _ _ (L .edges) (s .args .held .now) (L .p) (L .inv .3) (s .pre .4) (omega arith) (c .if1 .left))
+    let s = c .before .before .before .before .before in
+    (omega arith, omega arith, L .inv .2, join-pass _ _ (L .edges) (s .args .held .now) (L .p) (L .inv .3) (s .pre .3) (omega arith) (c .if1 .left))
 
 same-length : tie.Need-same-length Inv-loop μ-loop
 same-length c = c .before .loop .inv .2
 
 returns : tie.Need-returns Inv-loop μ-loop
-returns c = let L = c .before .loop in join-done _ _ (c .before .before .before .before .pre .0) (L .edges) (L .p) (omega arith) (L .inv .3)
+returns c = let L = c .before .loop in join-done _ _ (c .before .before .before .pre .0) (L .edges) (L .p) (omega arith) (L .inv .3)
 
 pub join-spec : {M : Type 1} → statement M
 join-spec =
@@ -70,7 +70,7 @@ join-spec =
     μ-loop
     loop-holds
     mul-if1
-    shared-slice-read-if1
+    element-copy-out-if1
     insert-requires
     add-p
     loop-less

@@ -17,7 +17,7 @@ abbrev μ-loop : tie.MeasureT-loop
 μ-loop n edges held₀ c₀ held c = n - c
 
 loop-holds : tie.Need-loop-holds Inv-loop μ-loop
-loop-holds c = (omega arith, refl, held-start _ _ (c .before .before .pre .3 .zeros))
+loop-holds c = (omega arith, refl, held-start _ _ (c .before .pre .3 .zeros))
 
 mark-parts-requires : tie.Need-mark-parts-requires Inv-loop μ-loop
 mark-parts-requires c κs = (omega arith, omega arith, omega arith)
@@ -30,16 +30,13 @@ loop-less c = search needs
 
 loop-again : tie.Need-loop-again Inv-loop μ-loop
 loop-again c =
-    let L = c .before .before .before .before .before .loop in
-    (omega arith, c .before .before .mark-parts .kept .1 .1 .0 ∙ L .inv .1, held-more (L .c) _ (L .held) _ (L .inv .2) (c .before .before .mark-parts .ensures))
-
-same-length : tie.Need-same-length Inv-loop μ-loop
-same-length c = c .before .loop .inv .1
+    let L = c .before .before .before .loop in
+    (omega arith, c .mark-parts .ensures .same ∙ L .inv .1, held-more (L .c) _ (L .held) _ (L .inv .2) (c .mark-parts .ensures))
 
 returns : tie.Need-returns Inv-loop μ-loop
 returns c =
     let L = c .before .loop in
-    let e : L .c ≡ c .before .before .before .before .args .n = omega arith in
+    let e : L .c ≡ c .before .before .before .args .n = omega arith in
     rw e at (L .inv .2)
 
 pub mark-held-spec : {M : Type 1} → statement M
@@ -53,5 +50,4 @@ mark-held-spec =
     add-c
     loop-less
     loop-again
-    same-length
     returns)

@@ -28,8 +28,8 @@ loop-holds c =
 mul-held : tie.Need-mul-held Inv-loop μ-loop
 mul-held c = search needs
 
-slice-write-held : tie.Need-slice-write-held Inv-loop μ-loop
-slice-write-held c = search needs
+element-write-held : tie.Need-element-write-held Inv-loop μ-loop
+element-write-held c = search needs
 
 add-next-bit : tie.Need-add-next-bit Inv-loop μ-loop
 add-next-bit c = search needs
@@ -48,11 +48,8 @@ loop-again c =
     let N = mark-next _ _ _ (set (L .held) (L .p) 1) (L .p + 1) _ (mark-more _ _ _ (L .held) (L .p) (L .inv .1) (L .inv .2 (omega arith)) (omega arith) (omega arith)) (c .next-bit2 .ensures) in
     (length-set (L .held) (L .p) 1 ∙ L .inv .0, N .0, N .1)
 
-same-length : tie.Need-same-length Inv-loop μ-loop
-same-length c = c .before .loop .inv .0
-
 returns : tie.Need-returns Inv-loop μ-loop
-returns c = let L = c .before .loop in mark-done _ _ _ (L .held) (L .p) (L .inv .1) (omega arith)
+returns c = let L = c .before .loop in mark-done _ _ _ (L .held) (L .p) (L .inv .1) (omega arith) (L .inv .0)
 
 pub mark-parts-spec : {M : Type 1} → statement M
 mark-parts-spec =
@@ -63,10 +60,9 @@ mark-parts-spec =
     next-bit-requires
     loop-holds
     mul-held
-    slice-write-held
+    element-write-held
     add-next-bit
     next-bit-requires-2
     loop-less
     loop-again
-    same-length
     returns)
