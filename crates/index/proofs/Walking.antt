@@ -1,6 +1,6 @@
 -- The four parts while the tree is walked: at the node c, whose parts below `from` are done. Assumes nothing.
 use mathlib.Core.Path.{_≡_, sym, ap, _∙_}
-use mathlib.Core.Bool.{Bool, true}
+use mathlib.Core.Bool.{Bool}
 use mathlib.Core.List.{List, [], _∷_}
 use Prim.Native.Nat.{ℕ, _+_, _*_, _-_, _≤_, _<_}
 use native.Mathlib.Omega.{arith}
@@ -10,8 +10,6 @@ use lib.ListN.{length, getD, set, replicate, length-set, length-replicate, getD-
 use lib.Seq.{getD-set-other, set-getD}
 use Rattle.lists.specs.First.{first}
 use Rattle.relation.specs.Matrix.{bitOf}
-use Rattle.parentheses.specs.Bits.{bits}
-use Rattle.parentheses.proofs.Packed.{bits-put}
 use Rattle.index.specs.Pairs.{Book}
 use Rattle.index.specs.Breadth.{parent}
 use Rattle.index.specs.Tree.{Visit, node, shadow, whole, visits}
@@ -99,31 +97,24 @@ module _ {n : ℕ} {edge : ℕ → ℕ → Bool} {par : List ℕ} {lb lm ls lp :
     begun = rw (start n edge (R .book)) at (written-start (P n edge) (U n edge) ps mks sh pl (events (whole n edge)) (parens-events (whole n edge)) (visits-events (whole n edge))
         (rw a (R .parensRoom)) (rw b (R .marksRoom)) (rw d (R .shadowRoom)) (z₁ .zeros) (z₂ .zeros) (z₃ .zeros))
 
-    start-room : 0 < 8 * length ps
+    pub start-room : 0 < 8 * length ps
     start-room = bit-room (P n edge) (U n edge) ps mks sh pl 0 0 0 (rest n edge 0 1) (node 0) begun .1
-
-    pub start-byte : 0 < length ps
-    start-byte = omega (arith, start-room)
-
-    -- the first byte holds nothing yet
-    first-bit : bits (set ps 0 1) ≡ set (bits ps) 0 true
-    first-bit = rw (z₁ .zeros 0) at (bits-put ps 0 start-room)
 
     -- piece 0 has place 0 already
     first-place : set pl 0 0 ≡ pl
     first-place = rw (z₄ .zeros 0) at (set-getD pl 0 0)
 
-    pub walk-start : Walking n edge lb lm ls lp (set ps 0 1) mks sh pl 0 1 1 1 0
-    walk-start =
+    pub walk-start : {ps′ : List ℕ} → Put ps ps′ 0 → Walking n edge lb lm ls lp ps′ mks sh pl 0 1 1 1 0
+    walk-start {ps′} w =
         record {
           inner = R .book .some;
           upto = R .book .some;
-          lenParens = length-set ps 0 1 ∙ a;
+          lenParens = w .same ∙ a;
           lenMarks = b;
           lenShadows = d;
           lenPlaces = e;
           spare = λ q h. z₄ .zeros q;
-          state = rw first-place at (written-node (P n edge) (U n edge) ps mks sh pl 0 0 0 (rest n edge 0 1) 0 (set ps 0 1) begun (record { same = length-set ps 0 1; bit = first-bit }) (once n edge (R .book) 0 (R .book .some)) (omega (arith, R .placeRoom, R .book .some)));
+          state = rw first-place at (written-node (P n edge) (U n edge) ps mks sh pl 0 0 0 (rest n edge 0 1) 0 ps′ begun w (once n edge (R .book) 0 (R .book .some)) (omega (arith, R .placeRoom, R .book .some)));
         }
 
   module _ {ps mks sh pl : List ℕ} {c from at k m : ℕ} (G : Walking n edge lb lm ls lp ps mks sh pl c from at k m) {p : ℕ} (N : Next n edge c from p) where

@@ -150,7 +150,7 @@ fn walk(
     requires { ⌜ Walkable n (now edges) (now parent) (length (now parens)) (length (now marks)) (length (now shadows)) (length (now places)) × Zero (now parens) × Zero (now marks) × Zero (now shadows) × Zero (now places) ⌝ }
     ensures { λ r. ⌜ Walked n (pairOf n (now (edges .entry))) (now (parens .exit)) (now (marks .exit)) (now (shadows .exit)) (now (places .exit)) (r .nodes) (r .shadows) ⌝ }
 {
-    parens[0] = 1;
+    parentheses::put(parens, 0);
     let mut c = DatasetId(0);
     let mut from: usize = 1;
     let mut at: usize = 1;

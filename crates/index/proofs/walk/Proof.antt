@@ -2,11 +2,11 @@
 -- Assumes nothing.
 use mathlib.Core.Path.{refl, sym, _∙_}
 use native.Mathlib.Omega.{arith}
-use lib.ListN.{length, length-set}
+use lib.ListN.{length}
 use Rattle.index.specs.Matrix.{pairOf}
 use Rattle.index.specs.Steps.{Walkable}
 use Rattle.index.proofs.Fits.{below, upto, part-small, count-small, small-count, fits-one, fits-twice}
-use Rattle.index.proofs.Walking.{left, Walking, given, resized, stepping, start-byte, walk-start, walk-room, walk-less, place-room, walk-node, mark-room, shadow-less, walk-shadow, leave-room, leave-less, walk-leave, walk-end}
+use Rattle.index.proofs.Walking.{left, Walking, given, resized, stepping, start-room, walk-start, walk-room, walk-less, place-room, walk-node, mark-room, shadow-less, walk-shadow, leave-room, leave-less, walk-leave, walk-end}
 use Rattle.index.proofs.walk.Statement.{statement}
 use Rattle.index.proofs.walk.Tie as tie
 
@@ -19,20 +19,21 @@ abbrev μ-loop : tie.MeasureT-loop
 μ-loop n edges parent parens₀ marks₀ shadows₀ places₀ c₀ from₀ at₀ k₀ m₀ parens marks shadows places c from at k m =
     left n (pairOf n edges) (c .0) from
 
-slice-write-parens : tie.Need-slice-write-parens Inv-loop μ-loop
-slice-write-parens c = let s = c .before .before .before .before .before in start-byte (given (s .pre .0)) refl refl refl refl (s .pre .1) (s .pre .2) (s .pre .3) (s .pre .4)
+put-requires : tie.Need-put-requires Inv-loop μ-loop
+put-requires c κs = let s = c .before .before .before .before .before .before .pre in start-room (given (s .0)) refl refl refl refl (s .1) (s .2) (s .3) (s .4)
 
 loop-holds : tie.Need-loop-holds Inv-loop μ-loop
 loop-holds c =
-    let s = c .before .before .before .before .before in
-    let W = resized (s .pre .0) (length-set (s .args .parens .now) 0 1) refl refl refl in
-    (W, walk-start (given W) (sym (length-set (s .args .parens .now) 0 1)) refl refl refl (s .pre .1) (s .pre .2) (s .pre .3) (s .pre .4))
+    let s = c .before .before .before .before .before .before .before .before .before .pre in
+    let d = c .before .before .put .kept .0 in
+    let W = resized (s .0) d refl refl refl in
+    (W, walk-start (given W) (sym d) refl refl refl (s .1) (s .2) (s .3) (s .4) (record { same = d; bit = c .before .before .put .ensures }))
 
 next-bit-requires : tie.Need-next-bit-requires Inv-loop μ-loop
 next-bit-requires c κs = let L = c .loop in (L .inv .0 .matrix, below _ _ _ (L .inv .1 .inner) (L .inv .0 .small), upto _ _ _ (L .inv .1 .upto) (L .inv .0 .small))
 
-put-requires : tie.Need-put-requires Inv-loop μ-loop
-put-requires c κs =
+put-requires-2 : tie.Need-put-requires-2 Inv-loop μ-loop
+put-requires-2 c κs =
     let L = c .before .before .before .loop in
     let R = given (L .inv .0) in
     let N = stepping (L .inv .0) (L .inv .1) (c .before .before .next-bit .ensures) in
@@ -71,8 +72,8 @@ add-at c =
     let N = stepping (L .inv .0) (L .inv .1) (c .before .before .before .before .before .before .before .before .before .before .next-bit .ensures) in
     fits-one _ (walk-room R (L .inv .1) N (c .before .before .before .before .before .before .before .before .before .if1 .taken) .0)
 
-add-t27 : tie.Need-add-t27 Inv-loop μ-loop
-add-t27 c =
+add-t29 : tie.Need-add-t29 Inv-loop μ-loop
+add-t29 c =
     let L = c .before .before .before .before .before .before .before .before .before .before .before .before .loop in
     let R = given (L .inv .0) in
     let N = stepping (L .inv .0) (L .inv .1) (c .before .before .before .before .before .before .before .before .before .before .before .next-bit .ensures) in
@@ -90,10 +91,10 @@ loop-again c =
     let L = c .before .before .before .before .before .before .before .before .before .before .before .before .loop in
     let R = given (L .inv .0) in
     let N = stepping (L .inv .0) (L .inv .1) (c .before .before .before .before .before .before .before .before .before .before .before .next-bit .ensures) in
-    (L .inv .0, rw (c .before .narrow .ensures) (walk-node R (L .inv .1) N (c .before .before .before .before .before .before .before .before .before .before .if1 .taken) (sym (c .before .before .before .before .wide .ensures) ∙ c .before .before .if2 .taken) (record { same = c .before .before .before .before .before .before .before .before .put .kept .0; bit = c .before .before .before .before .before .before .before .before .put .ensures })))
+    (L .inv .0, rw (c .before .narrow .ensures) (walk-node R (L .inv .1) N (c .before .before .before .before .before .before .before .before .before .before .if1 .taken) (sym (c .before .before .before .before .wide .ensures) ∙ c .before .before .if2 .taken) (record { same = c .before .before .before .before .before .before .before .before .put2 .kept .0; bit = c .before .before .before .before .before .before .before .before .put2 .ensures })))
 
-put-requires-2 : tie.Need-put-requires-2 Inv-loop μ-loop
-put-requires-2 c κs =
+put-requires-3 : tie.Need-put-requires-3 Inv-loop μ-loop
+put-requires-3 c κs =
     let L = c .before .before .before .before .before .before .before .before .before .before .before .loop in
     let R = given (L .inv .0) in
     let N = stepping (L .inv .0) (L .inv .1) (c .before .before .before .before .before .before .before .before .before .before .next-bit .ensures) in
@@ -123,8 +124,8 @@ add-at-2 c =
     let N = stepping (L .inv .0) (L .inv .1) (c .before .before .before .before .before .before .before .before .before .before .before .before .before .before .next-bit .ensures) in
     omega (arith, walk-room R (L .inv .1) N (c .before .before .before .before .before .before .before .before .before .before .before .before .before .if1 .taken) .0)
 
-add-t33 : tie.Need-add-t33 Inv-loop μ-loop
-add-t33 c =
+add-t35 : tie.Need-add-t35 Inv-loop μ-loop
+add-t35 c =
     let L = c .before .before .before .before .before .before .before .before .before .before .before .before .before .before .before .before .loop in
     let R = given (L .inv .0) in
     let N = stepping (L .inv .0) (L .inv .1) (c .before .before .before .before .before .before .before .before .before .before .before .before .before .before .before .next-bit .ensures) in
@@ -152,10 +153,10 @@ loop-again-2 c =
     let L = c .before .before .before .before .before .before .before .before .before .before .before .before .before .before .before .before .loop in
     let R = given (L .inv .0) in
     let N = stepping (L .inv .0) (L .inv .1) (c .before .before .before .before .before .before .before .before .before .before .before .before .before .before .before .next-bit .ensures) in
-    (L .inv .0, rw (c .before .narrow2 .ensures) (walk-shadow R (L .inv .1) N (c .before .before .before .before .before .before .before .before .before .before .before .before .before .before .if1 .taken) (λ x. c .before .before .before .before .before .before .if2 .left (c .before .before .before .before .before .before .before .before .wide .ensures ∙ x)) (record { same = c .before .before .before .before .before .before .before .before .before .before .before .before .put .kept .0; bit = c .before .before .before .before .before .before .before .before .before .before .before .before .put .ensures }) (record { same = c .before .before .before .before .put2 .kept .0; bit = c .before .before .before .before .put2 .ensures })))
+    (L .inv .0, rw (c .before .narrow2 .ensures) (walk-shadow R (L .inv .1) N (c .before .before .before .before .before .before .before .before .before .before .before .before .before .before .if1 .taken) (λ x. c .before .before .before .before .before .before .if2 .left (c .before .before .before .before .before .before .before .before .wide .ensures ∙ x)) (record { same = c .before .before .before .before .before .before .before .before .before .before .before .before .put2 .kept .0; bit = c .before .before .before .before .before .before .before .before .before .before .before .before .put2 .ensures }) (record { same = c .before .before .before .before .put3 .kept .0; bit = c .before .before .before .before .put3 .ensures })))
 
 same-length : tie.Need-same-length Inv-loop μ-loop
-same-length c = c .before .before .before .before .loop .inv .1 .lenParens ∙ length-set (c .before .before .before .before .before .before .before .before .before .before .args .parens .now) 0 1
+same-length c = c .before .before .before .before .loop .inv .1 .lenParens ∙ c .before .before .before .before .before .before .before .put .kept .0
 
 same-length-2 : tie.Need-same-length-2 Inv-loop μ-loop
 same-length-2 c = c .before .before .before .before .loop .inv .1 .lenMarks
@@ -212,10 +213,10 @@ walk-spec =
     (tie.spec
     Inv-loop
     μ-loop
-    slice-write-parens
+    put-requires
     loop-holds
     next-bit-requires
-    put-requires
+    put-requires-2
     mul-wide
     element-copy-out-wide
     wide-requires
@@ -223,15 +224,15 @@ walk-spec =
     mul-places
     slice-write-places
     add-at
-    add-t27
+    add-t29
     loop-less
     loop-again
-    put-requires-2
+    put-requires-3
     narrow-requires-2
     mul-shadows
     slice-write-shadows
     add-at-2
-    add-t33
+    add-t35
     add-m
     add-from
     loop-less-2
