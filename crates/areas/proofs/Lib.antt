@@ -1,3 +1,4 @@
+mod Fits
 pub mod Zeroes
 pub mod Kept
 pub mod Lists

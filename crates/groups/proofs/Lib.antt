@@ -1,3 +1,4 @@
+mod Fits
 pub mod Lying
 pub mod Grouping
 pub mod Levels

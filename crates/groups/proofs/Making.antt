@@ -75,10 +75,9 @@ module _ (n : ℕ) (e : List ℕ) (room : ℕ) (R : Searchable n e room) (done :
     leaders-one : (g h : ℕ) → g < n → h < n → getD lead g 0 ≡ g → getD lead h 0 ≡ h → by g ≡ by h → g ≡ h
     leaders-one g h l k a b q = sym a ∙ K .leads g l ∙ same-lowest-by n by g h q ∙ sym (K .leads h k) ∙ b
 
-    pub arrangeable : n ≤ length done → n ≤ length lead → (places : ℕ) → places ≡ 2048 → Arrangeable n m done lead places
-    arrangeable a b places c = record {
+    pub arrangeable : n ≤ length lead → (places : ℕ) → places ≡ 2048 → Arrangeable n m done lead places
+    arrangeable b places c = record {
       few = R .few;
-      done-room = a;
       lead-room = b;
       sized = c;
       counted = omega (arith, K .counted, tally-rest (firstBy n by) (follower lead) n (λ x l. unfold follower firstBy in ap (λ (y : ℕ). not (eqb y x)) (K .leads x l)));

@@ -26,7 +26,6 @@ module _ (n : ℕ) (done : ℕ → ℕ) where
 
 pub record Numerable (n : ℕ) (done : List ℕ) (a b c : ℕ) : Type 0 where
   pub few : n ≤ 2048
-  pub listed : n ≤ length done
   pub numbers : a ≡ 2048
   pub leads : b ≡ 2048
   pub heads : c ≡ 2048
@@ -39,7 +38,6 @@ follower lead g = not (eqb (getD lead g 0) g)
 -- m leaders, whose numbers in `done` are below m and differ
 pub record Arrangeable (n m : ℕ) (done lead : List ℕ) (room : ℕ) : Type 0 where
   pub few : n ≤ 2048
-  pub done-room : n ≤ length done
   pub lead-room : n ≤ length lead
   pub sized : room ≡ 2048
   pub counted : tally (follower lead) n + m ≡ n

@@ -134,6 +134,13 @@ pub record Callable (n : ℕ) (e pos done path bounds : List ℕ) (len top count
   pub good : GoodOf n e (stateOf pos done path bounds len top count) gray
   pub leading : Leading n e (stateOf pos done path bounds len top count) v
 
+-- what the call leaves is as long as it was
+pub record Room (pos done path bounds : List ℕ) : Type 0 where
+  pub pos-is : length pos ≡ 2048
+  pub done-is : length done ≡ 2048
+  pub path-is : length path ≡ 2048
+  pub bounds-is : length bounds ≡ 2048
+
 -- the bounds up to p are kept
 pub record Cut (bounds : List ℕ) (top p t : ℕ) : Type 0 where
   pub fewer : t ≤ top

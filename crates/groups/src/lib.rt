@@ -6,7 +6,7 @@ ghost use lib.ListN.{length, getD, set, replicate};
 ghost use Rattle.relation.specs.Matrix.{bitOf};
 ghost use Rattle.groups.specs.Grouped.{Edged, Grouped};
 ghost use Rattle.groups.specs.Ranks.{Numerable, Ranked, Arrangeable, Arranged};
-ghost use Rattle.groups.specs.Search.{stateOf, WayOf, GoodOf, VisitedOf, Leading, Callable, Cut, Numbered, Inside, Searchable, Searched};
+ghost use Rattle.groups.specs.Search.{stateOf, WayOf, GoodOf, VisitedOf, Leading, Callable, Cut, Numbered, Inside, Room, Searchable, Searched};
 
 // How long the path is, how many groups it has, and how many have ended.
 struct Path {
@@ -16,8 +16,8 @@ struct Path {
 }
 
 // How many bounds are left, if those after p go.
-fn cut(bounds: &[u16], top: usize, p: usize) -> usize
-    requires { ⌜ top ≤ length (now bounds) ⌝ }
+fn cut(bounds: &[u16; 2048], top: usize, p: usize) -> usize
+    requires { ⌜ top ≤ 2048 ⌝ }
     ensures { λ t. ⌜ Cut (now (bounds .entry)) top p t ⌝ }
 {
     let mut t = top;
@@ -31,8 +31,8 @@ fn cut(bounds: &[u16], top: usize, p: usize) -> usize
 }
 
 // Gives the pieces of the path from `at` on the number `count`.
-fn close(path: &[u16], done: &mut [u16], at: usize, len: usize, count: usize)
-    requires { ⌜ (len ≤ length (now path)) × (at ≤ len) × (count < 65536) × Inside (now path) at len (length (now done)) ⌝ }
+fn close(path: &[u16; 2048], done: &mut [u16; 2048], at: usize, len: usize, count: usize)
+    requires { ⌜ (len ≤ 2048) × (at ≤ len) × (count < 65536) × (length (now done) ≡ 2048) × Inside (now path) at len 2048 ⌝ }
     ensures { λ _. ⌜ Numbered (now (path .entry)) (now (done .entry)) (now (done .exit)) at len count ⌝ }
 {
     let mut i = at;
@@ -44,8 +44,15 @@ fn close(path: &[u16], done: &mut [u16], at: usize, len: usize, count: usize)
 }
 
 // Puts v at the end of the path, as a group of its own.
-fn push(v: usize, pos: &mut [u16], path: &mut [u16], bounds: &mut [u16], len: usize, top: usize)
-    requires { ⌜ (v < length (now pos)) × (len < length (now path)) × (top < length (now bounds)) × (v < 65536) × (len < 65536) ⌝ }
+fn push(
+    v: usize,
+    pos: &mut [u16; 2048],
+    path: &mut [u16; 2048],
+    bounds: &mut [u16; 2048],
+    len: usize,
+    top: usize,
+)
+    requires { ⌜ (v < 2048) × (len < 2048) × (top < 2048) ⌝ }
     ensures { λ _. ⌜ (now (pos .exit) ≡ set (now (pos .entry)) v len) × (now (path .exit) ≡ set (now (path .entry)) len v) × (now (bounds .exit) ≡ set (now (bounds .entry)) top len) ⌝ }
 {
     pos[v] = index::narrow(len);
@@ -59,14 +66,14 @@ fn visit(
     n: usize,
     e: &[u64],
     v: usize,
-    pos: &mut [u16],
-    done: &mut [u16],
-    path: &mut [u16],
-    bounds: &mut [u16],
+    pos: &mut [u16; 2048],
+    done: &mut [u16; 2048],
+    path: &mut [u16; 2048],
+    bounds: &mut [u16; 2048],
     s: Path,
 ) -> Path
     requires { ⌜ Callable n (now e) (now pos) (now done) (now path) (now bounds) (s .len) (s .top) (s .count) v ⌝ }
-    ensures { λ r. ⌜ ((gray : ℕ → Bool) → GoodOf n (now (e .entry)) (stateOf (now (pos .entry)) (now (done .entry)) (now (path .entry)) (now (bounds .entry)) (s .len) (s .top) (s .count)) gray → Leading n (now (e .entry)) (stateOf (now (pos .entry)) (now (done .entry)) (now (path .entry)) (now (bounds .entry)) (s .len) (s .top) (s .count)) v → VisitedOf n (now (e .entry)) (stateOf (now (pos .entry)) (now (done .entry)) (now (path .entry)) (now (bounds .entry)) (s .len) (s .top) (s .count)) (stateOf (now (pos .exit)) (now (done .exit)) (now (path .exit)) (now (bounds .exit)) (r .len) (r .top) (r .count)) v gray) ⌝ }
+    ensures { λ r. ⌜ Room (now (pos .exit)) (now (done .exit)) (now (path .exit)) (now (bounds .exit)) × ((gray : ℕ → Bool) → GoodOf n (now (e .entry)) (stateOf (now (pos .entry)) (now (done .entry)) (now (path .entry)) (now (bounds .entry)) (s .len) (s .top) (s .count)) gray → Leading n (now (e .entry)) (stateOf (now (pos .entry)) (now (done .entry)) (now (path .entry)) (now (bounds .entry)) (s .len) (s .top) (s .count)) v → VisitedOf n (now (e .entry)) (stateOf (now (pos .entry)) (now (done .entry)) (now (path .entry)) (now (bounds .entry)) (s .len) (s .top) (s .count)) (stateOf (now (pos .exit)) (now (done .exit)) (now (path .exit)) (now (bounds .exit)) (r .len) (r .top) (r .count)) v gray) ⌝ }
 {
     let at = s.len;
     let before = s.top;
@@ -114,20 +121,20 @@ fn blank(list: &mut [u16])
 }
 
 // The number of each piece's group, in an order in which parts come before what contains them. Row 0 of the matrix has every other piece.
-fn search(n: usize, e: &[u64], done: &mut [u16])
-    requires { ⌜ Searchable n (now e) (length (now done)) ⌝ }
-    ensures { λ _. ⌜ Searched n 2048 (bitOf (now (e .entry))) (WayOf n (now (e .entry))) (λ x. getD (now (done .exit)) x 0) ⌝ }
+fn search(n: usize, e: &[u64]) -> [u16; 2048]
+    requires { ⌜ Searchable n (now e) 2048 ⌝ }
+    ensures { λ r. ⌜ Searched n 2048 (bitOf (now (e .entry))) (WayOf n (now (e .entry))) (λ x. getD r x 0) ⌝ }
 {
     let mut pos = [2048u16; 2048];
+    let mut done = [2048u16; 2048];
     let mut path = [0u16; 2048];
     let mut bounds = [0u16; 2048];
-    blank(done);
     visit(
         n,
         e,
         0,
         &mut pos,
-        done,
+        &mut done,
         &mut path,
         &mut bounds,
         Path {
@@ -136,13 +143,14 @@ fn search(n: usize, e: &[u64], done: &mut [u16])
             count: 0,
         },
     );
+    done
 }
 
 // The groups in the order of their lowest members: the number of each piece's group, its lowest member, and how many there are. `heads` has the
 // lowest member of each number of the search.
 fn number_groups(
     n: usize,
-    done: &[u16],
+    done: &[u16; 2048],
     number: &mut [u16],
     lead: &mut [u16],
     heads: &mut [u16],
@@ -172,7 +180,7 @@ fn number_groups(
 }
 
 // The followers, and then the m leaders in the order in which their groups ended.
-fn arrange(n: usize, m: usize, done: &[u16], lead: &[u16], order: &mut [u16])
+fn arrange(n: usize, m: usize, done: &[u16; 2048], lead: &[u16], order: &mut [u16])
     requires { ⌜ Arrangeable n m (now done) (now lead) (length (now order)) ⌝ }
     ensures { λ _. ⌜ Arranged n m (now (done .entry)) (now (lead .entry)) (now (order .exit)) ⌝ }
 {
@@ -196,8 +204,7 @@ pub fn group(n: usize, e: &[u64], number: &mut [u16], lead: &mut [u16], order: &
     requires { ⌜ Searchable n (now e) (length (now number)) × (length (now lead) ≡ 2048) × (length (now order) ≡ 2048) ⌝ }
     ensures { λ m. ⌜ ((fact : ℕ → ℕ → Bool) → Edged n fact (now (e .entry)) → Grouped n fact (now (number .exit)) (now (lead .exit)) (now (order .exit)) m) ⌝ }
 {
-    let mut done = [0u16; 2048];
-    search(n, e, &mut done);
+    let done = search(n, e);
     let m = number_groups(n, &done, number, lead, order);
     arrange(n, m, &done, lead, order);
     m

@@ -1,3 +1,4 @@
+mod Fits
 pub mod Rows
 pub mod Runs
 pub mod Accepted

@@ -9,6 +9,7 @@ use Rattle.relation.specs.Matrix.{bitOf}
 use Rattle.lists.proofs.Searches.{sought-next}
 use Rattle.lists.specs.Tally.{tally}
 use Rattle.groups.specs.Search.{State, stateOf, GoodOf, Leading}
+use Rattle.groups.proofs.Fits.{below, under, less, fewer, low, next-low, nearer, fits-more, fits-twice, set-room}
 use Rattle.groups.proofs.Paths.{with}
 use Rattle.groups.proofs.Steps.{ws, wj, we, WalkOf, Entered, pushed-from, begin, leads-on, skip-more, call-more, cut-on, stay, shut, tops-fit, len-below, met-small, ended-small}
 use borrow.Fn.Kinds.{In}
@@ -56,7 +57,7 @@ At t = visit-lts.At-loop (calls t) (visit-at t) visit.Post Inv μ
 
 -- where the function began, from where the loop begins
 abbrev start : (t : ℕ) → Found t → Start t
-start t c = c .before .before .before .before .before .before .before .before .before .before .before .before .before .before .before .before
+start t c = c .before .before .before .before .before .before
 
 abbrev few : (t : ℕ) (s : Start t) → s .args .n ≤ 2048
 few t s = s .pre .1 .few
@@ -66,7 +67,7 @@ abbrev S₀ : (t : ℕ) → Start t → State
 S₀ t s = stateOf (s .args .pos .now) (s .args .done .now) (s .args .path .now) (s .args .bounds .now) (s .args .s .len) (s .args .s .top) (s .args .s .count)
 
 abbrev S₁ : (t : ℕ) → Found t → State
-S₁ t c = let p = c .before .before .before .before .before .before .before .push .last in let s = start t c in stateOf (p .1 .0) (s .args .done .now) (p .1 .1 .0) (p .1 .1 .1 .0) (s .args .s .len + 1) (s .args .s .top + 1) (s .args .s .count)
+S₁ t c = let p = c .before .push .last in let s = start t c in stateOf (p .1 .0) (s .args .done .now) (p .1 .1 .0) (p .1 .1 .1 .0) (s .args .s .len + 1) (s .args .s .top + 1) (s .args .s .count)
 
 room : (t : ℕ) (s : Start t) → s .args .s .len < s .args .n
 room t s = len-below (s .args .n) (few t s) (s .args .e .now) _ _ _ _ _ _ _ (s .args .v) (s .pre .1)
@@ -77,7 +78,7 @@ tops t s = tops-fit (s .args .n) (few t s) (s .args .e .now) (S₀ t s) (s .pre 
 enter : (t : ℕ) (c : Found t) → let s = start t c in
     (gray : ℕ → Bool) → GoodOf (s .args .n) (s .args .e .now) (S₀ t s) gray → Leading (s .args .n) (s .args .e .now) (S₀ t s) (s .args .v)
     → Entered (s .args .n) (few t s) (s .args .e .now) (S₀ t s) gray (s .args .v) (S₁ t c)
-enter t c gray G L = let s = start t c in let q = c .before .before .before .before .before .before .before .push .ensures in record {
+enter t c gray G L = let s = start t c in let q = c .before .push .ensures in record {
   good = G;
   piece = s .pre .1 .piece;
   new = s .pre .1 .new;
@@ -106,28 +107,28 @@ len-fits : (t : ℕ) (c : At t) → c .loop .count + c .loop .len ≤ 2048
 len-fits t c = let s = start t (c .before) in let W = walk t c in omega (arith, W .good .room, few t s)
 
 push-requires : (t : ℕ) → visit-lts.Need-push-requires (calls t) (visit-at t) visit.Post Inv μ
-push-requires t c κs = let s = c .before .before .before .before .before .before .before .before in (omega (arith, s .pre .1 .pos-room, s .pre .1 .piece, few t s), omega (arith, s .pre .1 .path-room, room t s, few t s), omega (arith, s .pre .1 .bounds-room, tops t s, room t s, few t s), omega (arith, s .pre .1 .piece, few t s), omega (arith, room t s, few t s))
+push-requires t c κs = let s = c .before .before .before .before in (below _ _ (s .pre .1 .piece) (few t s), below _ _ (room t s) (few t s), under _ _ _ (tops t s) (room t s) (few t s))
 
 add-len : (t : ℕ) → visit-lts.Need-add-len (calls t) (visit-at t) visit.Post Inv μ
-add-len t c = let s = c .before .before .before .before .before .before .before .before .before .before .before .before .before .before .before in omega (arith, room t s, few t s)
+add-len t c = fits-more _ (below _ _ (room t (c .before .before .before .before .before)) (few t (c .before .before .before .before .before)))
 
 add-top : (t : ℕ) → visit-lts.Need-add-top (calls t) (visit-at t) visit.Post Inv μ
-add-top t c = let s = c .before .before .before .before .before .before .before .before .before .before .before .before .before .before .before in omega (arith, tops t s, room t s, few t s)
+add-top t c = let s = c .before .before .before .before .before in fits-more _ (under _ _ _ (tops t s) (room t s) (few t s))
 
 next-bit-requires : (t : ℕ) → visit-lts.Need-next-bit-requires (calls t) (visit-at t) visit.Post Inv μ
-next-bit-requires t c κs = let s = c .before .before .before .before .before .before .before .before .before .before .before .before .before .before .before in (s .pre .1 .matrix, omega (arith, s .pre .1 .piece, few t s), omega arith)
+next-bit-requires t c κs = let s = c .before .before .before .before .before in (s .pre .1 .matrix, below _ _ (s .pre .1 .piece) (few t s), low)
 
 loop-holds : (t : ℕ) → visit-lts.Need-loop-holds (calls t) (visit-at t) visit.Post Inv μ
 loop-holds t c = let s = start t c in
-    let p = c .before .before .before .before .before .before .before .push .kept in
-    let T = sought-next (bitOf (s .args .e .now) (s .args .v)) 0 2048 (c .next-bit .result) (omega arith) (c .next-bit .ensures) in
-    ((p .1 .0 ∙ s .pre .1 .pos-room, s .pre .1 .done-room, p .1 .1 .0 ∙ s .pre .1 .path-room, p .1 .1 .1 .0 ∙ s .pre .1 .bounds-room), (T .upto, T .hit), λ small S₀′ gray E. begin (s .args .n) small (s .args .e .now) S₀′ gray (s .args .v) _ E (c .next-bit .result) (c .next-bit .ensures))
+    let p = c .before .push .ensures in
+    let T = sought-next (bitOf (s .args .e .now) (s .args .v)) 0 2048 (c .next-bit .result) low (c .next-bit .ensures) in
+    ((set-room (s .args .pos .now) _ (s .args .v) (s .args .s .len) (p .0) (s .pre .1 .pos-room), s .pre .1 .done-room, set-room (s .args .path .now) _ (s .args .s .len) (s .args .v) (p .1) (s .pre .1 .path-room), set-room (s .args .bounds .now) _ (s .args .s .top) (s .args .s .len) (p .2) (s .pre .1 .bounds-room)), (T .upto, T .hit), λ small S₀′ gray E. begin (s .args .n) small (s .args .e .now) S₀′ gray (s .args .v) _ E (c .next-bit .result) (c .next-bit .ensures))
 
 mul-wide : (t : ℕ) → visit-lts.Need-mul-wide (calls t) (visit-at t) visit.Post Inv μ
-mul-wide t c = let o = c .before in let s = start t (o .before) in omega (arith, c .loop-test .taken, few t s)
+mul-wide t c = let o = c .before in let s = start t (o .before) in let l = c .loop-test .taken in fits-twice _ (below _ _ l (few t s))
 
-slice-read-wide : (t : ℕ) → visit-lts.Need-slice-read-wide (calls t) (visit-at t) visit.Post Inv μ
-slice-read-wide t c = let o = c .before .before in let s = start t (o .before) in let l = c .before .loop-test .taken in omega (arith, l, few t s, o .loop .inv .0 .0)
+element-copy-out-wide : (t : ℕ) → visit-lts.Need-element-copy-out-wide (calls t) (visit-at t) visit.Post Inv μ
+element-copy-out-wide t c = let o = c .before in let s = start t (o .before) in let l = c .loop-test .taken in below _ _ l (few t s)
 
 wide-requires : (t : ℕ) → visit-lts.Need-wide-requires (calls t) (visit-at t) visit.Post Inv μ
 wide-requires t c κs = tt
@@ -147,68 +148,69 @@ visit-requires t c κs = let o = c .before .before .before .before .before .befo
         new = omega (arith, c .before .before .before .before .before .wide .ensures, c .before .before .before .before .if1 .taken);
         gray = with (s .args .n) 2048 (few t s) (bitOf (s .args .e .now)) _ (ws (s .args .n) (few t s) (s .args .e .now)) (wj (s .args .n) (few t s) (s .args .e .now)) (we (s .args .n) (few t s) (s .args .e .now)) (s .pre .1 .gray) (s .args .v);
         good = W .good;
-        leading = leads-on (s .args .n) (few t s) (s .args .e .now) (S₀ t s) (s .pre .1 .gray) (s .args .v) _ (own t (o .before)) (S t o) (o .loop .w) 0 W l (o .loop .inv .1 .1 (omega (arith, l, few t s)));
+        leading = leads-on (s .args .n) (few t s) (s .args .e .now) (S₀ t s) (s .pre .1 .gray) (s .args .v) _ (own t (o .before)) (S t o) (o .loop .w) 0 W l (o .loop .inv .1 .1 (below _ _ l (few t s)));
       },
     )
 
 add-next-bit : (t : ℕ) → visit-lts.Need-add-next-bit (calls t) (visit-at t) visit.Post Inv μ
-add-next-bit t c = let o = c .before .before .before .before .before .before .before .before .before .before .before .before .before .before .before .before .before in let s = start t (o .before) in let l = c .before .before .before .before .before .before .before .before .before .before .before .before .before .before .before .before .loop-test .taken in omega (arith, l, few t s)
+add-next-bit t c = let o = c .before .before .before .before .before .before .before .before .before in let s = start t (o .before) in let l = c .before .before .before .before .before .before .before .before .loop-test .taken in fits-more _ (below _ _ l (few t s))
 
 next-bit-requires-2 : (t : ℕ) → visit-lts.Need-next-bit-requires-2 (calls t) (visit-at t) visit.Post Inv μ
-next-bit-requires-2 t c κs = let o = c .before .before .before .before .before .before .before .before .before .before .before .before .before .before .before .before .before in let s = start t (o .before) in let l = c .before .before .before .before .before .before .before .before .before .before .before .before .before .before .before .before .loop-test .taken in (s .pre .1 .matrix, omega (arith, s .pre .1 .piece, few t s), omega (arith, l, few t s))
+next-bit-requires-2 t c κs = let o = c .before .before .before .before .before .before .before .before .before in let s = start t (o .before) in let l = c .before .before .before .before .before .before .before .before .loop-test .taken in (s .pre .1 .matrix, below _ _ (s .pre .1 .piece) (few t s), next-low _ _ l (few t s))
 
 loop-less : (t : ℕ) → visit-lts.Need-loop-less (calls t) (visit-at t) visit.Post Inv μ
-loop-less t c = let o = c .before .before .before .before .before .before .before .before .before .before .before .before .before .before .before .before .before .before in let s = start t (o .before) in let l = c .before .before .before .before .before .before .before .before .before .before .before .before .before .before .before .before .before .loop-test .taken in omega (arith, l, few t s, sought-next (bitOf (s .args .e .now) (s .args .v)) (o .loop .w + 1) 2048 (c .next-bit2 .result) (omega (arith, l, few t s)) (c .next-bit2 .ensures) .from)
+loop-less t c = let o = c .before .before .before .before .before .before .before .before .before .before in let s = start t (o .before) in let l = c .before .before .before .before .before .before .before .before .before .loop-test .taken in nearer _ _ (below _ _ l (few t s)) (sought-next (bitOf (s .args .e .now) (s .args .v)) (o .loop .w + 1) 2048 (c .next-bit2 .result) (next-low _ _ l (few t s)) (c .next-bit2 .ensures) .from)
 
 loop-again : (t : ℕ) → visit-lts.Need-loop-again (calls t) (visit-at t) visit.Post Inv μ
-loop-again t c = let o = c .before .before .before .before .before .before .before .before .before .before .before .before .before .before .before .before .before .before in let s = start t (o .before) in let l = c .before .before .before .before .before .before .before .before .before .before .before .before .before .before .before .before .before .loop-test .taken in
-    let T = sought-next (bitOf (s .args .e .now) (s .args .v)) (o .loop .w + 1) 2048 (c .next-bit2 .result) (omega (arith, l, few t s)) (c .next-bit2 .ensures) in (
-      (c .before .before .before .before .before .before .before .before .before .visit .kept .1 .1 .1 .0 ∙ o .loop .inv .0 .0, c .before .before .before .before .before .before .before .before .before .visit .kept .1 .1 .1 .1 .0 ∙ o .loop .inv .0 .1, c .before .before .before .before .before .before .before .before .before .visit .kept .1 .1 .1 .1 .1 .0 ∙ o .loop .inv .0 .2, c .before .before .before .before .before .before .before .before .before .visit .kept .1 .1 .1 .1 .1 .1 .0 ∙ o .loop .inv .0 .3),
+loop-again t c = let o = c .before .before .before .before .before .before .before .before .before .before in let s = start t (o .before) in let l = c .before .before .before .before .before .before .before .before .before .loop-test .taken in
+    let T = sought-next (bitOf (s .args .e .now) (s .args .v)) (o .loop .w + 1) 2048 (c .next-bit2 .result) (next-low _ _ l (few t s)) (c .next-bit2 .ensures) in
+    let v = c .before .visit .ensures .0 in (
+      (v .pos-is, v .done-is, v .path-is, v .bounds-is),
       (T .upto, T .hit),
       λ small S₀′ gray E. let W = o .loop .inv .2 small S₀′ gray E in
-          let g = o .loop .inv .1 .1 (omega (arith, l, few t s)) in
-          let z : getD (o .loop .pos) (o .loop .w) 0 ≡ 2048 = omega (arith, c .before .before .before .before .before .before .before .before .before .before .before .before .before .before .before .wide .ensures, c .before .before .before .before .before .before .before .before .before .before .before .before .before .before .if1 .taken) in
+          let g = o .loop .inv .1 .1 (below _ _ l (few t s)) in
+          let z : getD (o .loop .pos) (o .loop .w) 0 ≡ 2048 = omega (arith, c .before .before .before .before .before .before .before .wide .ensures, c .before .before .before .before .before .before .if1 .taken) in
           call-more (s .args .n) small (s .args .e .now) S₀′ gray (s .args .v) _ E (S t o) (o .loop .w) (c .next-bit2 .result) W l g _ (c .next-bit2 .ensures) z
-          (c .before .before .before .before .before .before .before .before .before .visit .ensures _ (W .good) (leads-on (s .args .n) small (s .args .e .now) S₀′ gray (s .args .v) _ E (S t o) (o .loop .w) 0 W l g)),
+          (c .before .visit .ensures .1 _ (W .good) (leads-on (s .args .n) small (s .args .e .now) S₀′ gray (s .args .v) _ E (S t o) (o .loop .w) 0 W l g)),
     )
 
 mul-wide-2 : (t : ℕ) → visit-lts.Need-mul-wide-2 (calls t) (visit-at t) visit.Post Inv μ
-mul-wide-2 t c = let o = c .before .before .before .before in let s = start t (o .before) in let l = c .before .before .before .loop-test .taken in omega (arith, l, few t s)
+mul-wide-2 t c = let o = c .before .before .before .before in let s = start t (o .before) in let l = c .before .before .before .loop-test .taken in fits-twice _ (below _ _ l (few t s))
 
-slice-read-wide-2 : (t : ℕ) → visit-lts.Need-slice-read-wide-2 (calls t) (visit-at t) visit.Post Inv μ
-slice-read-wide-2 t c = let o = c .before .before .before .before .before in let s = start t (o .before) in let l = c .before .before .before .before .loop-test .taken in omega (arith, l, few t s, o .loop .inv .0 .1)
+element-copy-out-wide-2 : (t : ℕ) → visit-lts.Need-element-copy-out-wide-2 (calls t) (visit-at t) visit.Post Inv μ
+element-copy-out-wide-2 t c = let o = c .before .before .before .before in let s = start t (o .before) in let l = c .before .before .before .loop-test .taken in below _ _ l (few t s)
 
 wide-requires-2 : (t : ℕ) → visit-lts.Need-wide-requires-2 (calls t) (visit-at t) visit.Post Inv μ
 wide-requires-2 t c κs = tt
 
 mul-wide-3 : (t : ℕ) → visit-lts.Need-mul-wide-3 (calls t) (visit-at t) visit.Post Inv μ
-mul-wide-3 t c = let o = c .before .before .before .before .before .before .before .before in let s = start t (o .before) in let l = c .before .before .before .before .before .before .before .loop-test .taken in omega (arith, l, few t s)
+mul-wide-3 t c = let o = c .before .before .before .before .before .before .before .before in let s = start t (o .before) in let l = c .before .before .before .before .before .before .before .loop-test .taken in omega (arith, l, few t s, s .pre .1 .piece)
 
-slice-read-wide-3 : (t : ℕ) → visit-lts.Need-slice-read-wide-3 (calls t) (visit-at t) visit.Post Inv μ
-slice-read-wide-3 t c = let o = c .before .before .before .before .before .before .before .before .before in let s = start t (o .before) in let l = c .before .before .before .before .before .before .before .before .loop-test .taken in omega (arith, l, few t s, o .loop .inv .0 .0)
+element-copy-out-wide-3 : (t : ℕ) → visit-lts.Need-element-copy-out-wide-3 (calls t) (visit-at t) visit.Post Inv μ
+element-copy-out-wide-3 t c = let o = c .before .before .before .before .before .before .before .before in let s = start t (o .before) in let l = c .before .before .before .before .before .before .before .loop-test .taken in omega (arith, l, few t s, s .pre .1 .piece)
 
 wide-requires-3 : (t : ℕ) → visit-lts.Need-wide-requires-3 (calls t) (visit-at t) visit.Post Inv μ
 wide-requires-3 t c κs = tt
 
 cut-requires : (t : ℕ) → visit-lts.Need-cut-requires (calls t) (visit-at t) visit.Post Inv μ
-cut-requires t c κs = let o = c .before .before .before .before .before .before .before .before .before .before in omega (arith, top-fits t o, o .loop .inv .0 .3)
+cut-requires t c κs = top-fits t (c .before .before .before .before .before .before .before .before .before .before)
 
 add-next-bit-2 : (t : ℕ) → visit-lts.Need-add-next-bit-2 (calls t) (visit-at t) visit.Post Inv μ
-add-next-bit-2 t c = let o = c .before .before .before .before .before .before .before .before .before .before .before in let s = start t (o .before) in let l = c .before .before .before .before .before .before .before .before .before .before .loop-test .taken in omega (arith, l, few t s)
+add-next-bit-2 t c = let o = c .before .before .before .before .before .before .before .before .before .before .before in let s = start t (o .before) in let l = c .before .before .before .before .before .before .before .before .before .before .loop-test .taken in fits-more _ (below _ _ l (few t s))
 
 next-bit-requires-3 : (t : ℕ) → visit-lts.Need-next-bit-requires-3 (calls t) (visit-at t) visit.Post Inv μ
-next-bit-requires-3 t c κs = let o = c .before .before .before .before .before .before .before .before .before .before .before in let s = start t (o .before) in let l = c .before .before .before .before .before .before .before .before .before .before .loop-test .taken in (s .pre .1 .matrix, omega (arith, s .pre .1 .piece, few t s), omega (arith, l, few t s))
+next-bit-requires-3 t c κs = let o = c .before .before .before .before .before .before .before .before .before .before .before in let s = start t (o .before) in let l = c .before .before .before .before .before .before .before .before .before .before .loop-test .taken in (s .pre .1 .matrix, below _ _ (s .pre .1 .piece) (few t s), next-low _ _ l (few t s))
 
 loop-less-2 : (t : ℕ) → visit-lts.Need-loop-less-2 (calls t) (visit-at t) visit.Post Inv μ
-loop-less-2 t c = let o = c .before .before .before .before .before .before .before .before .before .before .before .before in let s = start t (o .before) in let l = c .before .before .before .before .before .before .before .before .before .before .before .loop-test .taken in omega (arith, l, few t s, sought-next (bitOf (s .args .e .now) (s .args .v)) (o .loop .w + 1) 2048 (c .next-bit3 .result) (omega (arith, l, few t s)) (c .next-bit3 .ensures) .from)
+loop-less-2 t c = let o = c .before .before .before .before .before .before .before .before .before .before .before .before in let s = start t (o .before) in let l = c .before .before .before .before .before .before .before .before .before .before .before .loop-test .taken in nearer _ _ (below _ _ l (few t s)) (sought-next (bitOf (s .args .e .now) (s .args .v)) (o .loop .w + 1) 2048 (c .next-bit3 .result) (next-low _ _ l (few t s)) (c .next-bit3 .ensures) .from)
 
 loop-again-2 : (t : ℕ) → visit-lts.Need-loop-again-2 (calls t) (visit-at t) visit.Post Inv μ
 loop-again-2 t c = let o = c .before .before .before .before .before .before .before .before .before .before .before .before in let s = start t (o .before) in let l = c .before .before .before .before .before .before .before .before .before .before .before .loop-test .taken in
-    let T = sought-next (bitOf (s .args .e .now) (s .args .v)) (o .loop .w + 1) 2048 (c .next-bit3 .result) (omega (arith, l, few t s)) (c .next-bit3 .ensures) in (
+    let T = sought-next (bitOf (s .args .e .now) (s .args .v)) (o .loop .w + 1) 2048 (c .next-bit3 .result) (next-low _ _ l (few t s)) (c .next-bit3 .ensures) in (
       o .loop .inv .0,
       (T .upto, T .hit),
       λ small S₀′ gray E. let W = o .loop .inv .2 small S₀′ gray E in
-          let g = o .loop .inv .1 .1 (omega (arith, l, few t s)) in
+          let g = o .loop .inv .1 .1 (below _ _ l (few t s)) in
           let a = met-small (s .args .n) small (s .args .e .now) (S t o) _ (W .good) (o .loop .w) l (λ q. omega (arith, c .before .before .before .before .before .before .before .before .before .wide .ensures, c .before .before .before .before .before .before .before .before .if1 .left, q)) in
           let b : getD (o .loop .done) (o .loop .w) 0 ≡ 2048 = omega (arith, c .before .before .before .before .before .before .wide2 .ensures, c .before .before .before .before .before .if2 .taken) in
           cut-on (s .args .n) small (s .args .e .now) S₀′ gray (s .args .v) _ E (o .loop .pos) (o .loop .done) (o .loop .path) (o .loop .bounds) (o .loop .len) (o .loop .top) (o .loop .count) (o .loop .w) (c .next-bit3 .result) (c .before .cut .result) W l g (c .next-bit3 .ensures) a b
@@ -216,21 +218,21 @@ loop-again-2 t c = let o = c .before .before .before .before .before .before .be
     )
 
 add-next-bit-3 : (t : ℕ) → visit-lts.Need-add-next-bit-3 (calls t) (visit-at t) visit.Post Inv μ
-add-next-bit-3 t c = let o = c .before .before .before .before .before .before .before in let s = start t (o .before) in let l = c .before .before .before .before .before .before .loop-test .taken in omega (arith, l, few t s)
+add-next-bit-3 t c = let o = c .before .before .before .before .before .before .before in let s = start t (o .before) in let l = c .before .before .before .before .before .before .loop-test .taken in fits-more _ (below _ _ l (few t s))
 
 next-bit-requires-4 : (t : ℕ) → visit-lts.Need-next-bit-requires-4 (calls t) (visit-at t) visit.Post Inv μ
-next-bit-requires-4 t c κs = let o = c .before .before .before .before .before .before .before in let s = start t (o .before) in let l = c .before .before .before .before .before .before .loop-test .taken in (s .pre .1 .matrix, omega (arith, s .pre .1 .piece, few t s), omega (arith, l, few t s))
+next-bit-requires-4 t c κs = let o = c .before .before .before .before .before .before .before in let s = start t (o .before) in let l = c .before .before .before .before .before .before .loop-test .taken in (s .pre .1 .matrix, below _ _ (s .pre .1 .piece) (few t s), next-low _ _ l (few t s))
 
 loop-less-3 : (t : ℕ) → visit-lts.Need-loop-less-3 (calls t) (visit-at t) visit.Post Inv μ
-loop-less-3 t c = let o = c .before .before .before .before .before .before .before .before in let s = start t (o .before) in let l = c .before .before .before .before .before .before .before .loop-test .taken in omega (arith, l, few t s, sought-next (bitOf (s .args .e .now) (s .args .v)) (o .loop .w + 1) 2048 (c .next-bit4 .result) (omega (arith, l, few t s)) (c .next-bit4 .ensures) .from)
+loop-less-3 t c = let o = c .before .before .before .before .before .before .before .before in let s = start t (o .before) in let l = c .before .before .before .before .before .before .before .loop-test .taken in nearer _ _ (below _ _ l (few t s)) (sought-next (bitOf (s .args .e .now) (s .args .v)) (o .loop .w + 1) 2048 (c .next-bit4 .result) (next-low _ _ l (few t s)) (c .next-bit4 .ensures) .from)
 
 loop-again-3 : (t : ℕ) → visit-lts.Need-loop-again-3 (calls t) (visit-at t) visit.Post Inv μ
 loop-again-3 t c = let o = c .before .before .before .before .before .before .before .before in let s = start t (o .before) in let l = c .before .before .before .before .before .before .before .loop-test .taken in
-    let T = sought-next (bitOf (s .args .e .now) (s .args .v)) (o .loop .w + 1) 2048 (c .next-bit4 .result) (omega (arith, l, few t s)) (c .next-bit4 .ensures) in (
+    let T = sought-next (bitOf (s .args .e .now) (s .args .v)) (o .loop .w + 1) 2048 (c .next-bit4 .result) (next-low _ _ l (few t s)) (c .next-bit4 .ensures) in (
       o .loop .inv .0,
       (T .upto, T .hit),
       λ small S₀′ gray E. let W = o .loop .inv .2 small S₀′ gray E in
-          let g = o .loop .inv .1 .1 (omega (arith, l, few t s)) in
+          let g = o .loop .inv .1 .1 (below _ _ l (few t s)) in
           let a = met-small (s .args .n) small (s .args .e .now) (S t o) _ (W .good) (o .loop .w) l (λ q. omega (arith, c .before .before .before .before .before .wide .ensures, c .before .before .before .before .if1 .left, q)) in
           let b = ended-small (s .args .n) small (s .args .e .now) (S t o) _ (W .good) (o .loop .w) l (λ q. omega (arith, c .before .before .wide2 .ensures, c .before .if2 .left, q)) in
           skip-more (s .args .n) small (s .args .e .now) S₀′ gray (s .args .v) _ E (S t o) (o .loop .w) (c .next-bit4 .result) W l g (c .next-bit4 .ensures) a b,
@@ -242,56 +244,36 @@ sub-wide t c = omega (arith, some-top t (c .before))
 mul-wide-4 : (t : ℕ) → visit-lts.Need-mul-wide-4 (calls t) (visit-at t) visit.Post Inv μ
 mul-wide-4 t c = omega (arith, some-top t (c .before), top-fits t (c .before))
 
-slice-read-wide-4 : (t : ℕ) → visit-lts.Need-slice-read-wide-4 (calls t) (visit-at t) visit.Post Inv μ
-slice-read-wide-4 t c = let o = c .before .before in omega (arith, some-top t o, top-fits t o, o .loop .inv .0 .3)
+element-copy-out-wide-4 : (t : ℕ) → visit-lts.Need-element-copy-out-wide-4 (calls t) (visit-at t) visit.Post Inv μ
+element-copy-out-wide-4 t c = let o = c .before in omega (arith, some-top t o, top-fits t o)
 
 wide-requires-4 : (t : ℕ) → visit-lts.Need-wide-requires-4 (calls t) (visit-at t) visit.Post Inv μ
 wide-requires-4 t c κs = tt
 
 close-requires : (t : ℕ) → visit-lts.Need-close-requires (calls t) (visit-at t) visit.Post Inv μ
 close-requires t c κs = let o = c .before .before .before .before .before .before in let s = start t (o .before) in let W = walk t o in
-    (omega (arith, len-fits t o, o .loop .inv .0 .2), omega (arith, W .longer), omega (arith, len-fits t o), record { pieces = λ i a b. omega (arith, W .good .seat i b .0, few t s, o .loop .inv .0 .1) })
+    (less _ _ _ (len-fits t o), omega (arith, W .longer), fewer _ _ (len-fits t o), o .loop .inv .0 .1, record { pieces = λ i a b. below _ _ (W .good .seat i b .0) (few t s) })
 
-sub-t56 : (t : ℕ) → visit-lts.Need-sub-t56 (calls t) (visit-at t) visit.Post Inv μ
-sub-t56 t c = omega (arith, some-top t (c .before .before .before .before .before .before .before .before .before))
+sub-t50 : (t : ℕ) → visit-lts.Need-sub-t50 (calls t) (visit-at t) visit.Post Inv μ
+sub-t50 t c = omega (arith, some-top t (c .before .before .before .before .before .before .before))
 
-add-t57 : (t : ℕ) → visit-lts.Need-add-t57 (calls t) (visit-at t) visit.Post Inv μ
-add-t57 t c = omega (arith, len-fits t (c .before .before .before .before .before .before .before .before .before))
-
-same-length : (t : ℕ) → visit-lts.Need-same-length (calls t) (visit-at t) visit.Post Inv μ
-same-length t c = let o = c .before .before .before .before .before .before .before .before .before in o .loop .inv .0 .0 ∙ sym (start t (o .before) .pre .1 .pos-room)
-
-same-length-2 : (t : ℕ) → visit-lts.Need-same-length-2 (calls t) (visit-at t) visit.Post Inv μ
-same-length-2 t c = let o = c .before .before .before .before .before .before .before .before .before in c .before .before .close .kept .1 .0 ∙ o .loop .inv .0 .1 ∙ sym (start t (o .before) .pre .1 .done-room)
-
-same-length-3 : (t : ℕ) → visit-lts.Need-same-length-3 (calls t) (visit-at t) visit.Post Inv μ
-same-length-3 t c = let o = c .before .before .before .before .before .before .before .before .before in o .loop .inv .0 .2 ∙ sym (start t (o .before) .pre .1 .path-room)
-
-same-length-4 : (t : ℕ) → visit-lts.Need-same-length-4 (calls t) (visit-at t) visit.Post Inv μ
-same-length-4 t c = let o = c .before .before .before .before .before .before .before .before .before in o .loop .inv .0 .3 ∙ sym (start t (o .before) .pre .1 .bounds-room)
+add-t51 : (t : ℕ) → visit-lts.Need-add-t51 (calls t) (visit-at t) visit.Post Inv μ
+add-t51 t c = omega (arith, len-fits t (c .before .before .before .before .before .before .before))
 
 returns : (t : ℕ) → visit-lts.Need-returns (calls t) (visit-at t) visit.Post Inv μ
-returns t c = let o = c .before .before .before .before .before .before .before .before .before in let s = start t (o .before) in
-    λ gray G L. let E = enter t (o .before) gray G L in let W = o .loop .inv .2 (few t s) (S₀ t s) gray E in
-    shut (s .args .n) (few t s) (s .args .e .now) (S₀ t s) gray (s .args .v) _ E (o .loop .pos) (o .loop .done) (o .loop .path) (o .loop .bounds) _ (o .loop .len) (o .loop .top) (o .loop .count) (o .loop .w) (s .args .s .len) W (omega arith) (some-top t o) refl
-    (omega (arith, c .before .before .before .before .before .before .wide4 .ensures, c .before .before .before .before .before .if3 .taken)) (c .before .before .close .ensures)
-
-same-length-5 : (t : ℕ) → visit-lts.Need-same-length-5 (calls t) (visit-at t) visit.Post Inv μ
-same-length-5 t c = let o = c .before .before .before .before in o .loop .inv .0 .0 ∙ sym (start t (o .before) .pre .1 .pos-room)
-
-same-length-6 : (t : ℕ) → visit-lts.Need-same-length-6 (calls t) (visit-at t) visit.Post Inv μ
-same-length-6 t c = let o = c .before .before .before .before in o .loop .inv .0 .1 ∙ sym (start t (o .before) .pre .1 .done-room)
-
-same-length-7 : (t : ℕ) → visit-lts.Need-same-length-7 (calls t) (visit-at t) visit.Post Inv μ
-same-length-7 t c = let o = c .before .before .before .before in o .loop .inv .0 .2 ∙ sym (start t (o .before) .pre .1 .path-room)
-
-same-length-8 : (t : ℕ) → visit-lts.Need-same-length-8 (calls t) (visit-at t) visit.Post Inv μ
-same-length-8 t c = let o = c .before .before .before .before in o .loop .inv .0 .3 ∙ sym (start t (o .before) .pre .1 .bounds-room)
+returns t c = let o = c .before .before .before .before .before .before .before in let s = start t (o .before) in (
+  record { pos-is = o .loop .inv .0 .0; done-is = c .close .ensures .sized ∙ o .loop .inv .0 .1; path-is = o .loop .inv .0 .2; bounds-is = o .loop .inv .0 .3 },
+  λ gray G L. let E = enter t (o .before) gray G L in let W = o .loop .inv .2 (few t s) (S₀ t s) gray E in
+      shut (s .args .n) (few t s) (s .args .e .now) (S₀ t s) gray (s .args .v) _ E (o .loop .pos) (o .loop .done) (o .loop .path) (o .loop .bounds) _ (o .loop .len) (o .loop .top) (o .loop .count) (o .loop .w) (s .args .s .len) W (omega arith) (some-top t o) refl
+      (omega (arith, c .before .before .before .before .wide4 .ensures, c .before .before .before .if3 .taken)) (c .close .ensures),
+)
 
 returns-2 : (t : ℕ) → visit-lts.Need-returns-2 (calls t) (visit-at t) visit.Post Inv μ
-returns-2 t c = let o = c .before .before .before .before in let s = start t (o .before) in
-    λ gray G L. let E = enter t (o .before) gray G L in let W = o .loop .inv .2 (few t s) (S₀ t s) gray E in
-    stay (s .args .n) (few t s) (s .args .e .now) (S₀ t s) gray (s .args .v) _ E (S t o) (o .loop .w) W (omega arith) (o .loop .top - 1) (omega (arith, some-top t o)) (λ q. omega (arith, c .before .wide4 .ensures, c .if3 .left, q))
+returns-2 t c = let o = c .before .before .before .before in let s = start t (o .before) in (
+  record { pos-is = o .loop .inv .0 .0; done-is = o .loop .inv .0 .1; path-is = o .loop .inv .0 .2; bounds-is = o .loop .inv .0 .3 },
+  λ gray G L. let E = enter t (o .before) gray G L in let W = o .loop .inv .2 (few t s) (S₀ t s) gray E in
+      stay (s .args .n) (few t s) (s .args .e .now) (S₀ t s) gray (s .args .v) _ E (S t o) (o .loop .w) W (omega arith) (o .loop .top - 1) (omega (arith, some-top t o)) (λ q. omega (arith, c .before .wide4 .ensures, c .if3 .left, q)),
+)
 
 pub +visit-spec : {M : Type 1} → statement M
 +visit-spec = close μ-visit λ t. visit-lts.spec (calls t)
@@ -305,7 +287,7 @@ pub +visit-spec : {M : Type 1} → statement M
     (next-bit-requires t)
     (loop-holds t)
     (mul-wide t)
-    (slice-read-wide t)
+    (element-copy-out-wide t)
     (wide-requires t)
     (visit-requires t)
     (add-next-bit t)
@@ -313,10 +295,10 @@ pub +visit-spec : {M : Type 1} → statement M
     (loop-less t)
     (loop-again t)
     (mul-wide-2 t)
-    (slice-read-wide-2 t)
+    (element-copy-out-wide-2 t)
     (wide-requires-2 t)
     (mul-wide-3 t)
-    (slice-read-wide-3 t)
+    (element-copy-out-wide-3 t)
     (wide-requires-3 t)
     (cut-requires t)
     (add-next-bit-2 t)
@@ -329,18 +311,10 @@ pub +visit-spec : {M : Type 1} → statement M
     (loop-again-3 t)
     (sub-wide t)
     (mul-wide-4 t)
-    (slice-read-wide-4 t)
+    (element-copy-out-wide-4 t)
     (wide-requires-4 t)
     (close-requires t)
-    (sub-t56 t)
-    (add-t57 t)
-    (same-length t)
-    (same-length-2 t)
-    (same-length-3 t)
-    (same-length-4 t)
+    (sub-t50 t)
+    (add-t51 t)
     (returns t)
-    (same-length-5 t)
-    (same-length-6 t)
-    (same-length-7 t)
-    (same-length-8 t)
     (returns-2 t)

@@ -20,8 +20,8 @@ loop-holds c = (omega arith, omega arith, record { sized = refl; hit = λ k a b.
 mul-wide : tie.Need-mul-wide Inv-loop μ-loop
 mul-wide c = search needs
 
-shared-slice-read-wide : tie.Need-shared-slice-read-wide Inv-loop μ-loop
-shared-slice-read-wide c = search needs
+element-copy-out-wide : tie.Need-element-copy-out-wide Inv-loop μ-loop
+element-copy-out-wide c = search needs
 
 wide-requires : tie.Need-wide-requires Inv-loop μ-loop
 wide-requires c κs = search needs
@@ -29,17 +29,17 @@ wide-requires c κs = search needs
 narrow-requires : tie.Need-narrow-requires Inv-loop μ-loop
 narrow-requires c κs = search needs
 
-in-done : (c : tie.After-narrow Inv-loop μ-loop) → c .before .wide .result < length (c .before .before .before .before .loop .done)
+in-done : (c : tie.After-narrow Inv-loop μ-loop) → c .before .wide .result < 2048
 in-done c =
     let L = c .before .before .before .before .loop in
-    let A = c .before .before .before .before .before .before .before in
-    omega (arith, c .before .wide .ensures, A .pre .3 .pieces (L .i) (omega arith) (omega arith), L .inv .2 .sized)
+    let A = c .before .before .before .before .before in
+    omega (arith, c .before .wide .ensures, A .pre .4 .pieces (L .i) (omega arith) (omega arith))
 
 mul-done : tie.Need-mul-done Inv-loop μ-loop
 mul-done c = omega (arith, in-done c)
 
-slice-write-done : tie.Need-slice-write-done Inv-loop μ-loop
-slice-write-done c = in-done c
+element-write-done : tie.Need-element-write-done Inv-loop μ-loop
+element-write-done c = in-done c
 
 add-i : tie.Need-add-i Inv-loop μ-loop
 add-i c = search needs
@@ -50,14 +50,11 @@ loop-less c = search needs
 loop-again : tie.Need-loop-again Inv-loop μ-loop
 loop-again c =
     let L = c .before .before .before .before .loop in
-    let l : getD (c .before .before .before .before .before .before .before .args .path .now) (L .i) 0 < length (L .done) = omega (arith, in-done c, c .before .wide .ensures) in
+    let l : getD (c .before .before .before .before .before .args .path .now) (L .i) 0 < length (L .done) = omega (arith, in-done c, c .before .wide .ensures, L .inv .2 .sized, c .before .before .before .before .before .pre .3) in
     (omega arith, omega arith, rw (c .narrow .ensures, c .before .wide .ensures) (numbered-more _ _ (L .done) _ (L .i) _ (omega arith) l (L .inv .2)))
 
-same-length : tie.Need-same-length Inv-loop μ-loop
-same-length c = search needs
-
 returns : tie.Need-returns Inv-loop μ-loop
-returns c = let L = c .before .loop in let e : L .i ≡ c .before .before .before .before .args .len = omega arith in rw e at (L .inv .2)
+returns c = let L = c .before .loop in let e : L .i ≡ c .before .before .args .len = omega arith in rw e at (L .inv .2)
 
 pub close-spec : {M : Type 1} → statement M
 close-spec =
@@ -67,13 +64,12 @@ close-spec =
     μ-loop
     loop-holds
     mul-wide
-    shared-slice-read-wide
+    element-copy-out-wide
     wide-requires
     narrow-requires
     mul-done
-    slice-write-done
+    element-write-done
     add-i
     loop-less
     loop-again
-    same-length
     returns)

@@ -21,8 +21,8 @@ sub-wide c = search needs
 mul-wide : tie.Need-mul-wide Inv-loop μ-loop
 mul-wide c = search needs
 
-shared-slice-read-wide : tie.Need-shared-slice-read-wide Inv-loop μ-loop
-shared-slice-read-wide c = search needs
+element-copy-out-wide : tie.Need-element-copy-out-wide Inv-loop μ-loop
+element-copy-out-wide c = search needs
 
 wide-requires : tie.Need-wide-requires Inv-loop μ-loop
 wide-requires c κs = search needs
@@ -37,7 +37,7 @@ loop-less : tie.Need-loop-less Inv-loop μ-loop
 loop-less c = search needs
 
 loop-again : tie.Need-loop-again Inv-loop μ-loop
-loop-again c = let L = c .before .before .before .before .loop in let A = c .before .before .before .before .before .before .args in (omega arith, cut-more (A .bounds .now) (A .top) (A .p) (L .t) (L .inv .1) (omega (arith, c .before .wide .ensures)))
+loop-again c = let L = c .before .before .before .before .loop in let A = c .before .before .before .before .before .args in (omega arith, cut-more (A .bounds .now) (A .top) (A .p) (L .t) (L .inv .1) (omega (arith, c .before .wide .ensures)))
 
 returns-2 : tie.Need-returns-2 Inv-loop μ-loop
 returns-2 c = search needs
@@ -51,7 +51,7 @@ cut-spec =
     loop-holds
     sub-wide
     mul-wide
-    shared-slice-read-wide
+    element-copy-out-wide
     wide-requires
     returns
     sub-t

@@ -9,7 +9,8 @@ use Rattle.records.proofs.Rows.{formed}
 use borrow.Author.Needs.{needs}
 use borrow.Author.Count.{below-more, below-none}
 use native.Mathlib.Omega.{arith}
-use lib.ListN.{length, getD, set, length-set}
+use lib.ListN.{length, getD, set, length-set, length-replicate}
+use Rattle.records.proofs.Fits.{low, six-in, below, under, closer, fits-eight, fits-more}
 use Rattle.records.specs.Record.{recordAt}
 use Rattle.records.specs.Key.{keyAt}
 use Rattle.records.proofs.Books.{Left, at-first, accepts, refuses, goes-on, form-unfit, form-repeats, form-new, pieces-none, pieces-more}
@@ -62,13 +63,13 @@ named :
 named c = c .largest-named .ensures ∙ ap largest (keyed-at (c .before .before) .before .before .before .before .record-at .ensures)
 
 records-holds : tie.Need-records-holds Inv-loop μ-loop Inv-records μ-records
-records-holds c = (search needs, search needs, search needs, pieces-none _, below-none _, below-none _, at-first _ _ _)
+records-holds c = (low _, length-replicate {A = ℕ} 8192 0, length-replicate {A = ℕ} 4096 0, pieces-none _, below-none _, below-none _, at-first _ _ _)
 
 record-at-requires : tie.Need-record-at-requires Inv-loop μ-loop Inv-records μ-records
-record-at-requires c κs = search needs
+record-at-requires c κs = six-in _ _ _ (c .if1 .left) (c .before .before .before .pre .1)
 
 check-form-requires : tie.Need-check-form-requires Inv-loop μ-loop Inv-records μ-records
-check-form-requires c κs = search needs
+check-form-requires c κs = tt
 
 enum-known-form : tie.Need-enum-known-form Inv-loop μ-loop Inv-records μ-records
 enum-known-form c = search needs
@@ -77,25 +78,25 @@ enum-told : tie.Need-enum-told Inv-loop μ-loop Inv-records μ-records
 enum-told c = search needs
 
 key-at-requires : tie.Need-key-at-requires Inv-loop μ-loop Inv-records μ-records
-key-at-requires c κs = search needs
+key-at-requires c κs = six-in _ _ _ (c .before .before .before .before .if1 .left) (c .before .before .before .before .before .before .before .pre .1)
 
 mul-keys : tie.Need-mul-keys Inv-loop μ-loop Inv-records μ-records
-mul-keys c = search needs
+mul-keys c = fits-eight _ (below _ _ (c .before .before .before .before .before .if1 .left) (c .before .before .before .before .before .before .before .before .pre .0))
 
 array-write-keys : tie.Need-array-write-keys Inv-loop μ-loop Inv-records μ-records
-array-write-keys c = search needs
+array-write-keys c = below _ _ (c .before .before .before .before .before .if1 .left) (c .before .before .before .before .before .before .before .before .pre .0)
 
 slice-aggregate-mark : tie.Need-slice-aggregate-mark Inv-loop μ-loop Inv-records μ-records
-slice-aggregate-mark c = search needs
+slice-aggregate-mark c = sym (c .before .before .before .before .before .before .before .records .inv .2)
 
 slot-of-requires : tie.Need-slot-of-requires Inv-loop μ-loop Inv-records μ-records
-slot-of-requires c κs = search needs
+slot-of-requires c κs = tt
 
 mark-requires : tie.Need-mark-requires Inv-loop μ-loop Inv-records μ-records
-mark-requires c κs = (search needs, omega (arith, c .slot-of .ensures))
+mark-requires c κs = (c .before .before .before .before .before .before .before .before .records .inv .2, omega (arith, c .slot-of .ensures))
 
 first-suspect-requires : tie.Need-first-suspect-requires Inv-loop μ-loop Inv-records μ-records
-first-suspect-requires c κs = search needs
+first-suspect-requires c κs = tt
 
 loop-holds : tie.Need-loop-holds Inv-loop μ-loop Inv-records μ-records
 loop-holds c =
@@ -105,34 +106,34 @@ loop-holds c =
     spared (o .before .before .args .book .now) (set (o .records .keys) (o .records .i) (k .key-at .result)) _ _ _ _ _ _ (m .before .slot-of .ensures) (m .mark .ensures .0) (c .first-suspect .ensures) (o .records .inv .5) (λ p h. keyed k p (omega arith))
 
 mul-if2 : tie.Need-mul-if2 Inv-loop μ-loop Inv-records μ-records
-mul-if2 c = search needs
+mul-if2 c = fits-eight _ (under _ _ _ (c .loop-test .taken) (c .before .before .before .before .before .before .before .before .before .before .before .before .if1 .left) (c .before .before .before .before .before .before .before .before .before .before .before .before .before .before .before .pre .0))
 
 array-read-if2 : tie.Need-array-read-if2 Inv-loop μ-loop Inv-records μ-records
-array-read-if2 c = search needs
+array-read-if2 c = under _ _ _ (c .loop-test .taken) (c .before .before .before .before .before .before .before .before .before .before .before .before .if1 .left) (c .before .before .before .before .before .before .before .before .before .before .before .before .before .before .before .pre .0)
 
 add-j : tie.Need-add-j Inv-loop μ-loop Inv-records μ-records
-add-j c = search needs
+add-j c = fits-more _ (under _ _ _ (c .before .loop-test .taken) (c .before .before .before .before .before .before .before .before .before .before .before .before .before .if1 .left) (c .before .before .before .before .before .before .before .before .before .before .before .before .before .before .before .before .pre .0))
 
 loop-less : tie.Need-loop-less Inv-loop μ-loop Inv-records μ-records
-loop-less c = omega arith
+loop-less c = closer _ _ (c .before .loop-test .taken)
 
 loop-again : tie.Need-loop-again Inv-loop μ-loop Inv-records μ-records
 loop-again c = (search needs, below-more _ _ (c .before .before .loop .inv .1) (c .if2 .left))
 
 largest-named-requires : tie.Need-largest-named-requires Inv-loop μ-loop Inv-records μ-records
-largest-named-requires c κs = search needs
+largest-named-requires c κs = tt
 
 add-larger-of : tie.Need-add-larger-of Inv-loop μ-loop Inv-records μ-records
 add-larger-of c = omega (arith, named c, formed _ _ (fit (keyed-at (c .before .before))))
 
 larger-of-requires : tie.Need-larger-of-requires Inv-loop μ-loop Inv-records μ-records
-larger-of-requires c κs = search needs
+larger-of-requires c κs = tt
 
 add-i : tie.Need-add-i Inv-loop μ-loop Inv-records μ-records
-add-i c = search needs
+add-i c = fits-more _ (below _ _ (c .before .before .before .before .before .before .before .before .before .before .before .before .before .before .if1 .left) (c .before .before .before .before .before .before .before .before .before .before .before .before .before .before .before .before .before .pre .0))
 
 records-less : tie.Need-records-less Inv-loop μ-loop Inv-records μ-records
-records-less c = omega arith
+records-less c = closer _ _ (c .before .before .before .before .before .before .before .before .before .before .before .before .before .before .if1 .left)
 
 records-again : tie.Need-records-again Inv-loop μ-loop Inv-records μ-records
 records-again c =

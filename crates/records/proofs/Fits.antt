@@ -1,0 +1,26 @@
+-- Sums and bounds of record numbers, stated apart so that a need that asks one reads no more than it hands over. Assumes nothing.
+use Prim.Native.Nat.{ℕ, _+_, _-_, _*_, _≤_, _<_}
+use native.Mathlib.Omega.{arith}
+use mir.Syntax.{w64}
+use mir.Val.{Fits}
+
+pub low : (n : ℕ) → 0 ≤ n
+low n = omega arith
+
+pub six-in : (i n l : ℕ) → i < n → 6 * n ≤ l → 6 * i + 6 ≤ l
+six-in i n l h r = omega arith
+
+pub below : (i n : ℕ) → i < n → n ≤ 8192 → i < 8192
+below i n h l = omega arith
+
+pub under : (j i n : ℕ) → j < i → i < n → n ≤ 8192 → j < 8192
+under j i n g h l = omega arith
+
+pub closer : (i n : ℕ) → i < n → n - (i + 1) < n - i
+closer i n h = omega arith
+
+pub fits-eight : (i : ℕ) → i < 8192 → Fits w64 (i * 8)
+fits-eight i h = omega arith
+
+pub fits-more : (i : ℕ) → i < 8192 → Fits w64 (i + 1)
+fits-more i h = omega arith
