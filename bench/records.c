@@ -8,6 +8,7 @@
 
 #define RECORDS 8192
 #define SLOTS 257731
+#define OTHER_SLOTS 246731
 uint8_t records_check_book(const uint8_t *, size_t);
 
 static uint8_t book[RECORDS * 6];
@@ -18,7 +19,13 @@ static double now(void) {
   return t.tv_sec * 1e9 + t.tv_nsec;
 }
 
-// the records packed into keys once, each compared with the earlier ones where its bit was set before, left at the first refusal
+static inline int mark(uint64_t *seen, size_t slot) {
+  int was = seen[slot / 64] >> slot % 64 & 1;
+  seen[slot / 64] |= (uint64_t)1 << slot % 64;
+  return was;
+}
+
+// the records packed into keys once, each compared with the earlier ones where both its bits were set before, left at the first refusal
 static inline __attribute__((always_inline)) int check(const uint8_t *s, size_t length, int filter) {
   static uint64_t keys[RECORDS];
   uint64_t seen[4096] = {0};
@@ -37,10 +44,8 @@ static inline __attribute__((always_inline)) int check(const uint8_t *s, size_t 
     if (r[0] == 1 && a <= b) return 8;
     uint64_t key = r[0] | (uint64_t)r[1] << 8 | (uint64_t)a << 16 | (uint64_t)b << 32;
     keys[i] = key;
-    size_t slot = key % SLOTS;
-    int met = !filter || (seen[slot / 64] >> slot % 64 & 1);
-    seen[slot / 64] |= (uint64_t)1 << slot % 64;
-    for (size_t j = met ? 0 : i; j < i; j++)
+    int first = mark(seen, key % SLOTS), second = mark(seen, key % OTHER_SLOTS);
+    for (size_t j = !filter || (first && second) ? 0 : i; j < i; j++)
       if (keys[j] == key) return 9;
     if (pieces < largest + 1) pieces = largest + 1;
   }

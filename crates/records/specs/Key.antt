@@ -1,4 +1,4 @@
--- The six bytes from p on as one number, and the bit that stands for such a number in a filter. Assumes nothing.
+-- The six bytes from p on as one number, and the two bits that stand for such a number in a filter. Assumes nothing.
 use Prim.Native.Nat.{ℕ, _+_, _*_, _%_}
 use mathlib.Core.List.{List}
 use lib.ListN.{getD}
@@ -9,3 +9,6 @@ keyAt s p =
 
 abbrev pub slotOf : ℕ → ℕ
 slotOf key = key % 257731
+
+abbrev pub otherSlot : ℕ → ℕ
+otherSlot key = key % 246731

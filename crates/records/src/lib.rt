@@ -11,8 +11,8 @@ ghost use Rattle.records.specs.declared.Refusal.the-variants.{VoidForm, 
 ghost use Rattle.records.specs.declared.Finding.the-variants.{Fit};
 ghost use Rattle.records.specs.Pieces.{stated, largest, pieceCount};
 ghost use Rattle.records.specs.Rows.{admitted, badMark, rising};
-ghost use Rattle.records.specs.Key.{keyAt, slotOf};
-ghost use Rattle.records.specs.Met.{met, Marked, start};
+ghost use Rattle.records.specs.Key.{keyAt, slotOf, otherSlot};
+ghost use Rattle.records.specs.Met.{met, Marked, Noted, start};
 ghost use Rattle.records.specs.Check.{formFinding, recordsCheck, checkBy, bookCheck, formerCheck, claimAt, claimsCheck};
 
 // A record, or a claim: its kind, its origin, and two 16-bit numbers. The origin is 0 for a cutting sheet and 1 for the scanner; that of a claim
@@ -234,11 +234,17 @@ fn larger_of(x: usize, y: usize) -> usize
     if x < y { y } else { x }
 }
 
-// The bit of the filter that stands for a key. This prime spreads ordinary books.
+// The two bits of the filter that stand for a key. These primes spread ordinary books.
 fn slot_of(key: u64) -> usize
     ensures { λ r. ⌜ r ≡ slotOf key ⌝ }
 {
     (key % 257731) as usize
+}
+
+fn other_slot(key: u64) -> usize
+    ensures { λ r. ⌜ r ≡ otherSlot key ⌝ }
+{
+    (key % 246731) as usize
 }
 
 // Sets bit k, and says whether it was set before.
@@ -252,7 +258,20 @@ fn mark(seen: &mut [u64], k: usize) -> bool
     (x >> (k % 64)) & 1 == 1
 }
 
-// The first earlier record to compare record i with: none where its bit is new.
+// Sets both bits of a key, and says whether both were set before: if not, the key is new.
+fn note(seen: &mut [u64], key: u64) -> bool
+    requires { ⌜ length (now seen) ≡ 4096 ⌝ }
+    ensures { λ t. ⌜ Noted (now (seen .entry)) (now (seen .exit)) key t ⌝ }
+{
+    let first = mark(seen, slot_of(key));
+    let second = mark(seen, other_slot(key));
+    if first {
+        return second;
+    }
+    false
+}
+
+// The first earlier record to compare record i with: none where its key is new.
 fn first_suspect(marked: bool, i: usize) -> usize
     ensures { λ r. ⌜ r ≡ start marked i ⌝ }
 {
@@ -260,7 +279,7 @@ fn first_suspect(marked: bool, i: usize) -> usize
 }
 
 // Rows 5 to 9: the first refusal, record by record, or the piece count. A record is compared with the earlier ones only
-// where the bit of its key was set before.
+// where both bits of its key were set before.
 fn check_records(edition: Edition, book: &[u8], n: usize) -> BookCheck
     requires { ⌜ (n ≤ 8192) × (6 * n ≤ length (now book)) ⌝ }
     ensures { λ r. ⌜ r ≡ recordsCheck edition (now (book .entry)) n ⌝ }
@@ -280,7 +299,7 @@ fn check_records(edition: Edition, book: &[u8], n: usize) -> BookCheck
         }
         let key = key_at(book, i);
         keys[i] = key;
-        let mut j = first_suspect(mark(&mut seen, slot_of(key)), i);
+        let mut j = first_suspect(note(&mut seen, key), i);
         while j < i {
             if keys[j] == key {
                 break 'records BookCheck::Refused(Refusal::Repeat, i);

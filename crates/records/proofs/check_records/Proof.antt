@@ -35,7 +35,7 @@ abbrev μ-records : tie.MeasureT-records
 
 -- the place where the key of the record at hand is known
 abbrev keyed-at : tie.At-loop Inv-loop μ-loop Inv-records μ-records → tie.After-key-at Inv-loop μ-loop Inv-records μ-records
-keyed-at l = l .before .before .before .before .before .before
+keyed-at l = l .before .before .before .before .before
 
 -- the record at hand passes rows 5 to 8
 fit :
@@ -86,14 +86,11 @@ mul-keys c = fits-eight _ (below _ _ (c .before .before .before .before .before 
 array-write-keys : tie.Need-array-write-keys Inv-loop μ-loop Inv-records μ-records
 array-write-keys c = below _ _ (c .before .before .before .before .before .if1 .left) (c .before .before .before .before .before .before .before .before .pre .0)
 
-slice-aggregate-mark : tie.Need-slice-aggregate-mark Inv-loop μ-loop Inv-records μ-records
-slice-aggregate-mark c = sym (c .before .before .before .before .before .before .before .records .inv .2)
+slice-aggregate-note : tie.Need-slice-aggregate-note Inv-loop μ-loop Inv-records μ-records
+slice-aggregate-note c = sym (c .before .before .before .before .before .before .before .records .inv .2)
 
-slot-of-requires : tie.Need-slot-of-requires Inv-loop μ-loop Inv-records μ-records
-slot-of-requires c κs = tt
-
-mark-requires : tie.Need-mark-requires Inv-loop μ-loop Inv-records μ-records
-mark-requires c κs = (c .before .before .before .before .before .before .before .before .records .inv .2, omega (arith, c .slot-of .ensures))
+note-requires : tie.Need-note-requires Inv-loop μ-loop Inv-records μ-records
+note-requires c κs = c .before .before .before .before .before .before .before .records .inv .2
 
 first-suspect-requires : tie.Need-first-suspect-requires Inv-loop μ-loop Inv-records μ-records
 first-suspect-requires c κs = tt
@@ -101,18 +98,18 @@ first-suspect-requires c κs = tt
 loop-holds : tie.Need-loop-holds Inv-loop μ-loop Inv-records μ-records
 loop-holds c =
     let m = c .before .before in
-    let k = m .before .before .before in
+    let k = m .before .before in
     let o = k .before .before .before .before .before .before in
-    spared (o .before .before .args .book .now) (set (o .records .keys) (o .records .i) (k .key-at .result)) _ _ _ _ _ _ (m .before .slot-of .ensures) (m .mark .ensures .0) (c .first-suspect .ensures) (o .records .inv .5) (λ p h. keyed k p (omega arith))
+    spared (o .before .before .args .book .now) (set (o .records .keys) (o .records .i) (k .key-at .result)) _ _ _ _ _ _ (m .note .ensures) (c .first-suspect .ensures) (o .records .inv .5) (λ p h. keyed k p (omega arith))
 
 mul-if2 : tie.Need-mul-if2 Inv-loop μ-loop Inv-records μ-records
-mul-if2 c = fits-eight _ (under _ _ _ (c .loop-test .taken) (c .before .before .before .before .before .before .before .before .before .before .before .before .if1 .left) (c .before .before .before .before .before .before .before .before .before .before .before .before .before .before .before .pre .0))
+mul-if2 c = fits-eight _ (under _ _ _ (c .loop-test .taken) (c .before .before .before .before .before .before .before .before .before .before .before .if1 .left) (c .before .before .before .before .before .before .before .before .before .before .before .before .before .before .pre .0))
 
 array-read-if2 : tie.Need-array-read-if2 Inv-loop μ-loop Inv-records μ-records
-array-read-if2 c = under _ _ _ (c .loop-test .taken) (c .before .before .before .before .before .before .before .before .before .before .before .before .if1 .left) (c .before .before .before .before .before .before .before .before .before .before .before .before .before .before .before .pre .0)
+array-read-if2 c = under _ _ _ (c .loop-test .taken) (c .before .before .before .before .before .before .before .before .before .before .before .if1 .left) (c .before .before .before .before .before .before .before .before .before .before .before .before .before .before .pre .0)
 
 add-j : tie.Need-add-j Inv-loop μ-loop Inv-records μ-records
-add-j c = fits-more _ (under _ _ _ (c .before .loop-test .taken) (c .before .before .before .before .before .before .before .before .before .before .before .before .before .if1 .left) (c .before .before .before .before .before .before .before .before .before .before .before .before .before .before .before .before .pre .0))
+add-j c = fits-more _ (under _ _ _ (c .before .loop-test .taken) (c .before .before .before .before .before .before .before .before .before .before .before .before .if1 .left) (c .before .before .before .before .before .before .before .before .before .before .before .before .before .before .before .pre .0))
 
 loop-less : tie.Need-loop-less Inv-loop μ-loop Inv-records μ-records
 loop-less c = closer _ _ (c .before .loop-test .taken)
@@ -130,10 +127,10 @@ larger-of-requires : tie.Need-larger-of-requires Inv-loop μ-loop Inv-records μ
 larger-of-requires c κs = tt
 
 add-i : tie.Need-add-i Inv-loop μ-loop Inv-records μ-records
-add-i c = fits-more _ (below _ _ (c .before .before .before .before .before .before .before .before .before .before .before .before .before .before .if1 .left) (c .before .before .before .before .before .before .before .before .before .before .before .before .before .before .before .before .before .pre .0))
+add-i c = fits-more _ (below _ _ (c .before .before .before .before .before .before .before .before .before .before .before .before .before .if1 .left) (c .before .before .before .before .before .before .before .before .before .before .before .before .before .before .before .before .pre .0))
 
 records-less : tie.Need-records-less Inv-loop μ-loop Inv-records μ-records
-records-less c = closer _ _ (c .before .before .before .before .before .before .before .before .before .before .before .before .before .before .if1 .left)
+records-less c = closer _ _ (c .before .before .before .before .before .before .before .before .before .before .before .before .before .if1 .left)
 
 records-again : tie.Need-records-again Inv-loop μ-loop Inv-records μ-records
 records-again c =
@@ -142,10 +139,10 @@ records-again c =
     let o = k .before .before .before .before .before .before in (
       search needs,
       simp length-set (omega arith),
-      l .before .before .before .mark .kept .0 ∙ o .records .inv .2,
+      l .before .before .before .note .kept .0 ∙ o .records .inv .2,
       c .larger-of .ensures ∙ ap₂ (λ (x y : ℕ). max x (y + 1)) (o .records .inv .3) (named (c .before)) ∙ sym (pieces-more _ _),
       keyed k,
-      met-more (o .before .before .args .book .now) _ _ _ _ _ (k .key-at .ensures) (l .before .before .before .before .slot-of .ensures) (l .before .before .before .mark .ensures .1) (o .records .inv .5),
+      met-more (o .before .before .args .book .now) _ _ _ _ _ (k .key-at .ensures) (l .before .before .before .note .ensures) (o .records .inv .5),
       goes-on _ _ _ _ (o .records .inv .6) (omega arith)
           (form-new _ _ _ (fit k) (new _ _ (λ j h e. l .loop .inv .1 j (omega arith) (keyed k j (omega arith) ∙ e ∙ sym (k .key-at .ensures))))),
     )
@@ -185,9 +182,8 @@ check-records-spec =
     key-at-requires
     mul-keys
     array-write-keys
-    slice-aggregate-mark
-    slot-of-requires
-    mark-requires
+    slice-aggregate-note
+    note-requires
     first-suspect-requires
     loop-holds
     mul-if2
