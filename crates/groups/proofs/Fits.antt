@@ -22,12 +22,6 @@ fewer x y h = omega arith
 pub low : 0 ≤ 2048
 low = omega arith
 
-pub next-low : (x n : ℕ) → x < n → n ≤ 2048 → x + 1 ≤ 2048
-next-low x n h l = omega arith
-
-pub nearer : (p r : ℕ) → p < 2048 → p + 1 ≤ r → 2048 - r < 2048 - p
-nearer p r l h = omega arith
-
 pub fits-more : (x : ℕ) → x < 2048 → Fits w64 (x + 1)
 fits-more x h = omega arith
 
@@ -43,14 +37,8 @@ fit n k m h e f = omega arith
 pub in-room : (x k : ℕ) → x < 2048 → k ≡ 2048 → x < k
 in-room x k h e = omega arith
 
-pub inside : (x n k : ℕ) → x < n → n ≤ k → x < k
-inside x n k h l = omega arith
-
 pub short : (x : ℕ) → x < 2048 → x < 65536
 short x h = omega arith
 
 pub part : (t m n : ℕ) → t + m ≡ n → m ≤ n
 part t m n e = omega arith
-
-pub closer : (g n : ℕ) → g < n → n - (g + 1) < n - g
-closer g n h = omega arith

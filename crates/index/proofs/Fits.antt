@@ -23,20 +23,8 @@ count-small x h = omega arith
 pub small-count : (x : ℕ) → x ≤ 2048 → x ≤ 65536
 small-count x h = omega arith
 
-pub below : (x y z : ℕ) → x < y → y ≤ z → x < z
-below x y z h l = omega arith
-
-pub upto : (x y z : ℕ) → x ≤ y → y ≤ z → x ≤ z
-upto x y z h l = omega arith
-
 pub one-low : 1 ≤ 2048
 one-low = omega arith
-
-pub next-low : (x y : ℕ) → x < y → y ≤ 2048 → x + 1 ≤ 2048
-next-low x y h l = omega arith
-
-pub nearer : (p r : ℕ) → p < 2048 → p + 1 ≤ r → 2048 - r < 2048 - p
-nearer p r l h = omega arith
 
 pub room : (t u n k : ℕ) → t + u ≡ n → n ≤ k → t + u ≤ k
 room t u n k e l = omega arith

@@ -18,7 +18,7 @@ use Rattle.index.specs.Index.{parenthesesOf, visitsOf}
 use Rattle.index.specs.Matrix.{pairOf}
 use Rattle.index.specs.Steps.{Walkable, Walked, Zero}
 use Rattle.index.proofs.Reached.{parent-edge}
-use Rattle.index.proofs.Fits.{upto}
+use Rattle.lists.proofs.Bounds.{upto}
 use Rattle.index.proofs.Nodes.{once}
 use Rattle.index.proofs.Sizes.{node-or-shadow}
 use Rattle.index.proofs.Ranges.{parens-length}

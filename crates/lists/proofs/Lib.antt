@@ -9,3 +9,4 @@ pub mod Numbers
 pub mod Tallies
 pub mod Sums
 pub mod Passed
+pub mod Bounds

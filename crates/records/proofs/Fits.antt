@@ -16,9 +16,6 @@ below i n h l = omega arith
 pub under : (j i n : ℕ) → j < i → i < n → n ≤ 8192 → j < 8192
 under j i n g h l = omega arith
 
-pub closer : (i n : ℕ) → i < n → n - (i + 1) < n - i
-closer i n h = omega arith
-
 pub fits-eight : (i : ℕ) → i < 8192 → Fits w64 (i * 8)
 fits-eight i h = omega arith
 

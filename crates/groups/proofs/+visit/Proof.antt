@@ -9,7 +9,8 @@ use Rattle.relation.specs.Matrix.{bitOf}
 use Rattle.lists.proofs.Searches.{sought-next}
 use Rattle.lists.specs.Tally.{tally}
 use Rattle.groups.specs.Search.{State, stateOf, GoodOf, Leading}
-use Rattle.groups.proofs.Fits.{below, under, less, fewer, low, next-low, nearer, fits-more, fits-twice, set-room}
+use Rattle.lists.proofs.Bounds.{nearer, next-in}
+use Rattle.groups.proofs.Fits.{below, under, less, fewer, low, fits-more, fits-twice, set-room}
 use Rattle.groups.proofs.Paths.{with}
 use Rattle.groups.proofs.Steps.{ws, wj, we, WalkOf, Entered, pushed-from, begin, leads-on, skip-more, call-more, cut-on, stay, shut, tops-fit, len-below, met-small, ended-small}
 use borrow.Fn.Kinds.{In}
@@ -156,14 +157,14 @@ add-next-bit : (t : ℕ) → visit-lts.Need-add-next-bit (calls t) (visit-at t) 
 add-next-bit t c = let o = c .before .before .before .before .before .before .before .before .before in let s = start t (o .before) in let l = c .before .before .before .before .before .before .before .before .loop-test .taken in fits-more _ (below _ _ l (few t s))
 
 next-bit-requires-2 : (t : ℕ) → visit-lts.Need-next-bit-requires-2 (calls t) (visit-at t) visit.Post Inv μ
-next-bit-requires-2 t c κs = let o = c .before .before .before .before .before .before .before .before .before in let s = start t (o .before) in let l = c .before .before .before .before .before .before .before .before .loop-test .taken in (s .pre .1 .matrix, below _ _ (s .pre .1 .piece) (few t s), next-low _ _ l (few t s))
+next-bit-requires-2 t c κs = let o = c .before .before .before .before .before .before .before .before .before in let s = start t (o .before) in let l = c .before .before .before .before .before .before .before .before .loop-test .taken in (s .pre .1 .matrix, below _ _ (s .pre .1 .piece) (few t s), next-in _ _ _ l (few t s))
 
 loop-less : (t : ℕ) → visit-lts.Need-loop-less (calls t) (visit-at t) visit.Post Inv μ
-loop-less t c = let o = c .before .before .before .before .before .before .before .before .before .before in let s = start t (o .before) in let l = c .before .before .before .before .before .before .before .before .before .loop-test .taken in nearer _ _ (below _ _ l (few t s)) (sought-next (bitOf (s .args .e .now) (s .args .v)) (o .loop .w + 1) 2048 (c .next-bit2 .result) (next-low _ _ l (few t s)) (c .next-bit2 .ensures) .from)
+loop-less t c = let o = c .before .before .before .before .before .before .before .before .before .before in let s = start t (o .before) in let l = c .before .before .before .before .before .before .before .before .before .loop-test .taken in nearer _ _ _ (below _ _ l (few t s)) (sought-next (bitOf (s .args .e .now) (s .args .v)) (o .loop .w + 1) 2048 (c .next-bit2 .result) (next-in _ _ _ l (few t s)) (c .next-bit2 .ensures) .from)
 
 loop-again : (t : ℕ) → visit-lts.Need-loop-again (calls t) (visit-at t) visit.Post Inv μ
 loop-again t c = let o = c .before .before .before .before .before .before .before .before .before .before in let s = start t (o .before) in let l = c .before .before .before .before .before .before .before .before .before .loop-test .taken in
-    let T = sought-next (bitOf (s .args .e .now) (s .args .v)) (o .loop .w + 1) 2048 (c .next-bit2 .result) (next-low _ _ l (few t s)) (c .next-bit2 .ensures) in
+    let T = sought-next (bitOf (s .args .e .now) (s .args .v)) (o .loop .w + 1) 2048 (c .next-bit2 .result) (next-in _ _ _ l (few t s)) (c .next-bit2 .ensures) in
     let v = c .before .visit .ensures .0 in (
       (v .pos-is, v .done-is, v .path-is, v .bounds-is),
       (T .upto, T .hit),
@@ -199,14 +200,14 @@ add-next-bit-2 : (t : ℕ) → visit-lts.Need-add-next-bit-2 (calls t) (visit-at
 add-next-bit-2 t c = let o = c .before .before .before .before .before .before .before .before .before .before .before in let s = start t (o .before) in let l = c .before .before .before .before .before .before .before .before .before .before .loop-test .taken in fits-more _ (below _ _ l (few t s))
 
 next-bit-requires-3 : (t : ℕ) → visit-lts.Need-next-bit-requires-3 (calls t) (visit-at t) visit.Post Inv μ
-next-bit-requires-3 t c κs = let o = c .before .before .before .before .before .before .before .before .before .before .before in let s = start t (o .before) in let l = c .before .before .before .before .before .before .before .before .before .before .loop-test .taken in (s .pre .1 .matrix, below _ _ (s .pre .1 .piece) (few t s), next-low _ _ l (few t s))
+next-bit-requires-3 t c κs = let o = c .before .before .before .before .before .before .before .before .before .before .before in let s = start t (o .before) in let l = c .before .before .before .before .before .before .before .before .before .before .loop-test .taken in (s .pre .1 .matrix, below _ _ (s .pre .1 .piece) (few t s), next-in _ _ _ l (few t s))
 
 loop-less-2 : (t : ℕ) → visit-lts.Need-loop-less-2 (calls t) (visit-at t) visit.Post Inv μ
-loop-less-2 t c = let o = c .before .before .before .before .before .before .before .before .before .before .before .before in let s = start t (o .before) in let l = c .before .before .before .before .before .before .before .before .before .before .before .loop-test .taken in nearer _ _ (below _ _ l (few t s)) (sought-next (bitOf (s .args .e .now) (s .args .v)) (o .loop .w + 1) 2048 (c .next-bit3 .result) (next-low _ _ l (few t s)) (c .next-bit3 .ensures) .from)
+loop-less-2 t c = let o = c .before .before .before .before .before .before .before .before .before .before .before .before in let s = start t (o .before) in let l = c .before .before .before .before .before .before .before .before .before .before .before .loop-test .taken in nearer _ _ _ (below _ _ l (few t s)) (sought-next (bitOf (s .args .e .now) (s .args .v)) (o .loop .w + 1) 2048 (c .next-bit3 .result) (next-in _ _ _ l (few t s)) (c .next-bit3 .ensures) .from)
 
 loop-again-2 : (t : ℕ) → visit-lts.Need-loop-again-2 (calls t) (visit-at t) visit.Post Inv μ
 loop-again-2 t c = let o = c .before .before .before .before .before .before .before .before .before .before .before .before in let s = start t (o .before) in let l = c .before .before .before .before .before .before .before .before .before .before .before .loop-test .taken in
-    let T = sought-next (bitOf (s .args .e .now) (s .args .v)) (o .loop .w + 1) 2048 (c .next-bit3 .result) (next-low _ _ l (few t s)) (c .next-bit3 .ensures) in (
+    let T = sought-next (bitOf (s .args .e .now) (s .args .v)) (o .loop .w + 1) 2048 (c .next-bit3 .result) (next-in _ _ _ l (few t s)) (c .next-bit3 .ensures) in (
       o .loop .inv .0,
       (T .upto, T .hit),
       λ small S₀′ gray E. let W = o .loop .inv .2 small S₀′ gray E in
@@ -221,14 +222,14 @@ add-next-bit-3 : (t : ℕ) → visit-lts.Need-add-next-bit-3 (calls t) (visit-at
 add-next-bit-3 t c = let o = c .before .before .before .before .before .before .before in let s = start t (o .before) in let l = c .before .before .before .before .before .before .loop-test .taken in fits-more _ (below _ _ l (few t s))
 
 next-bit-requires-4 : (t : ℕ) → visit-lts.Need-next-bit-requires-4 (calls t) (visit-at t) visit.Post Inv μ
-next-bit-requires-4 t c κs = let o = c .before .before .before .before .before .before .before in let s = start t (o .before) in let l = c .before .before .before .before .before .before .loop-test .taken in (s .pre .1 .matrix, below _ _ (s .pre .1 .piece) (few t s), next-low _ _ l (few t s))
+next-bit-requires-4 t c κs = let o = c .before .before .before .before .before .before .before in let s = start t (o .before) in let l = c .before .before .before .before .before .before .loop-test .taken in (s .pre .1 .matrix, below _ _ (s .pre .1 .piece) (few t s), next-in _ _ _ l (few t s))
 
 loop-less-3 : (t : ℕ) → visit-lts.Need-loop-less-3 (calls t) (visit-at t) visit.Post Inv μ
-loop-less-3 t c = let o = c .before .before .before .before .before .before .before .before in let s = start t (o .before) in let l = c .before .before .before .before .before .before .before .loop-test .taken in nearer _ _ (below _ _ l (few t s)) (sought-next (bitOf (s .args .e .now) (s .args .v)) (o .loop .w + 1) 2048 (c .next-bit4 .result) (next-low _ _ l (few t s)) (c .next-bit4 .ensures) .from)
+loop-less-3 t c = let o = c .before .before .before .before .before .before .before .before in let s = start t (o .before) in let l = c .before .before .before .before .before .before .before .loop-test .taken in nearer _ _ _ (below _ _ l (few t s)) (sought-next (bitOf (s .args .e .now) (s .args .v)) (o .loop .w + 1) 2048 (c .next-bit4 .result) (next-in _ _ _ l (few t s)) (c .next-bit4 .ensures) .from)
 
 loop-again-3 : (t : ℕ) → visit-lts.Need-loop-again-3 (calls t) (visit-at t) visit.Post Inv μ
 loop-again-3 t c = let o = c .before .before .before .before .before .before .before .before in let s = start t (o .before) in let l = c .before .before .before .before .before .before .before .loop-test .taken in
-    let T = sought-next (bitOf (s .args .e .now) (s .args .v)) (o .loop .w + 1) 2048 (c .next-bit4 .result) (next-low _ _ l (few t s)) (c .next-bit4 .ensures) in (
+    let T = sought-next (bitOf (s .args .e .now) (s .args .v)) (o .loop .w + 1) 2048 (c .next-bit4 .result) (next-in _ _ _ l (few t s)) (c .next-bit4 .ensures) in (
       o .loop .inv .0,
       (T .upto, T .hit),
       λ small S₀′ gray E. let W = o .loop .inv .2 small S₀′ gray E in

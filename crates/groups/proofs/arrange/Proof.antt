@@ -4,7 +4,8 @@ use Prim.Native.Nat.{_+_, _-_, _<_, _≤_}
 use native.Mathlib.Omega.{arith}
 use lib.ListN.{length, getD, length-set}
 use Rattle.groups.proofs.Arranging.{Arranging, arrange-none, arrange-leader, arrange-follower, arrange-all, leader-place}
-use Rattle.groups.proofs.Fits.{below, under, in-room, inside, short, part, closer, fits-more, fits-twice}
+use Rattle.lists.proofs.Bounds.{closer, inside}
+use Rattle.groups.proofs.Fits.{below, under, in-room, short, part, fits-more, fits-twice}
 use Rattle.groups.proofs.arrange.Statement.{statement}
 use Rattle.groups.proofs.arrange.Tie as tie
 

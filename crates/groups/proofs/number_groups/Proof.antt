@@ -4,7 +4,8 @@ use Prim.Native.Nat.{ℕ, _-_, _<_, _≤_}
 use native.Mathlib.Omega.{arith}
 use lib.ListN.{length, getD, length-set}
 use Rattle.groups.proofs.Ranking.{Ranking, rank-none, rank-new, rank-old, rank-all, old-head}
-use Rattle.groups.proofs.Fits.{below, under, in-room, short, closer, fits-more, fits-twice}
+use Rattle.lists.proofs.Bounds.{closer}
+use Rattle.groups.proofs.Fits.{below, under, in-room, short, fits-more, fits-twice}
 use Rattle.groups.proofs.number_groups.Statement.{statement}
 use Rattle.groups.proofs.number_groups.Tie as tie
 

@@ -5,7 +5,8 @@ use Prim.Native.Nat.{_-_}
 use native.Mathlib.Omega.{arith}
 use lib.ListN.{length, getD-replicate}
 use Rattle.index.specs.Matrix.{pairOf}
-use Rattle.index.proofs.Fits.{below, room}
+use Rattle.lists.proofs.Bounds.{inside}
+use Rattle.index.proofs.Fits.{room}
 use Rattle.index.proofs.Rounds.{Round, round-start, round-next, round-end, head-small, unmet-all}
 use Rattle.index.proofs.find_parents.Statement.{statement}
 use Rattle.index.proofs.find_parents.Tie as tie
@@ -19,7 +20,7 @@ abbrev μ-loop : tie.MeasureT-loop
 loop-holds : tie.Need-loop-holds Inv-loop μ-loop
 loop-holds c =
     let s = c .before in
-    (refl, refl, round-start _ _ (s .pre .book) _ _ (s .pre .small) (s .pre .small) refl (unmet-all _ _ (λ q h. getD-replicate 2048 q 2048 0 (below _ _ _ h (s .pre .small)))))
+    (refl, refl, round-start _ _ (s .pre .book) _ _ (s .pre .small) (s .pre .small) refl (unmet-all _ _ (λ q h. getD-replicate 2048 q 2048 0 (inside _ _ _ h (s .pre .small)))))
 
 mul-wide : tie.Need-mul-wide Inv-loop μ-loop
 mul-wide c = omega arith

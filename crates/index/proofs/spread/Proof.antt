@@ -5,7 +5,8 @@ use mathlib.Core.Bool.{true}
 use Prim.Native.Nat.{_+_, _-_, _≤_, _<_}
 use native.Mathlib.Omega.{arith}
 use Rattle.index.specs.Matrix.{pairOf}
-use Rattle.index.proofs.Fits.{below, part-small, low-small, small-count, fits-one, fits-twice, one-low, next-low, nearer}
+use Rattle.lists.proofs.Bounds.{inside, nearer, next-in}
+use Rattle.index.proofs.Fits.{part-small, low-small, small-count, fits-one, fits-twice, one-low}
 use Rattle.index.proofs.Nexts.{next-part}
 use Rattle.index.proofs.Events.{none-low}
 use Rattle.index.proofs.Queue.{Spreading, spread-start, spread-next, spread-take, spread-room, spread-met, spread-done}
@@ -19,7 +20,7 @@ abbrev μ-loop : tie.MeasureT-loop
 μ-loop n c edges parent₀ order₀ tail end₀ p₀ parent order end p = 2048 - p
 
 next-bit-requires : tie.Need-next-bit-requires Inv-loop μ-loop
-next-bit-requires c κs = let s = c .before in (s .pre .0 .matrix, below _ _ _ (s .pre .1) (s .pre .0 .small), one-low)
+next-bit-requires c κs = let s = c .before in (s .pre .0 .matrix, inside _ _ _ (s .pre .1) (s .pre .0 .small), one-low)
 
 loop-holds : tie.Need-loop-holds Inv-loop μ-loop
 loop-holds c =
@@ -32,7 +33,7 @@ mul-if1 : tie.Need-mul-if1 Inv-loop μ-loop
 mul-if1 c = fits-twice _ (part-small _ _ (c .loop-test .taken) (c .before .before .before .before .pre .0 .small))
 
 element-copy-out-if1 : tie.Need-element-copy-out-if1 Inv-loop μ-loop
-element-copy-out-if1 c = below _ _ _ (c .loop-test .taken) (c .before .before .before .before .pre .0 .small)
+element-copy-out-if1 c = inside _ _ _ (c .loop-test .taken) (c .before .before .before .before .pre .0 .small)
 
 narrow-requires : tie.Need-narrow-requires Inv-loop μ-loop
 narrow-requires c κs = omega arith
@@ -41,10 +42,10 @@ mul-parent : tie.Need-mul-parent Inv-loop μ-loop
 mul-parent c = fits-twice _ (part-small _ _ (c .before .before .before .loop-test .taken) (c .before .before .before .before .before .before .before .pre .0 .small))
 
 element-write-parent : tie.Need-element-write-parent Inv-loop μ-loop
-element-write-parent c = below _ _ _ (c .before .before .before .loop-test .taken) (c .before .before .before .before .before .before .before .pre .0 .small)
+element-write-parent c = inside _ _ _ (c .before .before .before .loop-test .taken) (c .before .before .before .before .before .before .before .pre .0 .small)
 
 narrow-requires-2 : tie.Need-narrow-requires-2 Inv-loop μ-loop
-narrow-requires-2 c κs = below _ _ 65536 (c .before .before .before .loop-test .taken) (small-count _ (c .before .before .before .before .before .before .before .pre .0 .small))
+narrow-requires-2 c κs = inside _ _ 65536 (c .before .before .before .loop-test .taken) (small-count _ (c .before .before .before .before .before .before .before .pre .0 .small))
 
 mul-order : tie.Need-mul-order Inv-loop μ-loop
 mul-order c =
@@ -68,20 +69,20 @@ add-next-bit : tie.Need-add-next-bit Inv-loop μ-loop
 add-next-bit c = fits-one _ (part-small _ _ (c .before .before .before .before .loop-test .taken) (c .before .before .before .before .before .before .before .before .pre .0 .small))
 
 next-bit-requires-2 : tie.Need-next-bit-requires-2 Inv-loop μ-loop
-next-bit-requires-2 c κs = let s = c .before .before .before .before .before .before .before .before in (s .pre .0 .matrix, below _ _ _ (s .pre .1) (s .pre .0 .small), next-low _ _ (c .before .before .before .before .loop-test .taken) (s .pre .0 .small))
+next-bit-requires-2 c κs = let s = c .before .before .before .before .before .before .before .before in (s .pre .0 .matrix, inside _ _ _ (s .pre .1) (s .pre .0 .small), next-in _ _ _ (c .before .before .before .before .loop-test .taken) (s .pre .0 .small))
 
 loop-less : tie.Need-loop-less Inv-loop μ-loop
 loop-less c =
     let L = c .before .before .before .before .before .before .loop in
     let s = c .before .before .before .before .before .before .before .before .before in
-    let N = next-part _ _ _ (L .p + 1) _ (s .pre .0 .small) (next-low _ _ (c .before .before .before .before .before .loop-test .taken) (s .pre .0 .small)) (c .next-bit2 .ensures) in
-    nearer _ _ (below _ _ _ (c .before .before .before .before .before .loop-test .taken) (s .pre .0 .small)) (N .from)
+    let N = next-part _ _ _ (L .p + 1) _ (s .pre .0 .small) (next-in _ _ _ (c .before .before .before .before .before .loop-test .taken) (s .pre .0 .small)) (c .next-bit2 .ensures) in
+    nearer _ _ _ (inside _ _ _ (c .before .before .before .before .before .loop-test .taken) (s .pre .0 .small)) (N .from)
 
 loop-again : tie.Need-loop-again Inv-loop μ-loop
 loop-again c =
     let L = c .before .before .before .before .before .before .loop in
     let s = c .before .before .before .before .before .before .before .before .before in
-    let N = next-part _ _ _ (L .p + 1) _ (s .pre .0 .small) (next-low _ _ (c .before .before .before .before .before .loop-test .taken) (s .pre .0 .small)) (c .next-bit2 .ensures) in
+    let N = next-part _ _ _ (L .p + 1) _ (s .pre .0 .small) (next-in _ _ _ (c .before .before .before .before .before .loop-test .taken) (s .pre .0 .small)) (c .next-bit2 .ensures) in
     let S = spread-take _ _ _ _ _ _ (L .parent) (L .order) (L .end) (L .p) (L .inv .1) (c .before .before .before .before .before .loop-test .taken) (c .before .before .before .if1 .taken) (L .inv .2 (c .before .before .before .before .before .loop-test .taken)) (s .pre .2) (s .pre .0 .parRoom) in
     (N .upto, rw (c .before .before .narrow .ensures, c .before .narrow2 .ensures) (spread-next _ _ _ _ _ _ (L .p + 1) _ _ _ _ (S .1) N), N .hit)
 
@@ -89,24 +90,24 @@ add-next-bit-2 : tie.Need-add-next-bit-2 Inv-loop μ-loop
 add-next-bit-2 c = fits-one _ (part-small _ _ (c .before .before .loop-test .taken) (c .before .before .before .before .before .before .pre .0 .small))
 
 next-bit-requires-3 : tie.Need-next-bit-requires-3 Inv-loop μ-loop
-next-bit-requires-3 c κs = let s = c .before .before .before .before .before .before in (s .pre .0 .matrix, below _ _ _ (s .pre .1) (s .pre .0 .small), next-low _ _ (c .before .before .loop-test .taken) (s .pre .0 .small))
+next-bit-requires-3 c κs = let s = c .before .before .before .before .before .before in (s .pre .0 .matrix, inside _ _ _ (s .pre .1) (s .pre .0 .small), next-in _ _ _ (c .before .before .loop-test .taken) (s .pre .0 .small))
 
 loop-less-2 : tie.Need-loop-less-2 Inv-loop μ-loop
 loop-less-2 c =
     let L = c .before .before .before .before .loop in
     let s = c .before .before .before .before .before .before .before in
-    let N = next-part _ _ _ (L .p + 1) _ (s .pre .0 .small) (next-low _ _ (c .before .before .before .loop-test .taken) (s .pre .0 .small)) (c .next-bit3 .ensures) in
-    nearer _ _ (below _ _ _ (c .before .before .before .loop-test .taken) (s .pre .0 .small)) (N .from)
+    let N = next-part _ _ _ (L .p + 1) _ (s .pre .0 .small) (next-in _ _ _ (c .before .before .before .loop-test .taken) (s .pre .0 .small)) (c .next-bit3 .ensures) in
+    nearer _ _ _ (inside _ _ _ (c .before .before .before .loop-test .taken) (s .pre .0 .small)) (N .from)
 
 loop-again-2 : tie.Need-loop-again-2 Inv-loop μ-loop
 loop-again-2 c =
     let L = c .before .before .before .before .loop in
     let s = c .before .before .before .before .before .before .before in
-    let N = next-part _ _ _ (L .p + 1) _ (s .pre .0 .small) (next-low _ _ (c .before .before .before .loop-test .taken) (s .pre .0 .small)) (c .next-bit3 .ensures) in
+    let N = next-part _ _ _ (L .p + 1) _ (s .pre .0 .small) (next-in _ _ _ (c .before .before .before .loop-test .taken) (s .pre .0 .small)) (c .next-bit3 .ensures) in
     (N .upto, spread-next _ _ _ _ _ _ (L .p + 1) _ _ _ _ (spread-met _ _ _ _ _ _ (L .p) (L .parent) (L .order) (L .end) (L .inv .1) (c .before .if1 .left)) N, N .hit)
 
 returns : tie.Need-returns Inv-loop μ-loop
-returns c = let L = c .before .loop in spread-done _ _ _ _ _ _ (L .parent) (L .order) (L .end) (L .p) (L .inv .1) (c .loop-test .left) (below _ _ _ (c .before .before .before .before .pre .1) (c .before .before .before .before .pre .0 .small))
+returns c = let L = c .before .loop in spread-done _ _ _ _ _ _ (L .parent) (L .order) (L .end) (L .p) (L .inv .1) (c .loop-test .left) (inside _ _ _ (c .before .before .before .before .pre .1) (c .before .before .before .before .pre .0 .small))
 
 pub spread-spec : {M : Type 1} → statement M
 spread-spec =

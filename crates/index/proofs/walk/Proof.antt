@@ -5,7 +5,8 @@ use native.Mathlib.Omega.{arith}
 use lib.ListN.{length}
 use Rattle.index.specs.Matrix.{pairOf}
 use Rattle.index.specs.Steps.{Walkable}
-use Rattle.index.proofs.Fits.{below, upto, part-small, count-small, small-count, fits-one, fits-twice}
+use Rattle.lists.proofs.Bounds.{inside, upto}
+use Rattle.index.proofs.Fits.{part-small, count-small, small-count, fits-one, fits-twice}
 use Rattle.index.proofs.Walking.{left, Walking, given, resized, stepping, start-room, walk-start, walk-room, walk-less, place-room, walk-node, mark-room, shadow-less, walk-shadow, leave-room, leave-less, walk-leave, walk-end}
 use Rattle.index.proofs.walk.Statement.{statement}
 use Rattle.index.proofs.walk.Tie as tie
@@ -30,7 +31,7 @@ loop-holds c =
     (W, walk-start (given W) (sym d) refl refl refl (s .1) (s .2) (s .3) (s .4) (record { same = d; bit = c .before .before .put .ensures }))
 
 next-bit-requires : tie.Need-next-bit-requires Inv-loop μ-loop
-next-bit-requires c κs = let L = c .loop in (L .inv .0 .matrix, below _ _ _ (L .inv .1 .inner) (L .inv .0 .small), upto _ _ _ (L .inv .1 .upto) (L .inv .0 .small))
+next-bit-requires c κs = let L = c .loop in (L .inv .0 .matrix, inside _ _ _ (L .inv .1 .inner) (L .inv .0 .small), upto _ _ _ (L .inv .1 .upto) (L .inv .0 .small))
 
 put-requires-2 : tie.Need-put-requires-2 Inv-loop μ-loop
 put-requires-2 c κs =
@@ -43,7 +44,7 @@ mul-wide : tie.Need-mul-wide Inv-loop μ-loop
 mul-wide c = fits-twice _ (part-small _ _ (c .before .before .before .before .if1 .taken) (c .before .before .before .before .before .before .loop .inv .0 .small))
 
 element-copy-out-wide : tie.Need-element-copy-out-wide Inv-loop μ-loop
-element-copy-out-wide c = below _ _ _ (c .before .before .before .before .if1 .taken) (c .before .before .before .before .before .before .loop .inv .0 .small)
+element-copy-out-wide c = inside _ _ _ (c .before .before .before .before .if1 .taken) (c .before .before .before .before .before .before .loop .inv .0 .small)
 
 wide-requires : tie.Need-wide-requires Inv-loop μ-loop
 wide-requires c κs = tt
@@ -101,7 +102,7 @@ put-requires-3 c κs =
     mark-room R (L .inv .1) N (c .before .before .before .before .before .before .before .before .before .if1 .taken) (λ x. c .before .if2 .left (c .before .before .before .wide .ensures ∙ x)) .0
 
 narrow-requires-2 : tie.Need-narrow-requires-2 Inv-loop μ-loop
-narrow-requires-2 c κs = below _ _ 65536 (c .before .before .before .before .before .before .before .before .before .before .before .before .if1 .taken) (small-count _ (c .before .before .before .before .before .before .before .before .before .before .before .before .before .before .loop .inv .0 .small))
+narrow-requires-2 c κs = inside _ _ 65536 (c .before .before .before .before .before .before .before .before .before .before .before .before .if1 .taken) (small-count _ (c .before .before .before .before .before .before .before .before .before .before .before .before .before .before .loop .inv .0 .small))
 
 mul-shadows : tie.Need-mul-shadows Inv-loop μ-loop
 mul-shadows c =
@@ -188,7 +189,7 @@ mul-wide-2 : tie.Need-mul-wide-2 Inv-loop μ-loop
 mul-wide-2 c = fits-twice _ (part-small _ _ (c .before .before .before .before .loop .inv .1 .inner) (c .before .before .before .before .loop .inv .0 .small))
 
 element-copy-out-wide-2 : tie.Need-element-copy-out-wide-2 Inv-loop μ-loop
-element-copy-out-wide-2 c = below _ _ _ (c .before .before .before .before .loop .inv .1 .inner) (c .before .before .before .before .loop .inv .0 .small)
+element-copy-out-wide-2 c = inside _ _ _ (c .before .before .before .before .loop .inv .1 .inner) (c .before .before .before .before .loop .inv .0 .small)
 
 wide-requires-2 : tie.Need-wide-requires-2 Inv-loop μ-loop
 wide-requires-2 c κs = tt

@@ -10,7 +10,8 @@ use borrow.Author.Needs.{needs}
 use borrow.Author.Count.{below-more, below-none}
 use native.Mathlib.Omega.{arith}
 use lib.ListN.{length, getD, set, length-set, length-replicate}
-use Rattle.records.proofs.Fits.{low, six-in, below, under, closer, fits-eight, fits-more}
+use Rattle.lists.proofs.Bounds.{closer}
+use Rattle.records.proofs.Fits.{low, six-in, below, under, fits-eight, fits-more}
 use Rattle.records.specs.Record.{recordAt}
 use Rattle.records.specs.Key.{keyAt}
 use Rattle.records.proofs.Books.{Left, at-first, accepts, refuses, goes-on, form-unfit, form-repeats, form-new, pieces-none, pieces-more}
