@@ -25,11 +25,13 @@ use Rattle.records.specs.declared.ClaimsCheck.the-variants as claims
 use Rattle.records.proofs.Accepted.{accepted-claims, says-left, says-right}
 use Rattle.records.specs.Kept.{sheets, picked}
 use Rattle.records.proofs.Keeps.{picked-all, picked-sheets}
-use Rattle.closure.specs.Bounded.{Bounded}
-use Rattle.closure.specs.Closed.{Closed}
-use Rattle.closure.specs.Tells.{Answered}
+use Rattle.storing.specs.Bounded.{Bounded}
+use Rattle.storing.specs.Closed.{Holds, Closed, wholeBit, awayBit, outBit}
+use Rattle.storing.specs.Void.{voidOf}
+use Rattle.verdicts.specs.Tells.{Answered}
 use Rattle.answering.specs.Claimed.{claimed, pickedFacts, answersTo}
-use Rattle.answering.specs.Answered.{AnsweredFrom, Answers, restricted}
+use Rattle.answering.specs.Answered.{AnsweredFrom, Answers, Answerable, restricted}
+use Rattle.answering.proofs.Counts.{counted-settleable}
 
 -- a claim that passes rows 12 and 13 is of a kind 1 to 4 about two of the pieces
 pub record Asked (cs : List ℕ) (n i : ℕ) : Type 0 where
@@ -149,17 +151,26 @@ module _ (s : List ℕ) (n : ℕ) (cs : List ℕ) where
   pub answers-none : (answers : List ℕ) → records cs ≡ 0 → length answers ≡ records cs → answers ≡ answersTo s n cs
   answers-none answers e z = each-answered answers z (λ j h. absurd (omega arith))
 
+-- matrices that close the book's facts, and the answers to the claims on all facts that they tell
+module _ {s : List ℕ} {n : ℕ} {voids cs e order lead d t before : List ℕ} (S : Answerable s n voids cs e order lead d t (length before)) {u p q between : List ℕ}
+    (wholes : Holds u (wholeBit n (facts s))) (away : Holds p (awayBit n (facts s))) (outside : Holds q (outBit (voidOf voids) n (facts s)))
+    (A : Answers (voidOf voids) 0 cs d u p t q before between) (kept : length between ≡ length before) where
+  first : AnsweredFrom (marked s) 0 n (facts s) cs before between
+  first =
+      rw (S .void .1) at
+      (A .are n (facts s) (counted-settleable s (S .sound) .bounded) (record { whole = S .void .0 .whole; free = S .free; parts = S .parts; wholes = wholes; away = away; toward = S .toward; outside = outside }) (S .fit))
+
   -- no claim is restricted
-  pub answers-all : (before answers : List ℕ) → restricted cs ≡ false → length answers ≡ records cs → AnsweredFrom (marked s) 0 n (facts s) cs before answers → answers ≡ answersTo s n cs
-  answers-all before answers e z A =
-      each-answered answers z (λ j h. let o = none-restricted cs e j h in A .are j h o ∙ from-all j o)
+  pub answers-all : restricted cs ≡ false → between ≡ answersTo s n cs
+  answers-all e = each-answered s n cs between (kept ∙ S .rooms) (λ j h. let o = none-restricted cs e j h in first .are j h o ∙ from-all s n cs j o)
 
   -- first the claims on all facts, then the restricted ones
-  pub answers-both :
-      (before between answers : List ℕ) → claimsCheck n cs ≡ claims.Accepted → length answers ≡ records cs
-      → AnsweredFrom (marked s) 0 n (facts s) cs before between → AnsweredFrom (marked s) 1 n (facts (sheets s)) cs between answers → answers ≡ answersTo s n cs
-  answers-both before between answers f z A R = each-answered answers z (λ j h. pick j h (ℕ-discrete (recordAt cs j .origin) 0))
+  pub answers-both : {answers : List ℕ} → length answers ≡ length between → AnsweredFrom (voidOf voids) 1 n (facts (sheets s)) cs between answers → answers ≡ answersTo s n cs
+  answers-both {answers} z R = each-answered s n cs answers (z ∙ kept ∙ S .rooms) (λ j h. pick j h (ℕ-discrete (recordAt cs j .origin) 0))
     where
+      second : AnsweredFrom (marked s) 1 n (facts (sheets s)) cs between answers
+      second = rw (S .void .1) at R
+
       pick : (j : ℕ) → j < records cs → Dec (recordAt cs j .origin ≡ 0) → getD answers j 0 ≡ verdict (marked s) n (pickedFacts s cs j) (claimed cs j)
-      pick j h (yes o) = R .others j (λ x. omega arith) ∙ A .are j h o ∙ from-all j o
-      pick j h (no o) = R .are j h (omega (arith, accepted-claims n cs f .origins j h)) ∙ from-sheets j o
+      pick j h (yes o) = second .others j (λ x. omega arith) ∙ first .are j h o ∙ from-all s n cs j o
+      pick j h (no o) = second .are j h (omega (arith, accepted-claims n cs (S .fit) .origins j h)) ∙ from-sheets s n cs j o

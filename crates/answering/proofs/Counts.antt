@@ -16,9 +16,10 @@ use Rattle.records.specs.Marked.{marked}
 use Rattle.records.specs.Check.{bookCheck}
 use Rattle.records.specs.declared.BookCheck.the-variants as book
 use Rattle.records.proofs.Accepted.{accepted, accepted-pieces}
-use Rattle.settling.specs.Settled.{Settleable, Clashed}
+use Rattle.opening.specs.Settleable.{Settleable}
+use Rattle.settling.specs.Settled.{Clashed}
 use Rattle.settling.proofs.Settling.{settleable, whole-unmarked, beyond-free, within-clashed}
-use Rattle.answering.specs.Counted.{Counted}
+use Rattle.storing.specs.Counted.{Counted}
 
 -- its own count
 pub own-count : {s : List ℕ} {n : ℕ} → bookCheck s ≡ book.Accepted n → Counted s n

@@ -14,15 +14,20 @@ use Rattle.rules.proofs.More.{weaken-contradictory}
 use Rattle.rules.proofs.Models.{clash-iff}
 use Rattle.records.specs.Facts.{facts}
 use Rattle.records.specs.Kept.{sheets}
+use Rattle.records.specs.Check.{claimsCheck}
+use Rattle.records.specs.declared.ClaimsCheck.the-variants as claims
 use Rattle.records.proofs.Accepted.{accepted}
 use Rattle.records.proofs.Keeps.{sheets-among, sheets-fewer}
+use Rattle.storing.specs.Closed.{Holds, wholeBit, awayBit, outBit}
 use Rattle.closure.specs.Stepped.{Stepped}
-use Rattle.settling.specs.Opened.{Opened}
-use Rattle.settling.specs.Settled.{Settleable, Settles, Steps}
+use Rattle.opening.specs.Opened.{Opened}
+use Rattle.opening.specs.Settleable.{Settleable}
+use Rattle.settling.specs.Settled.{Settles, Steps}
 use Rattle.settling.specs.declared.Settled.{Settled}
 use Rattle.settling.specs.declared.Settled.the-variants.{Free, Clash}
 use Rattle.settling.proofs.Settling.{free-consistent}
-use Rattle.answering.specs.Counted.{Counted}
+use Rattle.storing.specs.Counted.{Counted}
+use Rattle.answering.specs.Answered.{Answers, AnsweredFrom}
 use Rattle.answering.proofs.Counts.{counted-settleable}
 
 pub sheets-taken : (s x : List ℕ) (k : ℕ) {y : List ℕ} → k ≡ length (sheets s) → y ≡ front (sheets s) x → take k y ≡ sheets s
@@ -73,3 +78,12 @@ module _ (s : List ℕ) {n : ℕ} (sound : Counted s n) where
           → Stepped n (facts run) e order lead
       sheets-stepped (Free a b) S W = W .free a b refl
       sheets-stepped (Clash k) S W = absurd (false≢true (sheets-free ∙ sym (S .clash k refl .is)))
+
+      -- and what the matrices of its closure tell of restricted claims is told of the sheets
+      pub sheets-answered :
+          {d u p t q cs before answers : List ℕ} (r : Settled) → Settles void n run d t r → Holds u (wholeBit n (facts run)) → Holds p (awayBit n (facts run)) → Holds q (outBit void n (facts run))
+          → claimsCheck n cs ≡ claims.Accepted → Answers void 1 cs d u p t q before answers → AnsweredFrom void 1 n (facts (sheets s)) cs before answers
+      sheets-answered r S wholes away outside fit A =
+          let O = sheets-opened r S in
+          rw (← are)
+          (A .are n (facts run) (sheets-settleable .bounded) (record { whole = z; free = sheets-free; parts = O .parts; wholes = wholes; away = away; toward = O .toward; outside = outside }) fit)

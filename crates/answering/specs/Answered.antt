@@ -13,12 +13,12 @@ use Rattle.records.specs.Record.{recordAt, records}
 use Rattle.records.specs.Facts.{facts}
 use Rattle.records.specs.Check.{claimsCheck}
 use Rattle.records.specs.declared.ClaimsCheck.the-variants as claims
-use Rattle.closure.specs.Void.{voidOf, Voids}
-use Rattle.closure.specs.Bounded.{Bounded}
+use Rattle.storing.specs.Void.{voidOf, Voids}
+use Rattle.storing.specs.Bounded.{Bounded}
 use Rattle.closure.specs.Stepped.{Stepped}
-use Rattle.closure.specs.Closed.{Holds, Closed, partBit, towardBit}
+use Rattle.storing.specs.Closed.{Holds, Closed, partBit, towardBit}
 use Rattle.answering.specs.Claimed.{claimed}
-use Rattle.answering.specs.Counted.{MarksOf, Counted}
+use Rattle.storing.specs.Counted.{MarksOf, Counted}
 
 -- marks, claims on n pieces, and room for their answers
 pub record Closing (cs voids : List ℕ) (room : ℕ) : Type 0 where

@@ -1,3 +1,2 @@
 pub mod Claimed
-pub mod Counted
 pub mod Answered

@@ -3,11 +3,11 @@ ghost use mathlib.Core.Path.{_≡_};
 ghost use lib.ListN.{length};
 ghost use Rattle.records.specs.Facts.{facts};
 ghost use Rattle.records.specs.Kept.{sheets};
-ghost use Rattle.closure.specs.Void.{voidOf};
-ghost use Rattle.closure.specs.Answers.{answerByte};
+ghost use Rattle.storing.specs.Void.{voidOf};
+ghost use Rattle.verdicts.specs.Answers.{answerByte};
 ghost use Rattle.answering.specs.Claimed.{answersTo};
 ghost use Rattle.answering.specs.Answered.{Closing, AnsweredFrom, Answers, restricted, Restrictable, Answerable};
-use closure::Answer;
+use verdicts::Answer;
 
 // The byte of an answer.
 fn byte_of(answer: Answer) -> u8
@@ -43,7 +43,7 @@ fn answer_each(
             i += 1;
             continue;
         }
-        let answer = closure::answer_to(claim.kind, claim.a, claim.b, voids, d, u, p, t, q);
+        let answer = verdicts::answer_to(claim.kind, claim.a, claim.b, voids, d, u, p, t, q);
         answers[i] = byte_of(answer);
         i += 1;
     }

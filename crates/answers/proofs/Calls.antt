@@ -17,18 +17,18 @@ use Rattle.records.specs.declared.BookCheck.{BookCheck}
 use Rattle.records.specs.declared.BookCheck.the-variants as book
 use Rattle.records.specs.declared.ClaimsCheck.{ClaimsCheck}
 use Rattle.records.specs.declared.ClaimsCheck.the-variants as claims
-use Rattle.answers.specs.Lent.{Lent, lent, shortLent}
-use Rattle.answers.specs.Call.{byClaims, byBook, outcome, Passed, left, Determined}
-use Rattle.answers.specs.Outcome.{number, place, nodeCount}
-use Rattle.answers.specs.Demands.{Demand2, Demand3, Contradicted}
-use Rattle.answers.specs.Fitting.{Fitting}
+use Rattle.outcomes.specs.Lent.{Lent, lent, shortLent}
+use Rattle.outcomes.specs.Call.{byClaims, byBook, outcome, Passed, left, Determined}
+use Rattle.outcomes.specs.Outcome.{number, place, nodeCount}
+use Rattle.outcomes.specs.Demands.{Demand2, Demand3, Contradicted}
+use Rattle.outcomes.specs.Fitting.{Fitting}
 use Rattle.answers.specs.Judging.{afterClaims, afterBook, rowsCheck, Exact, Judged}
-use Rattle.answers.specs.declared.Outcome.{Outcome}
-use Rattle.answers.specs.declared.Outcome.the-variants.{Refused}
-use Rattle.answers.proofs.Outcomes.{Other, book-other, claims-other, Told, runs-told, passed-outcome}
+use Rattle.outcomes.specs.declared.Outcome.{Outcome}
+use Rattle.outcomes.specs.declared.Outcome.the-variants.{Refused}
+use Rattle.outcomes.proofs.Outcomes.{Other, book-other, claims-other, Told, runs-told, passed-outcome}
 use Rattle.answering.proofs.Counts.{own-count}
-use Rattle.answers.proofs.Kept.{fitted, kept2, kept3, kept-place, kept-size}
-use Rattle.answers.proofs.Buffers.{cut, put-back, Long, left-back}
+use Rattle.outcomes.proofs.Kept.{fitted, kept2, kept3, kept-place, kept-size}
+use Rattle.outcomes.proofs.Buffers.{cut, put-back, Long, left-back}
 
 abbrev pub Promised : List ℕ → List ℕ → Lent → Outcome → Lent → Type 0
 Promised s cs l r l′ =

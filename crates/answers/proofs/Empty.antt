@@ -33,15 +33,15 @@ use Rattle.index.specs.Index.{parenthesesOf, visitsOf}
 use Rattle.groups.specs.Groups as groups
 use Rattle.groups.specs.Index.{edges, bookParens, bookVisits, bookPlaces}
 use Rattle.lists.specs.Tally.{tally}
-use Rattle.settling.specs.PartIn.{partIn}
+use Rattle.opening.specs.PartIn.{partIn}
 use Rattle.parentheses.specs.Forest.{enc}
 use Rattle.parentheses.specs.Padded.{padded}
-use Rattle.answers.specs.Lent.{Lent, lent, shortLent}
+use Rattle.outcomes.specs.Lent.{Lent, lent, shortLent}
 use Rattle.answering.specs.Claimed.{claimed, answersTo}
-use Rattle.answers.specs.Call.{byRuns, byClaims, byBook, outcome, indexed, left}
-use Rattle.answers.specs.Outcome.{number}
-use Rattle.answers.specs.declared.Outcome.{Outcome}
-use Rattle.answers.specs.declared.Outcome.the-variants.{Accepted, Refused}
+use Rattle.outcomes.specs.Call.{byRuns, byClaims, byBook, outcome, indexed, left}
+use Rattle.outcomes.specs.Outcome.{number}
+use Rattle.outcomes.specs.declared.Outcome.{Outcome}
+use Rattle.outcomes.specs.declared.Outcome.the-variants.{Accepted, Refused}
 
 -- one node: parentheses 10, no mark, no shadow, piece 0 at place 0
 abbrev pub alone : Lent → List ℕ → Lent

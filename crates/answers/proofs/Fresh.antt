@@ -9,11 +9,11 @@ use lib.ListN.{length, replicate, length-replicate}
 use Rattle.records.specs.Record.{records}
 use Rattle.records.specs.Check.{bookCheck}
 use Rattle.records.specs.declared.BookCheck.the-variants as book
-use Rattle.answers.specs.Lent.{Lent, lent, shortLent}
-use Rattle.answers.specs.Call.{outcome}
-use Rattle.answers.specs.Fresh.{freshCall}
-use Rattle.answers.specs.declared.Outcome.the-variants.{Accepted}
-use Rattle.answers.proofs.Outcomes.{Told, told}
+use Rattle.outcomes.specs.Lent.{Lent, lent, shortLent}
+use Rattle.outcomes.specs.Call.{outcome}
+use Rattle.outcomes.specs.Fresh.{freshCall}
+use Rattle.outcomes.specs.declared.Outcome.the-variants.{Accepted}
+use Rattle.outcomes.proofs.Outcomes.{Told, told}
 
 pub long-lent : (cs a b c d e : List ℕ) → length a ≡ 2560 → length b ≡ 1280 → length c ≡ 8192 → length d ≡ 2048 → records cs ≤ length e → shortLent cs (lent a b c d e) ≡ false
 unfolding shortLent

@@ -16,17 +16,18 @@ use Rattle.records.specs.declared.Refusal.the-variants.{Contradiction}
 use Rattle.groups.specs.Index.{bookParens, bookVisits, bookPlaces, BookIndex}
 use Rattle.parentheses.specs.Padded.{padded}
 use Rattle.index.specs.Parts as on
-use Rattle.settling.specs.Opened.{Opened}
-use Rattle.settling.specs.Settled.{Settleable, Clashed}
+use Rattle.opening.specs.Opened.{Opened}
+use Rattle.opening.specs.Settleable.{Settleable}
+use Rattle.settling.specs.Settled.{Clashed}
 use Rattle.settling.proofs.Settling.{settleable-in, free-beyond, clashed-within}
-use Rattle.answers.specs.Lent.{Lent, lent}
+use Rattle.outcomes.specs.Lent.{Lent, lent}
 use Rattle.answering.specs.Claimed.{answersTo}
-use Rattle.answers.specs.Call.{pairsOf, byRuns, indexed, cleared, left}
-use Rattle.answering.specs.Counted.{Counted}
+use Rattle.outcomes.specs.Call.{pairsOf, byRuns, indexed, cleared, left}
+use Rattle.storing.specs.Counted.{Counted}
 use Rattle.answers.specs.Judging.{Cleared, Exact, Judged}
-use Rattle.answers.specs.declared.Outcome.the-variants.{Accepted, Refused}
+use Rattle.outcomes.specs.declared.Outcome.the-variants.{Accepted, Refused}
 use Rattle.answering.proofs.Counts.{counted-settleable, counted-unmarked}
-use Rattle.answers.proofs.Buffers.{front-whole, packed-long, answers-long, same-lent}
+use Rattle.outcomes.proofs.Buffers.{front-whole, packed-long, answers-long, same-lent}
 
 module _ (s : List ℕ) (n : ℕ) (sound : Counted s n) where
   pub refuses : (place : ℕ) → Clashed (marked s) n s place → Refused Contradiction place ≡ byRuns s n

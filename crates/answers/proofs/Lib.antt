@@ -1,11 +1,4 @@
-pub mod Outcomes
-pub mod Buffers
-pub mod Counts
-pub mod Kept
 pub mod Judges
 pub mod Calls
 pub mod Empty
 pub mod Fresh
-pub mod Orders
-pub mod Steadies
-pub mod Lower

@@ -9,10 +9,10 @@ use Rattle.records.specs.declared.BookCheck.{BookCheck}
 use Rattle.records.specs.declared.BookCheck.the-variants as book
 use Rattle.records.specs.declared.ClaimsCheck.{ClaimsCheck}
 use Rattle.records.specs.declared.ClaimsCheck.the-variants as claims
-use Rattle.answering.specs.Counted.{Counted}
-use Rattle.answers.specs.Lent.{Lent}
-use Rattle.answers.specs.Call.{byRuns, left}
-use Rattle.answers.specs.declared.Outcome.{Outcome}
+use Rattle.storing.specs.Counted.{Counted}
+use Rattle.outcomes.specs.Lent.{Lent}
+use Rattle.outcomes.specs.Call.{byRuns, left}
+use Rattle.outcomes.specs.declared.Outcome.{Outcome}
 
 -- rows 3 to 13: the piece count, or the first refusal
 unfoldable pub afterClaims : ℕ → ClaimsCheck → BookCheck

@@ -1,11 +1,1 @@
-pub mod Outcome
-pub mod Lent
-pub mod Call
-pub mod Fresh
-pub mod Demands
-pub mod Agree
-pub mod Fitting
 pub mod Judging
-pub mod Order
-pub mod One
-pub mod Lower

@@ -4,23 +4,18 @@ ghost use mathlib.Core.List.{[]};
 ghost use lib.ListN.{length};
 ghost use lib.Dec.{ltb};
 ghost use mathlib.Core.Bool.{_||_};
-ghost use Rattle.answers.specs.Lent.{lent};
-ghost use Rattle.answers.specs.Call.{Determined};
-ghost use Rattle.answers.specs.Fresh.{freshCall};
-ghost use Rattle.answers.specs.Outcome.{number, place, nodeCount};
-ghost use Rattle.answers.specs.Demands.{Demand2, Demand3, Contradicted};
-ghost use Rattle.answers.specs.Fitting.{Fitting};
+ghost use Rattle.outcomes.specs.Lent.{lent};
+ghost use Rattle.outcomes.specs.Call.{Determined};
+ghost use Rattle.outcomes.specs.Fresh.{freshCall};
+ghost use Rattle.outcomes.specs.Outcome.{number, place, nodeCount};
+ghost use Rattle.outcomes.specs.Demands.{Demand2, Demand3, Contradicted};
+ghost use Rattle.outcomes.specs.Fitting.{Fitting};
 ghost use Rattle.answers.specs.Judging.{rowsCheck, Cleared, Exact, Judged};
+use outcomes::Outcome;
 use records::BookCheck;
 use records::ClaimsCheck;
 use records::Refusal;
 use settling::Settled;
-
-// What a call comes to: the counts of pieces, nodes and shadows, or the refusal and its place.
-pub enum Outcome {
-    Accepted(usize, usize, usize),
-    Refused(Refusal, usize),
-}
 
 // Zeroes the four parts of the index.
 pub fn clear_index(parens: &mut [u8], marks: &mut [u8], shadows: &mut [u16], places: &mut [u16])
@@ -28,8 +23,8 @@ pub fn clear_index(parens: &mut [u8], marks: &mut [u8], shadows: &mut [u16], pla
 {
     parentheses::clear(parens);
     parentheses::clear(marks);
-    index::clear(shadows);
-    index::clear(places);
+    index::fill(shadows, 0);
+    index::fill(places, 0);
 }
 
 // The marks of the whole book, then row 14, the index and the answers, for a book and claims that pass the rows before, in lent parts of document 01's lengths.
@@ -51,7 +46,7 @@ pub fn judge_in(
     ensures { λ r. ⌜ Judged (now (book .entry)) n (now (claims .entry)) (lent (now (parens .entry)) (now (marks .entry)) (now (shadows .entry)) (now (places .entry)) (now (answers .entry))) r (lent (now (parens .exit)) (now (marks .exit)) (now (shadows .exit)) (now (places .exit)) (now (answers .exit))) ⌝ }
 {
     let mut voids = [0u64; 32];
-    closure::marking::mark_voids(book, &mut voids);
+    storing::marking::mark_voids(book, &mut voids);
     let mut order = [0u16; 2048];
     let mut lead = [0u16; 2048];
     let settled = settling::settle(
@@ -121,11 +116,11 @@ pub fn short(
 fn check_rows(book: &[u8], claims: &[u8]) -> BookCheck
     ensures { λ r. ⌜ r ≡ rowsCheck (now (book .entry)) (now (claims .entry)) ⌝ }
 {
-    let checked = records::check_book(book);
+    let checked = checks::check_book(book);
     match checked {
         BookCheck::Refused(refusal, place) => BookCheck::Refused(refusal, place),
         BookCheck::Accepted(n) => {
-            let fit = records::check_claims(claims, n);
+            let fit = checks::check_claims(claims, n);
             match fit {
                 ClaimsCheck::Refused(refusal, place) => BookCheck::Refused(refusal, place),
                 ClaimsCheck::Accepted => BookCheck::Accepted(n),

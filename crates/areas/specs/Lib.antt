@@ -1,5 +1,2 @@
 pub mod Area
-pub mod Between
 pub mod Tables
-pub mod Subtree
-pub mod Question

@@ -15,17 +15,17 @@ use Rattle.records.specs.declared.Refusal.{Refusal}
 use Rattle.records.specs.declared.Refusal.the-variants.{ShortBuffer, ShortCatalog, ClaimFormat, ClaimPiece, Contradiction}
 use Rattle.records.specs.declared.BookCheck.the-variants as book
 use Rattle.records.specs.declared.ClaimsCheck.the-variants as claims
-use Rattle.answers.specs.Lent.{shortLent}
-use Rattle.answers.specs.Lent as lending
+use Rattle.outcomes.specs.Lent.{shortLent}
+use Rattle.outcomes.specs.Lent as lending
 use Rattle.answering.specs.Claimed.{answersTo}
-use Rattle.answers.specs.Call.{byRuns, Passed}
-use Rattle.answers.specs.Call as call
+use Rattle.outcomes.specs.Call.{byRuns, Passed}
+use Rattle.outcomes.specs.Call as call
 use Rattle.answers.specs.Judging as judging
-use Rattle.answers.specs.declared.Outcome.{Outcome}
-use Rattle.answers.specs.declared.Outcome.the-variants.{Accepted, Refused}
-use Rattle.answers.proofs.Outcomes.{Other, book-other, runs-told}
-use Rattle.answers.proofs.Buffers.{cut, put-back, left-back, Fitted}
-use Rattle.answers.proofs.Kept.{fitted}
+use Rattle.outcomes.specs.declared.Outcome.{Outcome}
+use Rattle.outcomes.specs.declared.Outcome.the-variants.{Accepted, Refused}
+use Rattle.outcomes.proofs.Outcomes.{Other, book-other, runs-told}
+use Rattle.outcomes.proofs.Buffers.{cut, put-back, left-back, Fitted}
+use Rattle.outcomes.proofs.Kept.{fitted}
 use Rattle.answers.proofs.Calls.{long}
 use Rattle.answers.proofs.Calls as calls
 use Rattle.catalog.specs.Lent.{Lent, lent, shortCatalog}

@@ -26,14 +26,14 @@ use Rattle.records.specs.declared.BookCheck.the-variants as book
 use Rattle.records.proofs.Rows.{refused-positive}
 use Rattle.records.proofs.Accepted.{accepted}
 use Rattle.settling.proofs.Settling.{settleable, whole-unmarked, beyond-free, free-consistent}
-use Rattle.answers.specs.Call as answers
+use Rattle.outcomes.specs.Call as answers
 use Rattle.catalog.specs.Lent.{Lent}
 use Rattle.catalog.specs.Outcome.{number}
 use Rattle.catalog.specs.Call.{listOf, refuseIf, byIndex, byAsked, byBook, outcome}
 use Rattle.catalog.specs.Certain.{Certain, AllCertain}
 use Rattle.catalog.specs.Filling.{Asked}
 use Rattle.catalog.specs.declared.Listing.{Listing}
-use Rattle.catalog.proofs.Telling.{claim-within}
+use Rattle.certain.proofs.Telling.{claim-within}
 use Rattle.lists.proofs.Passed.{passing-at, passing-back, passing-less, passing-rises}
 
 -- a row that does not refuse

@@ -1,4 +1,3 @@
-pub mod Telling
 pub mod Books
 pub mod Calls
 pub mod Asking

@@ -17,10 +17,10 @@ use Rattle.records.specs.declared.BookCheck.{BookCheck}
 use Rattle.records.specs.declared.BookCheck.the-variants as book
 use Rattle.parentheses.specs.Padded.{padded}
 use Rattle.groups.specs.Index.{bookPlaces}
-use Rattle.answers.specs.Lent.{shortLent}
-use Rattle.answers.specs.Call as answers
-use Rattle.answers.specs.declared.Outcome.{Outcome}
-use Rattle.answers.specs.declared.Outcome.the-variants.{Accepted, Refused}
+use Rattle.outcomes.specs.Lent.{shortLent}
+use Rattle.outcomes.specs.Call as answers
+use Rattle.outcomes.specs.declared.Outcome.{Outcome}
+use Rattle.outcomes.specs.declared.Outcome.the-variants.{Accepted, Refused}
 use Rattle.lists.specs.Passing.{passing}
 use Rattle.areas.specs.Area.{pairs, filled}
 use Rattle.catalog.specs.Lent.{Lent, shortCatalog}

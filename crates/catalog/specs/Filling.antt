@@ -9,10 +9,10 @@ use Rattle.rules.specs.Follows.{clash}
 use Rattle.records.specs.Facts.{facts}
 use Rattle.records.specs.Check.{bookCheck}
 use Rattle.records.specs.declared.BookCheck.the-variants as book
-use Rattle.closure.specs.Void.{voidOf}
-use Rattle.closure.specs.Closed.{Holds, partBit, towardBit}
-use Rattle.answers.specs.Call.{byRuns}
-use Rattle.answering.specs.Counted.{MarksOf}
+use Rattle.storing.specs.Void.{voidOf}
+use Rattle.storing.specs.Closed.{Holds, partBit, towardBit}
+use Rattle.outcomes.specs.Call.{byRuns}
+use Rattle.storing.specs.Counted.{MarksOf}
 use Rattle.answers.specs.Judging.{Exact}
 use Rattle.areas.specs.Area.{filled}
 use Rattle.catalog.specs.Lent.{Lent}

@@ -4,7 +4,7 @@ use mathlib.Core.Bool.{Bool, _||_}
 use mathlib.Core.List.{List, []}
 use lib.Dec.{ltb}
 use lib.ListN.{length}
-use Rattle.answers.specs.Lent as answers
+use Rattle.outcomes.specs.Lent as answers
 
 -- the index parts are those of the call that writes the index alone
 pub record Lent : Type 0 where

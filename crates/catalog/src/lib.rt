@@ -1,7 +1,5 @@
 // The catalog of a piece: all pieces that certainly are PART of it, or MEET it, or are APART from it; and beside the index the stored facts, sorted
 // by places.
-pub mod pieces;
-
 ghost use mathlib.Core.Path.{_≡_};
 ghost use mathlib.Core.Bool.{_||_};
 ghost use Prim.Native.Nat.{_<_};
@@ -51,7 +49,7 @@ fn fill(
     requires { ⌜ Asked n kind g × Settled (now book) n (now voids) (now d) (now t) (now places) × Roomy (length (now list)) (length (now meets)) (length (now apart)) (length (now notpart)) ⌝ }
     ensures { λ r. ⌜ Filled (now (book .entry)) kind g n nodes shadowed (now (list .entry)) (now (meets .entry)) (now (apart .entry)) (now (notpart .entry)) r (now (list .exit)) (now (meets .exit)) (now (apart .exit)) (now (notpart .exit)) ⌝ }
 {
-    let listed = pieces::list_pieces(book, n, kind, g, voids, d, t, m, list);
+    let listed = certain::list_pieces(book, n, kind, g, voids, d, t, m, list);
     let in_meets = areas::fill_area(book, n, 3, places, m, meets);
     let in_apart = areas::fill_area(book, n, 2, places, m, apart);
     let in_notpart = areas::fill_area(book, n, 4, places, m, notpart);
@@ -85,7 +83,7 @@ fn judge(
     ensures { λ r. ⌜ Judged (now (book .entry)) kind g n (lent (now (parens .entry)) (now (marks .entry)) (now (shadows .entry)) (now (places .entry)) (now (list .entry)) (now (meets .entry)) (now (apart .entry)) (now (notpart .entry))) r (lent (now (parens .exit)) (now (marks .exit)) (now (shadows .exit)) (now (places .exit)) (now (list .exit)) (now (meets .exit)) (now (apart .exit)) (now (notpart .exit))) ⌝ }
 {
     let mut voids = [0u64; 32];
-    closure::marking::mark_voids(book, &mut voids);
+    storing::marking::mark_voids(book, &mut voids);
     let mut e = [0u64; 65536];
     let mut order = [0u16; 2048];
     let mut lead = [0u16; 2048];
@@ -214,7 +212,7 @@ pub fn write_catalog(
     if short(list.len(), meets.len(), apart.len(), notpart.len()) {
         return Listing::Refused(Refusal::ShortCatalog, 0);
     }
-    let checked = records::check_book(book);
+    let checked = checks::check_book(book);
     match checked {
         BookCheck::Refused(refusal, place) => Listing::Refused(refusal, place),
         BookCheck::Accepted(n) => ask(

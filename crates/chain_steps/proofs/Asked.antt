@@ -4,10 +4,10 @@ use mathlib.Core.Path.{_≡_, refl}
 use mathlib.Core.Bool.{Bool, true, false, _&&_}
 use mathlib.Core.List.{List}
 use lib.Dec.{ltb}
-use Rattle.chain_steps.specs.Citing.{Cited}
-use Rattle.chain_steps.specs.declared.Step.{Step}
-use Rattle.chain_steps.specs.Rule.{table, rule}
-use Rattle.chain_steps.specs.Justified.{premised, keeps}
+use Rattle.steps.specs.Citing.{Cited}
+use Rattle.steps.specs.declared.Step.{Step}
+use Rattle.steps.specs.Rule.{table, rule}
+use Rattle.steps.specs.Justified.{premised, keeps}
 
 module _ (s p q : Step) where
   pub unpremised :

@@ -9,10 +9,10 @@ use lib.Dec.{ltb}
 use lib.ListN.{getD}
 use borrow.Author.Tests.{ltb-true, ltb-false}
 use Rattle.lists.proofs.Bools.{Known, is-true, is-false, known}
-use Rattle.chain_steps.specs.Citing.{Cited}
-use Rattle.chain_steps.specs.declared.Step.{Step}
-use Rattle.chain_steps.specs.Step.{stepAt}
-use Rattle.chain_steps.specs.Justified.{justified, stepOk}
+use Rattle.steps.specs.Citing.{Cited}
+use Rattle.steps.specs.declared.Step.{Step}
+use Rattle.steps.specs.Step.{stepAt}
+use Rattle.steps.specs.Justified.{justified, stepOk}
 use Rattle.chain_steps.specs.Chain.{allOk}
 use Rattle.chain_steps.proofs.Stepping.{Search, by-record, by-c, by-f, by-e′, by-d, by-e, late-first, late-second}
 

@@ -1,8 +1,6 @@
 pub mod Somes
 pub mod Showing
 pub mod Tables
-pub mod Citings
-pub mod Computed
 pub mod Solved
 pub mod Asked
 pub mod Stepping

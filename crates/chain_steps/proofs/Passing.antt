@@ -12,16 +12,16 @@ use lib.ListN.{length}
 use borrow.Author.Tests.{eq-eqb, ne-eqb, le-leb, lt-leb, leb-true}
 use Rattle.lists.proofs.Bools.{and-both, both-and}
 use Rattle.rules.specs.Fact.{Fact, PART, APART, MEETS, NOTPART, kind, left, right, opposite}
-use Rattle.chain_steps.specs.Citing.{Cited}
+use Rattle.steps.specs.Citing.{Cited}
 use Rattle.records.specs.declared.Record.{Record}
 use Rattle.records.specs.Pieces.{stated}
 use Rattle.records.specs.Facts.{saying}
 use Rattle.records.proofs.Accepted.{says-kind, says-left, says-right}
-use Rattle.chain_steps.specs.declared.Step.{Step}
-use Rattle.chain_steps.specs.Step.{stepAt, steps, showing, shows}
-use Rattle.chain_steps.specs.Justified.{stepOk}
+use Rattle.steps.specs.declared.Step.{Step}
+use Rattle.steps.specs.Step.{stepAt, steps, showing, shows}
+use Rattle.steps.specs.Justified.{stepOk}
 use Rattle.chain_steps.specs.Chain.{allOk, concludes, chainOk}
-use Rattle.chain_steps.proofs.Computed.{shows-saying}
+use Rattle.steps.proofs.Computed.{shows-saying}
 
 -- the steps, one after another
 module _ (n : ℕ) (es : List Cited) (c : List ℕ) where

@@ -5,10 +5,10 @@ use mathlib.Core.Bool.{true, _&&_, _||_, not}
 use mathlib.Core.List.{List, [], _∷_, _++_}
 use Rattle.lists.specs.Any.{any}
 use Rattle.rules.specs.Fact.{PART, APART, MEETS, NOTPART}
-use Rattle.chain_steps.specs.Step.{stepAt, showing}
-use Rattle.chain_steps.specs.Citing.{Cited, fact, mark, none, marksPiece, marksSome}
-use Rattle.chain_steps.specs.Rule.{table, rule}
-use Rattle.chain_steps.specs.Justified.{some, named, cites, premised, keeps, justified, stepOk}
+use Rattle.steps.specs.Step.{stepAt, showing}
+use Rattle.steps.specs.Citing.{Cited, fact, mark, none, marksPiece, marksSome}
+use Rattle.steps.specs.Rule.{table, rule}
+use Rattle.steps.specs.Justified.{some, named, cites, premised, keeps, justified, stepOk}
 use Rattle.chain_steps.specs.Chain.{allOk, concludes, chainOk}
 
 abbrev pub step : ℕ → ℕ → ℕ → ℕ → ℕ → ℕ → List ℕ

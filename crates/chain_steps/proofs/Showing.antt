@@ -10,8 +10,8 @@ use Rattle.lists.proofs.Bools.{and-both, both-and, or-either, left-or, right-or
 use Rattle.rules.specs.Fact.{Fact, PART, APART, MEETS, NOTPART, kind, left, right, factOf, Within}
 use Rattle.rules.specs.Derives.{Derives, apart-turn, meets-turn}
 use Rattle.rules.proofs.Facts.{remake}
-use Rattle.chain_steps.specs.declared.Step.{Step}
-use Rattle.chain_steps.specs.Step.{unordered, showing, shows}
+use Rattle.steps.specs.declared.Step.{Step}
+use Rattle.steps.specs.Step.{unordered, showing, shows}
 
 -- the step's pieces are a and b, in this order or, of an unordered kind, in the other
 pub data Ends (s : Step) (k a b : ℕ) : Type 0 where

@@ -8,14 +8,14 @@ use lib.Dec.{eqb}
 use borrow.Author.Tests.{eqb-true, eqb-false}
 use Rattle.lists.proofs.Bools.{and-both, Known, is-true, is-false, known}
 use Rattle.rules.specs.Fact.{Fact, PART, APART, MEETS, NOTPART}
-use Rattle.chain_steps.specs.declared.Step.{Step}
-use Rattle.chain_steps.specs.Step.{unordered, showing, shows}
-use Rattle.chain_steps.specs.Rule.{from, table, rule}
-use Rattle.chain_steps.specs.Other.{other}
-use Rattle.chain_steps.specs.Justified.{some, named, premised}
+use Rattle.steps.specs.declared.Step.{Step}
+use Rattle.steps.specs.Step.{unordered, showing, shows}
+use Rattle.steps.specs.Rule.{from, table, rule}
+use Rattle.steps.specs.Other.{other}
+use Rattle.steps.specs.Justified.{some, named, premised}
 use Rattle.chain_steps.proofs.Somes.{solved}
 use Rattle.chain_steps.proofs.Showing.{Ends, straight, swapped, showing-ends}
-use Rattle.chain_steps.proofs.Computed.{other-second, other-first}
+use Rattle.steps.proofs.Computed.{other-second, other-first}
 
 -- an ordered kind has its pieces in this order
 pub exact : (s : Step) (k a b : ℕ) → unordered k ≡ false → showing s k a b ≡ true → (s .a ≡ a) × (s .b ≡ b)

@@ -5,7 +5,7 @@ use mathlib.Core.Bool.{Bool, true, false, false≢true}
 use mathlib.Core.List.{List, List·Memᴰ}
 use Rattle.lists.proofs.Bools.{same-truth, not-true}
 use Rattle.lists.proofs.Anys.{any-find, any-hit}
-use Rattle.chain_steps.specs.Justified.{some}
+use Rattle.steps.specs.Justified.{some}
 
 module _ (xs : List ℕ) where
   pub some-find :

@@ -13,11 +13,11 @@ use Rattle.lists.proofs.Bools.{and-both, not-is-true}
 use Rattle.rules.specs.Fact.{Fact}
 use Rattle.rules.specs.Derives as rules
 use Rattle.rules.specs.Derives.{Derives}
-use Rattle.chain_steps.specs.declared.Step.{Step}
-use Rattle.chain_steps.specs.Step.{stepAt, shows}
-use Rattle.chain_steps.specs.Citing.{Cited, fact, mark, none, marksPiece, marksSome}
-use Rattle.chain_steps.specs.Rule.{Form, unknown, stored, freely, unmarked, marked, from, rule}
-use Rattle.chain_steps.specs.Justified.{cites, premised, keeps, named, justified, stepOk}
+use Rattle.steps.specs.declared.Step.{Step}
+use Rattle.steps.specs.Step.{stepAt, shows}
+use Rattle.steps.specs.Citing.{Cited, fact, mark, none, marksPiece, marksSome}
+use Rattle.steps.specs.Rule.{Form, unknown, stored, freely, unmarked, marked, from, rule}
+use Rattle.steps.specs.Justified.{cites, premised, keeps, named, justified, stepOk}
 use Rattle.chain_steps.specs.Chain.{allOk, factIn, citedBy}
 use Rattle.chain_steps.proofs.Somes.{some-find}
 use Rattle.chain_steps.proofs.Showing.{shown-within, shown-same}

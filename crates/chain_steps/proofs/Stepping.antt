@@ -8,11 +8,11 @@ use lib.Dec.{eqb}
 use lib.ListN.{getD}
 use borrow.Author.Tests.{eq-eqb, ne-eqb, lt-ltb, le-ltb}
 use Rattle.lists.proofs.Bools.{and-both, both-and, or-either, left-or, right-or, same-truth}
-use Rattle.chain_steps.specs.Citing.{Cited, none, marksPiece, marksSome}
-use Rattle.chain_steps.specs.declared.Step.{Step}
-use Rattle.chain_steps.specs.Step.{stepAt, showing}
-use Rattle.chain_steps.specs.Rule.{table, rule}
-use Rattle.chain_steps.specs.Justified.{cites, some, named, premised, keeps, justified, stepOk}
+use Rattle.steps.specs.Citing.{Cited, none, marksPiece, marksSome}
+use Rattle.steps.specs.declared.Step.{Step}
+use Rattle.steps.specs.Step.{stepAt, showing}
+use Rattle.steps.specs.Rule.{table, rule}
+use Rattle.steps.specs.Justified.{cites, some, named, premised, keeps, justified, stepOk}
 use Rattle.chain_steps.proofs.Somes.{some-find, some-hit, some-none, some-same, some-const, only}
 use Rattle.chain_steps.proofs.Showing.{Ends, straight, swapped, showing-kind, showing-ends, ends-show}
 use Rattle.chain_steps.proofs.Asked.{premises-first}

@@ -6,7 +6,7 @@ use mathlib.Core.List.{List, [], _∷_}
 use lib.ListN.{getD, drop}
 use Rattle.rules.specs.Fact.{Fact, Within}
 use Rattle.rules.specs.Derives.{Derives, rule-a, rule-b, rule-c, rule-d, rule-e, rule-f, rule-a′, rule-b′, rule-c′, rule-d′, rule-e′}
-use Rattle.chain_steps.specs.Rule.{Form, unknown, stored, freely, unmarked, marked, from, table, rule}
+use Rattle.steps.specs.Rule.{Form, unknown, stored, freely, unmarked, marked, from, table, rule}
 
 module _ (void : ℕ → Bool) (n : ℕ) (fs : List Fact) where
   abbrev pub Sound : Form → Type 0

@@ -5,9 +5,9 @@ use mathlib.Core.List.{List, [], _∷_, _++_}
 use lib.Dec.{eqb, leb}
 use lib.ListN.{length, getD}
 use Rattle.rules.specs.Fact.{Fact, opposite}
-use Rattle.chain_steps.specs.Citing.{Cited, fact, mark, none}
-use Rattle.chain_steps.specs.Step.{stepAt, steps, shows}
-use Rattle.chain_steps.specs.Justified.{stepOk}
+use Rattle.steps.specs.Citing.{Cited, fact, mark, none}
+use Rattle.steps.specs.Step.{stepAt, steps, shows}
+use Rattle.steps.specs.Justified.{stepOk}
 
 -- the first m steps are justified
 unfoldable pub allOk : ℕ → List Cited → List ℕ → ℕ → Bool

@@ -1,6 +1,1 @@
-pub mod Step
-pub mod Citing
-pub mod Rule
-pub mod Justified
 pub mod Chain
-pub mod Other

@@ -1,24 +1,24 @@
-// The steps of a chain, ten bytes each, and the check that each is justified by the book and by earlier steps.
+// The check of a chain: that each step is justified by the book and by earlier steps.
 ghost use mathlib.Core.Path.{_≡_};
 ghost use mathlib.Core.Bool.{true, _&&_, _||_};
 ghost use Prim.Native.Nat.{_+_, _*_, _≤_};
 ghost use lib.Dec.{eqb};
 ghost use lib.ListN.{length, getD};
 ghost use Rattle.records.specs.declared.Record as of;
-ghost use Rattle.records.specs.Record.{pair};
 ghost use Rattle.records.specs.Pieces.{stated};
 ghost use Rattle.records.specs.Facts.{saying};
-ghost use Rattle.answering.specs.Counted.{MarksOf};
-ghost use Rattle.chain_steps.specs.Step as on;
-ghost use Rattle.chain_steps.specs.Step.{stepAt, showing};
-ghost use Rattle.chain_steps.specs.Citing as may;
-ghost use Rattle.chain_steps.specs.Citing.{none, citing, marksPiece};
-ghost use Rattle.chain_steps.specs.Rule.{rule};
-ghost use Rattle.chain_steps.specs.Justified as by;
-ghost use Rattle.chain_steps.specs.Justified.{some, named, premised, stepOk};
-ghost use Rattle.chain_steps.specs.Other as end;
+ghost use Rattle.storing.specs.Counted.{MarksOf};
+ghost use Rattle.steps.specs.Step as on;
+ghost use Rattle.steps.specs.Step.{showing};
+ghost use Rattle.steps.specs.Citing as may;
+ghost use Rattle.steps.specs.Citing.{none, citing, marksPiece};
+ghost use Rattle.steps.specs.Rule.{rule};
+ghost use Rattle.steps.specs.Justified as by;
+ghost use Rattle.steps.specs.Justified.{some, named, premised, stepOk};
+ghost use Rattle.steps.specs.Other as end;
 ghost use Rattle.chain_steps.specs.Chain.{chainOk};
 use records::Record;
+use steps::Step;
 
 const PART: u8 = 1;
 
@@ -27,112 +27,6 @@ const APART: u8 = 2;
 const MEETS: u8 = 3;
 
 const NOTPART: u8 = 4;
-
-// A step: its rule, the kind and the pieces of the fact that it shows, and its premises, or the record that it cites.
-pub struct Step {
-    pub rule: u8,
-    pub kind: u8,
-    pub a: usize,
-    pub b: usize,
-    pub first: usize,
-    pub second: usize,
-}
-
-fn wide(x: u8) -> usize
-    ensures { λ r. ⌜ (r ≡ x) × (r ≤ 255) ⌝ }
-{
-    x as usize
-}
-
-// A 16-bit number, low byte first.
-fn number_at(c: &[u8], at: usize) -> usize
-    requires { ⌜ at + 2 ≤ length (now c) ⌝ }
-    ensures { λ r. ⌜ r ≡ pair (getD (now (c .entry)) at 0) (getD (now (c .entry)) (at + 1) 0) ⌝ }
-{
-    wide(c[at]) + 256 * wide(c[at + 1])
-}
-
-// The one reader of steps.
-pub fn step_at(c: &[u8], i: usize) -> Step
-    requires { ⌜ 10 * i + 10 ≤ length (now c) ⌝ }
-    ensures { λ r. ⌜ r ≡ stepAt (now (c .entry)) i ⌝ }
-{
-    let at = 10 * i;
-    let a = number_at(c, at + 2);
-    let b = number_at(c, at + 4);
-    let first = number_at(c, at + 6);
-    let second = number_at(c, at + 8);
-    Step {
-        rule: c[at],
-        kind: c[at + 1],
-        a,
-        b,
-        first,
-        second,
-    }
-}
-
-// APART and MEETS.
-fn unordered(kind: u8) -> bool
-    ensures { λ r. ⌜ r ≡ on.unordered kind ⌝ }
-{
-    if kind == 2 {
-        return true;
-    }
-    kind == 3
-}
-
-fn has_ends(s: Step, a: usize, b: usize) -> bool
-    ensures { λ r. ⌜ r ≡ (eqb (s .a) a && eqb (s .b) b) ⌝ }
-{
-    if s.a != a {
-        return false;
-    }
-    s.b == b
-}
-
-// Whether the step shows the fact of that kind about a and b.
-fn shows(s: Step, kind: u8, a: usize, b: usize) -> bool
-    ensures { λ r. ⌜ r ≡ showing s kind a b ⌝ }
-{
-    if s.kind != kind {
-        return false;
-    }
-    if has_ends(s, a, b) {
-        return true;
-    }
-    if !unordered(kind) {
-        return false;
-    }
-    has_ends(s, b, a)
-}
-
-// Whether the claim lets a record's fact be cited.
-pub fn lets(claim: Record, r: Record) -> bool
-    ensures { λ b. ⌜ b ≡ may.lets claim r ⌝ }
-{
-    if claim.origin == 0 {
-        return true;
-    }
-    r.origin == 0
-}
-
-// Whether the record that the step cites may be cited, and says what the step shows.
-fn cites(claim: Record, book: &[u8], s: Step) -> bool
-    ensures { λ r. ⌜ r ≡ by.cites (getD (citing claim (now (book .entry))) (s .first) none) s ⌝ }
-{
-    if book.len() / 6 <= s.first {
-        return false;
-    }
-    let r = records::record_at(book, s.first);
-    if !records::states_fact(r) {
-        return false;
-    }
-    if !lets(claim, r) {
-        return false;
-    }
-    shows(s, r.kind, r.a, r.b)
-}
 
 // Whether record i marks piece g, which a mark of any origin may be cited for.
 fn marks_piece(book: &[u8], i: usize, g: usize) -> bool
@@ -152,7 +46,7 @@ fn marks_piece(book: &[u8], i: usize, g: usize) -> bool
 fn void_apart(book: &[u8], s: Step) -> bool
     ensures { λ r. ⌜ ((claim : of.Record) → r ≡ (showing s 2 (s .a) (s .b) && (marksPiece (s .a) (getD (citing claim (now (book .entry))) (s .first) none) || marksPiece (s .b) (getD (citing claim (now (book .entry))) (s .first) none)))) ⌝ }
 {
-    if !shows(s, APART, s.a, s.b) {
+    if !steps::shows(s, APART, s.a, s.b) {
         return false;
     }
     if marks_piece(book, s.first, s.a) {
@@ -165,7 +59,7 @@ fn void_apart(book: &[u8], s: Step) -> bool
 fn void_part(book: &[u8], s: Step) -> bool
     ensures { λ r. ⌜ ((claim : of.Record) → r ≡ (showing s 1 (s .a) (s .b) && marksPiece (s .a) (getD (citing claim (now (book .entry))) (s .first) none))) ⌝ }
 {
-    if !shows(s, PART, s.a, s.b) {
+    if !steps::shows(s, PART, s.a, s.b) {
         return false;
     }
     marks_piece(book, s.first, s.a)
@@ -181,7 +75,7 @@ fn shows_freely(s: Step, kind: u8, a: usize, b: usize) -> bool
     if s.second != 0 {
         return false;
     }
-    shows(s, kind, a, b)
+    steps::shows(s, kind, a, b)
 }
 
 // Of x and y the one that is not z.
@@ -201,13 +95,13 @@ struct Shown(u8, usize, usize);
 fn follows(p: Step, x: Shown, q: Step, y: Shown, s: Step, f: Shown) -> bool
     ensures { λ r. ⌜ r ≡ (showing s (f .0) (f .1) (f .2) && (showing p (x .0) (x .1) (x .2) && showing q (y .0) (y .1) (y .2))) ⌝ }
 {
-    if !shows(s, f.0, f.1, f.2) {
+    if !steps::shows(s, f.0, f.1, f.2) {
         return false;
     }
-    if !shows(p, x.0, x.1, x.2) {
+    if !steps::shows(p, x.0, x.1, x.2) {
         return false;
     }
-    shows(q, y.0, y.1, y.2)
+    steps::shows(q, y.0, y.1, y.2)
 }
 
 // Whether the step follows by its rule from the premises p and q. Where the rule holds of any g, h, k, it is of these.
@@ -303,7 +197,7 @@ fn step_ok(book: &[u8], n: usize, voids: &[u64], claim: Record, c: &[u8], i: usi
     requires { ⌜ (n ≤ 2048) × MarksOf (now book) (now voids) × (10 * i + 10 ≤ length (now c)) ⌝ }
     ensures { λ r. ⌜ r ≡ stepOk n (citing claim (now (book .entry))) (now (c .entry)) i ⌝ }
 {
-    let s = step_at(c, i);
+    let s = steps::step_at(c, i);
     if n <= s.a {
         return false;
     }
@@ -316,7 +210,7 @@ fn step_ok(book: &[u8], n: usize, voids: &[u64], claim: Record, c: &[u8], i: usi
             if s.second != 0 {
                 return false;
             }
-            cites(claim, book, s)
+            steps::cites(claim, book, s)
         }
         3 => shows_freely(s, PART, s.a, s.a),
         4 => shows_freely(s, PART, s.a, 0),
@@ -345,8 +239,8 @@ fn step_ok(book: &[u8], n: usize, voids: &[u64], claim: Record, c: &[u8], i: usi
             if i <= s.second {
                 return false;
             }
-            let p = step_at(c, s.first);
-            let q = step_at(c, s.second);
+            let p = steps::step_at(c, s.first);
+            let q = steps::step_at(c, s.second);
             by_premises(s, p, q)
         }
     }
@@ -374,9 +268,9 @@ pub fn check_steps(book: &[u8], n: usize, voids: &[u64], claim: Record, c: &[u8]
         }
         i += 1;
     }
-    let last = step_at(c, m - 1);
-    if shows(last, claim.kind, claim.a, claim.b) {
+    let last = steps::step_at(c, m - 1);
+    if steps::shows(last, claim.kind, claim.a, claim.b) {
         return true;
     }
-    shows(last, 5 - claim.kind, claim.a, claim.b)
+    steps::shows(last, 5 - claim.kind, claim.a, claim.b)
 }

@@ -14,15 +14,15 @@ use Rattle.records.specs.Record.{recordAt}
 use Rattle.records.specs.Facts.{saying, facts}
 use Rattle.records.specs.Kept.{picked}
 use Rattle.records.specs.Marked.{marked}
-use Rattle.closure.specs.declared.Answer.{Answer}
-use Rattle.closure.specs.declared.Answer.the-variants.{Follows, Denied, Open}
-use Rattle.answers.specs.Call.{byRuns}
-use Rattle.answers.specs.One.{refuseIf}
-use Rattle.answers.specs.declared.Outcome.{Outcome}
-use Rattle.answers.specs.declared.Outcome.the-variants as call
-use Rattle.chain_steps.specs.Citing.{citing}
+use Rattle.verdicts.specs.declared.Answer.{Answer}
+use Rattle.verdicts.specs.declared.Answer.the-variants.{Follows, Denied, Open}
+use Rattle.outcomes.specs.Call.{byRuns}
+use Rattle.outcomes.specs.One.{refuseIf}
+use Rattle.outcomes.specs.declared.Outcome.{Outcome}
+use Rattle.outcomes.specs.declared.Outcome.the-variants as call
+use Rattle.steps.specs.Citing.{citing}
 use Rattle.chain_steps.specs.Chain.{chainOk}
-use Rattle.chains.specs.Call.{asked, passes}
+use Rattle.passing.specs.Call.{asked, passes}
 use Rattle.chain_writing.specs.declared.Reply.{Reply}
 use Rattle.chain_writing.specs.declared.Reply.the-variants.{Answered, Refused}
 use Rattle.chain_writing.specs.declared.Chain.{Chain}

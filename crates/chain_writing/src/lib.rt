@@ -10,18 +10,18 @@ ghost use Rattle.records.specs.Facts.{saying, facts};
 ghost use Rattle.records.specs.Marked.{marked};
 ghost use Rattle.records.specs.Check.{bookCheck};
 ghost use Rattle.records.specs.declared.BookCheck.the-variants as is;
-ghost use Rattle.answering.specs.Counted.{MarksOf};
+ghost use Rattle.storing.specs.Counted.{MarksOf};
 ghost use Rattle.derivations.specs.Found.{Ground};
 ghost use Rattle.chain_writing.specs.declared.Reply.the-variants.{Refused};
-ghost use Rattle.settling.specs.Opened.{Opened};
-ghost use Rattle.closure.specs.Void.{voidOf};
+ghost use Rattle.opening.specs.Opened.{Opened};
+ghost use Rattle.storing.specs.Void.{voidOf};
 ghost use Rattle.chain_writing.specs.Call.{Answering, Judged, Written};
-use closure::Answer;
 use records::BookCheck;
 use records::ClaimsCheck;
 use records::Record;
 use records::Refusal;
 use settling::Settled;
+use verdicts::Answer;
 
 // What the call says: the answer, or the refusal and its place.
 pub enum Reply {
@@ -86,7 +86,7 @@ fn write_whole(
     requires { ⌜ (bookCheck (now book) ≡ is.Accepted n) × MarksOf (now book) (now voids) × Opened (voidOf (now voids)) n (facts (now book)) (now d) (now t) false × (claim .origin ≡ 0) × (stated claim ≡ true) × Within n (saying claim) × (164000 ≤ length (now c)) ⌝ }
     ensures { λ r. ⌜ Answering n claim (now (book .entry)) (now (c .entry)) r (now (c .exit)) ⌝ }
 {
-    closure::edges(book, n, e);
+    storing::edges(book, n, e);
     write_found(n, claim, book, voids, e, d, t, c)
 }
 
@@ -110,7 +110,7 @@ fn write_restricted(
     let length = records::keep_sheets(book, &mut kept);
     let run = &kept[..length];
     settling::settle_alone(run, n, voids, e, &mut order, &mut lead, d, t);
-    closure::edges(run, n, e);
+    storing::edges(run, n, e);
     write_found(n, claim, book, voids, e, d, t, c)
 }
 
@@ -129,7 +129,7 @@ fn judge(book: &[u8], n: usize, claim: Record, c: &mut [u8]) -> Chain
     ensures { λ r. ⌜ Judged n claim (now (book .entry)) (now (c .entry)) r (now (c .exit)) ⌝ }
 {
     let mut voids = [0u64; 32];
-    closure::marking::mark_voids(book, &mut voids);
+    storing::marking::mark_voids(book, &mut voids);
     let mut e = [0u64; 65536];
     let mut order = [0u16; 2048];
     let mut lead = [0u16; 2048];
@@ -163,14 +163,14 @@ pub fn write_chain(book: &[u8], claim: &[u8], steps: &mut [u8]) -> Chain
     if steps.len() < 164000 {
         return refuse(Refusal::ShortSteps, 0);
     }
-    let checked = records::check_book(book);
+    let checked = checks::check_book(book);
     match checked {
         BookCheck::Refused(refusal, place) => refuse(refusal, place),
         BookCheck::Accepted(n) => {
             if claim.len() != 6 {
                 return refuse(Refusal::ClaimsLength, 0);
             }
-            let fit = records::check_claims(claim, n);
+            let fit = checks::check_claims(claim, n);
             match fit {
                 ClaimsCheck::Refused(refusal, place) => refuse(refusal, place),
                 ClaimsCheck::Accepted => judge(book, n, records::record_at(claim, 0), steps),

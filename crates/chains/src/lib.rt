@@ -3,8 +3,8 @@ ghost use mathlib.Core.Path.{_≡_};
 ghost use lib.ListN.{length};
 ghost use Rattle.records.specs.Check.{bookCheck};
 ghost use Rattle.records.specs.declared.BookCheck.the-variants as is;
-ghost use Rattle.chains.specs.Call.{passes, Checked};
-use answers::Outcome;
+ghost use Rattle.passing.specs.Call.{passes, Checked};
+use outcomes::Outcome;
 use records::ClaimsCheck;
 
 // The claim's rows and the steps, in an accepted book of n pieces.
@@ -12,12 +12,12 @@ fn check_accepted(book: &[u8], n: usize, claim: &[u8], steps: &[u8]) -> bool
     requires { ⌜ (bookCheck (now book) ≡ is.Accepted n) × (length (now claim) ≡ 6) ⌝ }
     ensures { λ r. ⌜ Checked n (now (book .entry)) (now (claim .entry)) (now (steps .entry)) r ⌝ }
 {
-    let fit = records::check_claims(claim, n);
+    let fit = checks::check_claims(claim, n);
     match fit {
         ClaimsCheck::Refused(_, _) => false,
         ClaimsCheck::Accepted => {
             let mut voids = [0u64; 32];
-            closure::marking::mark_voids(book, &mut voids);
+            storing::marking::mark_voids(book, &mut voids);
             chain_steps::check_steps(book, n, &voids, records::record_at(claim, 0), steps)
         }
     }

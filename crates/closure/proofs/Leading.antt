@@ -11,17 +11,17 @@ use lib.Dec.{eqb, ltb}
 use lib.ListN.{length, getD}
 use Rattle.lists.proofs.Bools.{and-both, both-and, or-either, left-or, right-or, not-is-true}
 use Rattle.relation.specs.Matrix.{bitOf}
-use Rattle.relation.specs.Flow.{along, against}
-use Rattle.relation.specs.Led.{Led}
+use Rattle.joins.specs.Flow.{along, against}
+use Rattle.joins.specs.Led.{Led}
 use Rattle.rules.specs.Fact.{Fact, PART, factOf, unmarked}
 use Rattle.rules.specs.Follows.{storing}
 use Rattle.rules.proofs.Facts.{storing-find, storing-hit}
 use Rattle.rules.proofs.Paths.{Path, here, top, up, leap, path-trans, path-below}
-use Rattle.closure.specs.Stored.{stepping, stepBit}
-use Rattle.closure.specs.Bounded.{Bounded}
+use Rattle.storing.specs.Stored.{stepping, stepBit}
+use Rattle.storing.specs.Bounded.{Bounded}
 use Rattle.closure.specs.Stepped.{Stepped}
-use Rattle.closure.specs.Closed.{Holds, partBit, wholeBit}
-use Rattle.closure.proofs.Products.{path-above, d-path, path-d}
+use Rattle.storing.specs.Closed.{Holds, partBit, wholeBit}
+use Rattle.storing.proofs.Products.{path-above, d-path, path-d}
 use Rattle.closure.proofs.Spans.{Spanned}
 
 module _ (n : ℕ) (fs : List Fact) (B : Bounded n fs) where

@@ -1,11 +1,3 @@
-pub mod StoredBits
-pub mod Runs
-pub mod Grows
-pub mod Storing
-pub mod Products
-pub mod Holding
-pub mod Answering
 pub mod Leading
 pub mod Spans
-pub mod VoidRows
 pub mod Aparts

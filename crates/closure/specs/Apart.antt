@@ -8,7 +8,7 @@ use lib.ListN.{length}
 use Rattle.relation.specs.Matrix.{bitOf}
 use Rattle.rules.specs.Fact.{Fact, APART}
 use Rattle.rules.specs.Follows.{follows}
-use Rattle.closure.specs.Stored.{storedBit}
+use Rattle.storing.specs.Stored.{storedBit}
 
 -- one of x and y is piece 0, and the other is a marked piece below n
 abbrev pub markedApart : (ℕ → Bool) → ℕ → ℕ → ℕ → Bool

@@ -1,10 +1,2 @@
-pub mod Void
-pub mod Stored
-pub mod Closed
-pub mod Bounded
-pub mod Opposed
-pub mod ByMarks
-pub mod Tells
-pub mod Answers
 pub mod Stepped
 pub mod Apart

@@ -5,10 +5,10 @@ ghost use Prim.Native.Nat.{_<_, _≤_};
 ghost use lib.ListN.{length};
 ghost use Rattle.rules.specs.Follows.{clash};
 ghost use Rattle.records.specs.Facts.{facts};
-ghost use Rattle.closure.specs.Void.{voidOf, Voids};
-ghost use Rattle.closure.specs.Bounded.{Bounded};
+ghost use Rattle.storing.specs.Void.{voidOf, Voids};
+ghost use Rattle.storing.specs.Bounded.{Bounded};
 ghost use Rattle.closure.specs.Stepped.{Stepped};
-ghost use Rattle.closure.specs.Closed.{Grown, Holds, partBit};
+ghost use Rattle.storing.specs.Closed.{Grown, Holds, partBit};
 ghost use Rattle.closure.specs.Apart.{markedApart, apartBit, Aparts};
 
 // Each marked piece as apart from piece 0, in both orders.
@@ -19,8 +19,8 @@ fn part_marked(n: usize, voids: &[u64], m: &mut [u64])
     let mut i: usize = 0;
     while i < n {
         let on = relation::has(voids, i);
-        crate::insert_where(on, m, 0, i);
-        crate::insert_where(on, m, i, 0);
+        storing::insert_where(on, m, 0, i);
+        storing::insert_where(on, m, i, 0);
         i += 1;
     }
 }
@@ -30,7 +30,7 @@ fn apart_told(run: &[u8], n: usize, voids: &[u64], m: &mut [u64])
     requires { ⌜ Bounded n (facts (now run)) × Voids (now voids) × (length (now m) ≡ 65536) ⌝ }
     ensures { λ _. ⌜ Holds (now (m .exit)) (apartBit (voidOf (now (voids .entry))) n (facts (now (run .entry)))) ⌝ }
 {
-    crate::store(run, 2, true, true, m);
+    storing::store(run, 2, true, true, m);
     part_marked(n, voids, m);
 }
 
@@ -51,6 +51,6 @@ pub fn apart_rows(
 {
     apart_told(run, n, voids, m);
     relation::clear(a);
-    relation::product(a, m, d, n);
+    joins::product(a, m, d, n);
     crate::join_wholes(n, e, order, lead, a);
 }

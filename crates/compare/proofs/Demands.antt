@@ -25,15 +25,15 @@ use Rattle.records.specs.declared.ClaimsCheck.{ClaimsCheck}
 use Rattle.records.specs.declared.ClaimsCheck.the-variants as claims
 use Rattle.records.proofs.Rows.{refused-positive}
 use Rattle.settling.proofs.Settling.{free-consistent}
-use Rattle.answers.specs.Call.{byRuns}
-use Rattle.answers.specs.Fresh.{freshCall}
-use Rattle.answering.specs.Counted.{Counted}
-use Rattle.answers.specs.Outcome as of
-use Rattle.answers.specs.declared.Outcome.{Outcome}
-use Rattle.answers.specs.declared.Outcome.the-variants as on
+use Rattle.outcomes.specs.Call.{byRuns}
+use Rattle.outcomes.specs.Fresh.{freshCall}
+use Rattle.storing.specs.Counted.{Counted}
+use Rattle.outcomes.specs.Outcome as of
+use Rattle.outcomes.specs.declared.Outcome.{Outcome}
+use Rattle.outcomes.specs.declared.Outcome.the-variants as on
 use Rattle.answers.proofs.Fresh.{fresh-sound}
 use Rattle.answering.proofs.Counts.{own-count, counted-settleable, counted-unmarked, counted-free}
-use Rattle.answers.proofs.Counts.{runs-refused, derived, entailed}
+use Rattle.outcomes.proofs.Counts.{runs-refused, derived, entailed}
 use Rattle.compare.specs.declared.Comparison.{Comparison}
 use Rattle.compare.specs.declared.Comparison.the-variants.{Compared, Refused}
 use Rattle.compare.specs.Joint.{pieces, laid, eitherMarked}

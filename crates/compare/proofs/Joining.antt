@@ -31,9 +31,9 @@ use Rattle.records.proofs.Keeps.{kept-records, kept-from, record-there}
 use Rattle.records.proofs.Orders.{Found, record-early, record-late, found-before, found-behind, found-both, found-through, facts-found}
 use Rattle.records.proofs.Marks.{marked-found, marked-append}
 use Rattle.records.proofs.Accepted.{accepted, accepted-within, accepted-positive, accepted-pieces}
-use Rattle.closure.specs.Void.{Markable}
-use Rattle.settling.specs.Settled.{Settleable}
-use Rattle.closure.proofs.VoidRows.{accepted-markable}
+use Rattle.storing.specs.Void.{Markable}
+use Rattle.opening.specs.Settleable.{Settleable}
+use Rattle.storing.proofs.VoidRows.{accepted-markable}
 use Rattle.settling.proofs.Settling.{free-model, free-consistent}
 use Rattle.compare.specs.Joint.{pieces, same, has, jointRun, laid, eitherMarked}
 use Rattle.compare.specs.Judging.{Layable}

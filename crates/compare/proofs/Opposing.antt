@@ -28,11 +28,11 @@ use Rattle.records.proofs.Keeps.{picked-among}
 use Rattle.records.proofs.Accepted.{accepted}
 use Rattle.records.proofs.Orders.{Found, found-before, found-behind, facts-found}
 use Rattle.records.proofs.Marks.{marked-append}
-use Rattle.answers.specs.Call as calls
+use Rattle.outcomes.specs.Call as calls
 use Rattle.answering.specs.Claimed.{claimed, pickedFacts}
-use Rattle.answers.specs.Call.{byRuns}
-use Rattle.answers.specs.Fresh.{freshCall}
-use Rattle.answers.proofs.Counts.{claim-within}
+use Rattle.outcomes.specs.Call.{byRuns}
+use Rattle.outcomes.specs.Fresh.{freshCall}
+use Rattle.outcomes.proofs.Counts.{claim-within}
 use Rattle.compare.specs.declared.Comparison.the-variants.{Compared}
 use Rattle.compare.specs.Joint.{pieces, same, has, jointRun, laid}
 use Rattle.compare.specs.Answers.{agreement, answerOf, threes, bytesOf}

@@ -30,16 +30,16 @@ use Rattle.records.proofs.Accepted.{accepted, accepted-within, accepted-positiv
 use Rattle.records.proofs.Marks.{accepted-whole-unmarked}
 use Rattle.groups.specs.Index.{bookVisits}
 use Rattle.index.specs.Parts as parts
-use Rattle.answers.specs.Call as calls
+use Rattle.outcomes.specs.Call as calls
 use Rattle.answering.specs.Claimed.{answersTo, claimed, pickedFacts}
-use Rattle.answers.specs.Call.{pairsOf, byRuns}
-use Rattle.answers.specs.Fresh.{freshCall}
-use Rattle.answers.specs.Lent.{Lent}
+use Rattle.outcomes.specs.Call.{pairsOf, byRuns}
+use Rattle.outcomes.specs.Fresh.{freshCall}
+use Rattle.outcomes.specs.Lent.{Lent}
 use Rattle.answers.specs.Judging as judging
-use Rattle.answering.specs.Counted.{Counted}
-use Rattle.answers.specs.declared.Outcome.{Outcome}
-use Rattle.answers.specs.declared.Outcome.the-variants as on
-use Rattle.answers.proofs.Buffers.{front-whole}
+use Rattle.storing.specs.Counted.{Counted}
+use Rattle.outcomes.specs.declared.Outcome.{Outcome}
+use Rattle.outcomes.specs.declared.Outcome.the-variants as on
+use Rattle.outcomes.proofs.Buffers.{front-whole}
 use Rattle.compare.specs.declared.Comparison.{Comparison}
 use Rattle.compare.specs.declared.Comparison.the-variants.{Compared, Refused}
 use Rattle.compare.specs.Joint.{pieces, laid}

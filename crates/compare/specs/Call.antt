@@ -11,9 +11,9 @@ use Rattle.records.specs.Check.{claimsCheck}
 use Rattle.records.specs.declared.Refusal.the-variants.{ShortBuffer}
 use Rattle.records.specs.declared.ClaimsCheck.{ClaimsCheck}
 use Rattle.records.specs.declared.ClaimsCheck.the-variants as claims
-use Rattle.answers.specs.Fresh.{freshCall}
-use Rattle.answers.specs.declared.Outcome.{Outcome}
-use Rattle.answers.specs.declared.Outcome.the-variants as on
+use Rattle.outcomes.specs.Fresh.{freshCall}
+use Rattle.outcomes.specs.declared.Outcome.{Outcome}
+use Rattle.outcomes.specs.declared.Outcome.the-variants as on
 use Rattle.compare.specs.declared.Comparison.{Comparison}
 use Rattle.compare.specs.declared.Comparison.the-variants.{Compared, Refused}
 use Rattle.compare.specs.Joint.{pieces, laid}

@@ -11,7 +11,7 @@ use Rattle.records.specs.Marked.{marked}
 use Rattle.records.specs.Check.{bookCheck}
 use Rattle.records.specs.declared.BookCheck.the-variants as on
 use Rattle.answering.specs.Claimed.{claimed, pickedFacts}
-use Rattle.answers.specs.Demands.{Derived, Entailed}
+use Rattle.outcomes.specs.Demands.{Derived, Entailed}
 use Rattle.compare.specs.declared.Comparison.{Comparison}
 use Rattle.compare.specs.Joint.{pieces, eitherMarked}
 use Rattle.compare.specs.Answers.{agreement}

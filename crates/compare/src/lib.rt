@@ -10,12 +10,12 @@ ghost use Rattle.rules.specs.Follows.{clash};
 ghost use Rattle.records.specs.Record.{records};
 ghost use Rattle.records.specs.Facts.{facts};
 ghost use Rattle.records.specs.Marked.{marked};
-ghost use Rattle.answers.specs.Fresh.{freshCall};
+ghost use Rattle.outcomes.specs.Fresh.{freshCall};
 ghost use Rattle.compare.specs.Answers.{agreement, threes};
 ghost use Rattle.compare.specs.Call.{byBook, Determined};
 ghost use Rattle.compare.specs.Demands.{Demanded};
 ghost use Rattle.compare.specs.Judging.{Together, Joins, Layable, Answerable, Answered, Sound, Ready, Judged};
-use answers::Outcome;
+use outcomes::Outcome;
 use records::BookCheck;
 use records::ClaimsCheck;
 use records::Refusal;
@@ -103,8 +103,8 @@ fn can_be_laid(
     ensures { λ r. ⌜ r ≡ not (clash (marked (now (run .entry))) n (facts (now (run .entry)))) ⌝ }
 {
     let mut voids = [0u64; 32];
-    closure::marking::mark_voids(run, &mut voids);
-    !settling::contradicts(run, n, &voids, e, d, t)
+    storing::marking::mark_voids(run, &mut voids);
+    !opening::contradicts(run, n, &voids, e, d, t)
 }
 
 // Row 14 of a book and its answers, among n pieces. The matrices are scratch.
@@ -202,7 +202,7 @@ fn check_asked(
     requires { ⌜ Sound (now first) own (now second) count (now run) (now claims) (length (now out)) ⌝ }
     ensures { λ r. ⌜ Judged (now (first .entry)) (now (second .entry)) (now (claims .entry)) (now (out .entry)) r (now (out .exit)) ⌝ }
 {
-    let fit = records::check_claims(claims, larger(own, count));
+    let fit = checks::check_claims(claims, larger(own, count));
     match fit {
         ClaimsCheck::Refused(refusal, place) => {
             let rest = after(2, second, Comparison::Refused(0, refusal, place));
@@ -232,11 +232,11 @@ fn check_books(first: &[u8], second: &[u8], run: &[u8], claims: &[u8], out: &mut
     requires { ⌜ Together (now first) (now second) (now run) × (3 * records (now claims) ≤ length (now out)) ⌝ }
     ensures { λ r. ⌜ Judged (now (first .entry)) (now (second .entry)) (now (claims .entry)) (now (out .entry)) r (now (out .exit)) ⌝ }
 {
-    let checked = records::check_book(first);
+    let checked = checks::check_book(first);
     match checked {
         BookCheck::Refused(refusal, place) => Comparison::Refused(1, refusal, place),
         BookCheck::Accepted(own) => {
-            let other = records::check_book(second);
+            let other = checks::check_book(second);
             match other {
                 BookCheck::Refused(refusal, place) => {
                     after(1, first, Comparison::Refused(2, refusal, place))

@@ -1,8 +1,2 @@
-pub mod Contains
-pub mod Lent
-pub mod Siblings
-pub mod Seeds
-pub mod Rows
 pub mod Pieces
 pub mod Ends
-pub mod Table

@@ -24,11 +24,11 @@ use Rattle.records.specs.declared.BookCheck.the-variants as book
 use Rattle.records.specs.declared.ClaimsCheck.the-variants as claims
 use Rattle.records.proofs.Accepted.{accepted-claims}
 use Rattle.settling.proofs.Settling.{settleable, whole-unmarked, free-beyond}
-use Rattle.answers.specs.Lent.{Lent, shortLent}
+use Rattle.outcomes.specs.Lent.{Lent, shortLent}
 use Rattle.answering.specs.Claimed.{pickedFacts, claimed, answersTo}
-use Rattle.answers.specs.Call.{byRuns, outcome, Passed}
-use Rattle.answers.specs.Outcome.{number}
-use Rattle.answers.proofs.Outcomes.{passed-outcome}
+use Rattle.outcomes.specs.Call.{byRuns, outcome, Passed}
+use Rattle.outcomes.specs.Outcome.{number}
+use Rattle.outcomes.proofs.Outcomes.{passed-outcome}
 use Rattle.convert.specs.Same.{InForce, SameAnswers}
 use Rattle.convert.proofs.Markless.{former-markless}
 

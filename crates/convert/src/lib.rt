@@ -1,6 +1,6 @@
 // The converter: a book of the former edition written without its TRAY records.
 ghost use mathlib.Core.Path.{_≡_};
-ghost use Prim.Native.Nat.{ℕ, _<_, _≤_};
+ghost use Prim.Native.Nat.{_<_, _≤_};
 ghost use lib.ListN.{length};
 ghost use Rattle.lists.specs.Front.{front};
 ghost use Rattle.convert.specs.Converted.{noTrays, converted};
@@ -78,7 +78,7 @@ pub fn convert(book: &[u8], out: &mut [u8]) -> Conversion
     if out.len() < book.len() {
         return Conversion::Refused(Refusal::ShortBuffer, 0);
     }
-    let checked = records::check_former(book);
+    let checked = checks::check_former(book);
     match checked {
         BookCheck::Refused(refusal, place) => Conversion::Refused(refusal, place),
         BookCheck::Accepted(n) => {

@@ -16,24 +16,24 @@ use Rattle.records.specs.Record.{recordAt, records}
 use Rattle.records.specs.Facts.{facts}
 use Rattle.records.specs.Kept.{picked}
 use Rattle.records.specs.Marked.{marks, marked}
-use Rattle.closure.specs.Void.{voidOf}
-use Rattle.chain_steps.specs.declared.Step.{Step}
-use Rattle.chain_steps.specs.Step.{stepAt, showing, shows}
-use Rattle.chain_steps.specs.Citing.{citing, none, marksPiece, marksSome}
+use Rattle.storing.specs.Void.{voidOf}
+use Rattle.steps.specs.declared.Step.{Step}
+use Rattle.steps.specs.Step.{stepAt, showing, shows}
+use Rattle.steps.specs.Citing.{citing, none, marksPiece, marksSome}
 use Rattle.chain_steps.specs.Chain.{allOk}
 use Rattle.chain_steps.proofs.Showing.{straight, ends-show}
-use Rattle.chain_steps.proofs.Citings.{marks-same}
+use Rattle.steps.proofs.Citings.{marks-same}
 use Rattle.derivations.specs.declared.search.Aim.the-variants.{Apart, Meets, NotPart, Outside}
 use Rattle.derivations.specs.declared.search.Witness.{Witness}
 use Rattle.derivations.specs.declared.search.Meeting.{Meeting}
 use Rattle.derivations.specs.Aim.{joining, serving}
-use Rattle.derivations.specs.Written.{Put}
-use Rattle.derivations.specs.Shown.{Writes}
-use Rattle.derivations.specs.Lifts.{Inside, Grounded}
+use Rattle.part_steps.specs.Written.{Put}
+use Rattle.showing.specs.Shown.{Writes}
+use Rattle.showing.specs.Lifts.{Inside, Grounded}
 use Rattle.derivations.specs.Found.{Found, Ground, Witnessed, Met, Voided, Chained}
-use Rattle.derivations.proofs.Carries.{saying, as-said, itself-grounded, void-grounded, empty-grounded}
-use Rattle.derivations.proofs.Joining.{justified-d′}
-use Rattle.derivations.proofs.Composed.{still-shown, put-shown, writes-one, writes-after, writes-put}
+use Rattle.showing.proofs.Carries.{saying, as-said, itself-grounded, void-grounded, empty-grounded}
+use Rattle.showing.proofs.Joining.{justified-d′}
+use Rattle.showing.proofs.Composed.{still-shown, put-shown, writes-one, writes-after, writes-put}
 use Rattle.derivations.proofs.Grounds.{book-ok, small, bit-inside, common-meets, writes-follows, marks-cited, found-mark, meets-none}
 
 module _ {n : ℕ} {claim : Record} {s voids e d t : List ℕ} (G : Ground n claim s voids e d t) where

@@ -28,26 +28,26 @@ use Rattle.records.specs.Marked.{marks, marked}
 use Rattle.records.proofs.Keeps.{picked-among}
 use Rattle.records.proofs.Marks.{marks-from, marks-here, marked-from}
 use Rattle.records.proofs.Accepted.{AcceptedBook, accepted, accepted-within, accepted-positive, accepted-pieces, says-kind, says-left, says-right}
-use Rattle.closure.specs.Void.{voidOf}
-use Rattle.closure.specs.Bounded.{Bounded}
-use Rattle.closure.specs.Stored.{storedBit, edgeBit}
-use Rattle.closure.specs.Closed.{Holds, partBit}
-use Rattle.closure.specs.ByMarks.{byMarks}
-use Rattle.closure.proofs.StoredBits.{swapped-hit}
-use Rattle.closure.proofs.Answering.{part-told, meets-told}
-use Rattle.settling.proofs.Settling.{whole-unmarked}
-use Rattle.chain_steps.specs.Step.{stepAt, unordered, shows}
-use Rattle.chain_steps.specs.Citing.{fact, none, lets, citing, marksPiece}
+use Rattle.storing.specs.Void.{voidOf}
+use Rattle.storing.specs.Bounded.{Bounded}
+use Rattle.storing.specs.Stored.{storedBit, edgeBit}
+use Rattle.storing.specs.Closed.{Holds, partBit}
+use Rattle.verdicts.specs.ByMarks.{byMarks}
+use Rattle.storing.proofs.StoredBits.{swapped-hit}
+use Rattle.verdicts.proofs.Answering.{part-told, meets-told}
+use Rattle.records.proofs.Marks.{accepted-whole-unmarked}
+use Rattle.steps.specs.Step.{stepAt, unordered, shows}
+use Rattle.steps.specs.Citing.{fact, none, lets, citing, marksPiece}
 use Rattle.chain_steps.proofs.Passing.{all-none}
-use Rattle.chain_steps.proofs.Citings.{citing-says, cited-picked, picked-cited, marked-cited}
+use Rattle.steps.proofs.Citings.{citing-says, cited-picked, picked-cited, marked-cited}
 use Rattle.chain_steps.proofs.Sound.{shown-derives}
 use Rattle.chain_steps.proofs.Givens.{given}
 use Rattle.derivations.specs.declared.search.Aim.{Aim}
 use Rattle.derivations.specs.declared.search.Aim.the-variants.{Apart, Meets, NotPart, Outside}
 use Rattle.derivations.specs.Aim.{kindFor, joining, serving}
-use Rattle.derivations.specs.Sources.{Stepped}
-use Rattle.derivations.specs.Lifts.{Setting, Inside}
-use Rattle.derivations.specs.Shown.{Writes}
+use Rattle.part_steps.specs.Sources.{Stepped}
+use Rattle.showing.specs.Lifts.{Setting, Inside}
+use Rattle.showing.specs.Shown.{Writes}
 use Rattle.derivations.specs.Found.{Ground, Found}
 
 -- a search for a mark that is there finds it
@@ -87,7 +87,7 @@ module _ {n : ℕ} {claim : Record} {s voids e d t : List ℕ} (G : Ground n cla
   bounded = record { some = positive; fits = small; within = within }
 
   bare : marked s 0 ≡ false
-  bare = whole-unmarked s n (G .sound)
+  bare = accepted-whole-unmarked (accepted s n (G .sound))
 
   -- ---- the steps of containment
 

@@ -1,15 +1,3 @@
-pub mod Extending
-pub mod Puts
-pub mod Hopping
-pub mod Climbing
-pub mod Queues
-pub mod Spreads
-pub mod Sourcing
-pub mod Linked
-pub mod Joining
-pub mod Composed
-pub mod Lifting
-pub mod Carries
 pub mod Searching
 pub mod Grounds
 pub mod Serving

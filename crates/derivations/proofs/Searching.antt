@@ -6,7 +6,7 @@ use mathlib.Core.List.{List}
 use native.Mathlib.Omega.{arith}
 use native.Mathlib.Decide.{ℕ-discrete}
 use Rattle.relation.specs.Matrix.{bitOf}
-use Rattle.closure.specs.Void.{voidOf}
+use Rattle.storing.specs.Void.{voidOf}
 use Rattle.derivations.specs.Found.{Found}
 
 -- no place below i passes

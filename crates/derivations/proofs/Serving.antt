@@ -16,19 +16,19 @@ use Rattle.records.specs.declared.Record.{Record}
 use Rattle.records.specs.Record.{recordAt, records}
 use Rattle.records.specs.Pieces.{stated}
 use Rattle.records.proofs.Accepted.{accepted-within}
-use Rattle.closure.proofs.Runs.{record-within}
-use Rattle.chain_steps.specs.declared.Step.{Step}
-use Rattle.chain_steps.specs.Step.{unordered, showing, shows}
-use Rattle.chain_steps.specs.Citing.{lets, citing, none}
-use Rattle.chain_steps.specs.Justified.{cites}
-use Rattle.chain_steps.proofs.Computed.{brings-fact}
+use Rattle.storing.proofs.Runs.{record-within}
+use Rattle.steps.specs.declared.Step.{Step}
+use Rattle.steps.specs.Step.{unordered, showing, shows}
+use Rattle.steps.specs.Citing.{lets, citing, none}
+use Rattle.steps.specs.Justified.{cites}
+use Rattle.steps.proofs.Computed.{brings-fact}
 use Rattle.derivations.specs.declared.search.Aim.{Aim}
 use Rattle.derivations.specs.declared.search.Aim.the-variants.{Apart, Meets, NotPart, Outside}
 use Rattle.derivations.specs.declared.search.Witness.{Witness}
 use Rattle.derivations.specs.Aim.{kindFor, joining, serving}
-use Rattle.derivations.specs.Lifts.{Grounded}
+use Rattle.showing.specs.Lifts.{Grounded}
 use Rattle.derivations.specs.Found.{Ground, Witnessed}
-use Rattle.derivations.proofs.Carries.{saying, as-said, turned-said, stored-grounded}
+use Rattle.showing.proofs.Carries.{saying, as-said, turned-said, stored-grounded}
 use Rattle.derivations.proofs.Grounds.{book-ok, small}
 
 -- ---- which pieces lead to the fact

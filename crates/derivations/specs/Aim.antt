@@ -5,8 +5,8 @@ use mathlib.Core.List.{List}
 use lib.Dec.{eqb}
 use Rattle.relation.specs.Matrix.{bitOf, common}
 use Rattle.records.specs.declared.Record.{Record}
-use Rattle.chain_steps.specs.Step.{unordered}
-use Rattle.chain_steps.specs.Citing.{lets}
+use Rattle.steps.specs.Step.{unordered}
+use Rattle.steps.specs.Citing.{lets}
 use Rattle.derivations.specs.declared.search.Aim.{Aim}
 use Rattle.derivations.specs.declared.search.Aim.the-variants.{Apart, Meets, NotPart, Outside}
 

@@ -12,18 +12,18 @@ use Rattle.records.specs.Record.{recordAt, records}
 use Rattle.records.specs.Marked.{marks, marked}
 use Rattle.records.specs.Check.{bookCheck}
 use Rattle.records.specs.declared.BookCheck.the-variants as book
-use Rattle.closure.specs.Stored.{edgeBit}
-use Rattle.closure.specs.Closed.{Holds, partBit, towardBit}
-use Rattle.answering.specs.Counted.{MarksOf}
-use Rattle.chain_steps.specs.Step.{showing}
-use Rattle.chain_steps.specs.Citing.{Cited, citing}
+use Rattle.storing.specs.Stored.{edgeBit}
+use Rattle.storing.specs.Closed.{Holds, partBit, towardBit}
+use Rattle.storing.specs.Counted.{MarksOf}
+use Rattle.steps.specs.Step.{showing}
+use Rattle.steps.specs.Citing.{Cited, citing}
 use Rattle.derivations.specs.declared.search.Aim.{Aim}
 use Rattle.derivations.specs.declared.search.Witness.{Witness}
 use Rattle.derivations.specs.declared.search.Meeting.{Meeting}
 use Rattle.derivations.specs.Aim.{kindFor, joining}
-use Rattle.derivations.specs.Lifts.{Inside, Grounded}
-use Rattle.derivations.specs.Written.{Put}
-use Rattle.derivations.specs.Shown.{Writes}
+use Rattle.showing.specs.Lifts.{Inside, Grounded}
+use Rattle.part_steps.specs.Written.{Put}
+use Rattle.showing.specs.Shown.{Writes}
 
 -- a place below m that passes, or m where none does
 pub record Found (test : ℕ → Bool) (m r : ℕ) : Type 0 where

@@ -1,9 +1,2 @@
 pub mod Aim
-pub mod Climbs
 pub mod Found
-pub mod Hops
-pub mod Lifts
-pub mod Queue
-pub mod Shown
-pub mod Sources
-pub mod Written

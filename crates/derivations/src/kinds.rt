@@ -10,8 +10,8 @@ ghost use Rattle.derivations.specs.Aim.{serving};
 ghost use Rattle.derivations.specs.declared.search.Aim.the-variants.{Outside};
 ghost use Rattle.derivations.specs.Found.{Ground, Voided, Chained};
 use crate::search::Aim;
-use chain_steps::Step;
 use records::Record;
+use steps::Step;
 
 // a PART b: by a mark of a, or along stored PARTs.
 fn chain_part(
@@ -31,7 +31,7 @@ fn chain_part(
 {
     if relation::has(voids, a) {
         let i = crate::search::find_mark(book, a);
-        crate::writing::put_step(
+        part_steps::writing::put_step(
             c,
             0,
             Step {
@@ -48,7 +48,7 @@ fn chain_part(
     if !relation::test(d, b, a) {
         return 0;
     }
-    crate::facts::show_part(book, n, claim, e, a, b, c, 0)
+    showing::show_part(book, n, claim, e, a, b, c, 0)
 }
 
 // The step a APART b by a mark of g, which is a or b.
@@ -57,7 +57,7 @@ fn void_step(book: &[u8], g: usize, a: usize, b: usize, c: &mut [u8]) -> usize
     ensures { λ r. ⌜ Voided (now (book .entry)) g a b (now (c .entry)) (now (c .exit)) r ⌝ }
 {
     let i = crate::search::find_mark(book, g);
-    crate::writing::put_step(
+    part_steps::writing::put_step(
         c,
         0,
         Step {
@@ -100,7 +100,7 @@ fn chain_apart(
     }
     let w = crate::search::cite_record(Aim::Apart, n, claim, book, voids, e, d, t, a, b, i);
     let step = w.step;
-    crate::facts::show_apart(book, n, claim, e, step, w.x, w.y, a, b, c, 0)
+    showing::show_apart(book, n, claim, e, step, w.x, w.y, a, b, c, 0)
 }
 
 // a MEETS b: by a common part, or by a stored MEETS.
@@ -124,7 +124,7 @@ fn chain_meets(
         return 0;
     }
     let step = w.step;
-    crate::facts::show_meets(book, n, claim, e, step, w.x, w.y, a, b, c, 0)
+    showing::show_meets(book, n, claim, e, step, w.x, w.y, a, b, c, 0)
 }
 
 // a NOTPART b of a piece that is not marked and one that is: a MEETS a, b APART a, and rule (d').
@@ -144,7 +144,7 @@ fn chain_outside_void(
     ensures { λ r. ⌜ Chained n claim (now (book .entry)) (fact.NOTPART a b) (now (c .entry)) (now (c .exit)) r ⌝ }
 {
     let i = crate::search::find_mark(book, b);
-    crate::writing::put_step(
+    part_steps::writing::put_step(
         c,
         0,
         Step {
@@ -156,7 +156,7 @@ fn chain_outside_void(
             second: 0,
         },
     );
-    crate::writing::put_step(
+    part_steps::writing::put_step(
         c,
         1,
         Step {
@@ -168,7 +168,7 @@ fn chain_outside_void(
             second: 0,
         },
     );
-    crate::writing::put_step(
+    part_steps::writing::put_step(
         c,
         2,
         Step {
@@ -208,7 +208,7 @@ fn chain_outside(
     }
     let apart = u.step;
     let meets = w.step;
-    crate::facts::show_outside(
+    showing::show_outside(
         book,
         n,
         claim,
@@ -242,7 +242,7 @@ fn chain_notpart(
     requires { ⌜ Ground n claim (now book) (now voids) (now e) (now d) (now t) × (a < n) × (b < n) × (164000 ≤ length (now c)) ⌝ }
     ensures { λ r. ⌜ Chained n claim (now (book .entry)) (fact.NOTPART a b) (now (c .entry)) (now (c .exit)) r ⌝ }
 {
-    if closure::marks_tell(4, a, b, voids) {
+    if verdicts::marks_tell(4, a, b, voids) {
         return chain_outside_void(n, claim, book, voids, e, d, t, a, b, c);
     }
     let m = book.len() / 6;
@@ -250,7 +250,7 @@ fn chain_notpart(
     if i < m {
         let w = crate::search::cite_record(Aim::NotPart, n, claim, book, voids, e, d, t, a, b, i);
         let step = w.step;
-        return crate::facts::show_notpart(book, n, claim, e, step, w.x, w.y, a, b, c, 0);
+        return showing::show_notpart(book, n, claim, e, step, w.x, w.y, a, b, c, 0);
     }
     let j = crate::search::find_record(Aim::Outside, claim, book, d, t, a, b);
     if m <= j {

@@ -1,19 +1,19 @@
 // The searches for what a chain begins with: a record that leads to the fact, a mark, a common piece.
 ghost use mathlib.Core.Path.{_≡_};
 ghost use mathlib.Core.Bool.{true, not, _&&_};
-ghost use Prim.Native.Nat.{ℕ, _+_, _*_, _<_, _≤_};
-ghost use lib.ListN.{length, getD};
+ghost use Prim.Native.Nat.{_+_, _<_, _≤_};
+ghost use lib.ListN.{length};
 ghost use Rattle.relation.specs.Matrix.{bitOf};
 ghost use Rattle.rules.specs.Fact.{AllWithin};
 ghost use Rattle.records.specs.Record.{recordAt, records};
 ghost use Rattle.records.specs.Facts.{facts};
-ghost use Rattle.records.specs.Marked.{marks, marked};
-ghost use Rattle.closure.specs.Void.{voidOf};
-ghost use Rattle.chain_steps.specs.Citing.{citing};
+ghost use Rattle.records.specs.Marked.{marks};
+ghost use Rattle.storing.specs.Void.{voidOf};
+ghost use Rattle.steps.specs.Citing.{citing};
 ghost use Rattle.derivations.specs.Aim.{kindFor, joining, serving};
 ghost use Rattle.derivations.specs.Found.{Found, Ground, Witnessed, Met};
-use chain_steps::Step;
 use records::Record;
+use steps::Step;
 
 // What a record is searched for: the three kinds of stored facts, and an APART that shows NOTPART by rule (d').
 pub enum Aim {
@@ -86,7 +86,7 @@ fn serves(aim: Aim, claim: Record, d: &[u64], t: &[u64], a: usize, b: usize, r: 
     if r.kind != kind_for(aim) {
         return false;
     }
-    if !chain_steps::lets(claim, r) {
+    if !steps::lets(claim, r) {
         return false;
     }
     if joins(aim, d, t, a, b, r.a, r.b) {

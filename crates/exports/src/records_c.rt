@@ -9,7 +9,7 @@ use records::BookCheck;
 pub extern "C" fn records_check_book(book: &[u8]) -> u8
     ensures { λ n. ⌜ n ≡ bookNumber (bookCheck (now (book .entry))) ⌝ }
 {
-    match records::check_book(book) {
+    match checks::check_book(book) {
         BookCheck::Accepted(_) => 0,
         BookCheck::Refused(refusal, _) => records::refusal_number(refusal),
     }

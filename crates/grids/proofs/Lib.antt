@@ -1,9 +1,4 @@
 -- What the proofs of several functions use.
-pub mod Rows
-pub mod Products
-pub mod Sweeps
-pub mod Rounds
-pub mod Growing
 pub mod Facts
 pub mod Agrees
 pub mod Puts

@@ -16,14 +16,14 @@ use Rattle.records.specs.declared.Refusal.{Refusal}
 use Rattle.records.specs.declared.Refusal.the-variants.{TooManyPieces}
 use Rattle.records.specs.declared.BookCheck.the-variants as book
 use Rattle.records.proofs.Accepted.{accepted, accepted-within, accepted-positive}
-use Rattle.closure.specs.Void.{voidOf}
-use Rattle.answers.specs.Fresh.{freshCall}
-use Rattle.answers.specs.declared.Outcome.{Outcome}
-use Rattle.answers.specs.declared.Outcome.the-variants.{Accepted, Refused}
-use Rattle.grids.specs.declared.Grids.{Grids}
-use Rattle.grids.specs.Grid.{bitAt}
+use Rattle.storing.specs.Void.{voidOf}
+use Rattle.outcomes.specs.Fresh.{freshCall}
+use Rattle.outcomes.specs.declared.Outcome.{Outcome}
+use Rattle.outcomes.specs.declared.Outcome.the-variants.{Accepted, Refused}
+use Rattle.rounds.specs.declared.Grids.{Grids}
+use Rattle.rounds.specs.Grid.{bitAt}
 use Rattle.grids.specs.Loaded.{Loadable}
-use Rattle.grids.specs.Closed.{holds}
+use Rattle.rounds.specs.Closed.{holds}
 use Rattle.grids.specs.Answers.{Answers}
 use Rattle.grids.specs.Sheet.{sized, bySize, gridOutcome, bitFor, Blank, Gridded}
 

@@ -5,13 +5,13 @@ use mathlib.Core.List.{List}
 use lib.Dec.{eqb}
 use lib.ListN.{getD}
 use Rattle.records.specs.Record.{recordAt, records}
-use Rattle.answers.specs.Lent.{Lent}
+use Rattle.outcomes.specs.Lent.{Lent}
 use Rattle.answering.specs.Claimed.{claimed}
-use Rattle.answers.specs.Call.{outcome, left}
-use Rattle.answers.specs.Outcome.{number}
-use Rattle.answers.specs.declared.Outcome.{Outcome}
-use Rattle.grids.specs.declared.Grids.{Grids}
-use Rattle.grids.specs.Closed.{holds}
+use Rattle.outcomes.specs.Call.{outcome, left}
+use Rattle.outcomes.specs.Outcome.{number}
+use Rattle.outcomes.specs.declared.Outcome.{Outcome}
+use Rattle.rounds.specs.declared.Grids.{Grids}
+use Rattle.rounds.specs.Closed.{holds}
 use Rattle.grids.specs.Sheet.{Gridded}
 
 -- where both calls accept the book, the bit of a claim on all facts is set exactly where the question call answers it by 1, FOLLOWS

@@ -1,5 +1,3 @@
-pub mod Grid
-pub mod Closed
 pub mod Loaded
 pub mod Answers
 pub mod Sheet

@@ -1,4 +1,3 @@
-mod Fits
 pub mod Lying
 pub mod Grouping
 pub mod Levels
@@ -7,8 +6,6 @@ pub mod Quotient
 pub mod Lower
 pub mod Examples
 mod Certificate
-mod Paths
-mod Steps
 mod Ranking
 mod Arranging
 mod Making

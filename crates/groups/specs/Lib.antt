@@ -2,5 +2,4 @@ pub mod Groups
 pub mod Index
 pub mod Grouped
 pub mod Same
-pub mod Search
 pub mod Ranks

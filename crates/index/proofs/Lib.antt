@@ -11,12 +11,11 @@ pub mod Packing
 pub mod Bounds
 pub mod Matrices
 pub mod Events
-mod Fits
+pub mod Fits
 mod Nexts
 mod Queue
 mod Rounds
 mod Written
-mod Walking
-mod Resolution
-mod Joins
-mod Buildings
+pub mod Walking
+pub mod Resolution
+pub mod Joins

@@ -7,7 +7,7 @@ use Prim.Native.Nat.{ℕ, _+_, _-_, _<_, _≤_}
 use lib.Dec.{eqb}
 use lib.ListN.{length, getD, take}
 use Rattle.lists.specs.Any.{anyBelow}
-use Rattle.parentheses.specs.Bits.{bits}
+use Rattle.packed.specs.Bits.{bits}
 use Rattle.lists.specs.Tally.{num}
 use Rattle.relation.specs.Matrix.{bitOf}
 use Rattle.lists.specs.Numbers.{range, keep}

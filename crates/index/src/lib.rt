@@ -1,24 +1,17 @@
-// The index of a book, from the matrix of its pairs into four lent parts.
+// The index of a book: pieces and places, the parent of each piece, and the places of pieces from those of their groups.
 ghost use mathlib.Core.Path.{_≡_};
 ghost use Prim.Native.Nat.{ℕ, _+_, _-_, _<_, _≤_};
-ghost use lib.ListN.{length, getD, set, replicate};
+ghost use lib.ListN.{length, getD, replicate};
 ghost use Rattle.lists.specs.Tab.{tab};
 ghost use Rattle.parentheses.specs.Padded.{padded};
-ghost use Rattle.index.specs.Pairs.{joined};
-ghost use Rattle.index.specs.Index.{Indexed};
-ghost use Rattle.index.specs.Matrix.{pairOf, Buildable, Completed};
-ghost use Rattle.index.specs.Steps.{Marked, Held, Joinable, Sized, unmet, Spread, Parented, Zero, Walkable, Walked, Resolvable, Resolved};
+ghost use Rattle.index.specs.Matrix.{pairOf};
+ghost use Rattle.index.specs.Steps.{Marked, Held, Sized, unmet, Spread, Parented, Zero, Resolvable, Resolved};
 
 // A piece's number.
 pub struct DatasetId(pub usize);
 
 // A node's place in the tree, counted depth first.
 pub struct TreeId(pub usize);
-
-pub struct Counts {
-    pub nodes: usize,
-    pub shadows: usize,
-}
 
 pub fn wide(x: u16) -> usize
     ensures { λ r. ⌜ r ≡ x ⌝ }
@@ -42,12 +35,13 @@ pub fn place_of(places: &[u16], g: DatasetId) -> TreeId
     TreeId(wide(places[i]))
 }
 
-pub fn clear(list: &mut [u16])
-    ensures { λ _. ⌜ now (list .exit) ≡ replicate (length (now (list .entry))) 0 ⌝ }
+// Every number becomes v.
+pub fn fill(list: &mut [u16], v: u16)
+    ensures { λ _. ⌜ now (list .exit) ≡ replicate (length (now (list .entry))) v ⌝ }
 {
     let mut done: usize = 0;
     while done < list.len() {
-        list[done] = 0;
+        list[done] = v;
         done += 1;
     }
 }
@@ -65,7 +59,7 @@ fn mark_parts(edges: &[u64], c: usize, held: &mut [u16; 2048])
 }
 
 // Marks the pieces that are somebody's part.
-fn mark_held(n: usize, edges: &[u64], held: &mut [u16; 2048])
+pub fn mark_held(n: usize, edges: &[u64], held: &mut [u16; 2048])
     requires { ⌜ (n ≤ 2048) × (length (now edges) ≡ 65536) × (length (now held) ≡ 2048) × Zero (now held) ⌝ }
     ensures { λ _. ⌜ Held n (now (edges .entry)) (now (held .exit)) ⌝ }
 {
@@ -73,22 +67,6 @@ fn mark_held(n: usize, edges: &[u64], held: &mut [u16; 2048])
     while c < n {
         mark_parts(edges, c, held);
         c += 1;
-    }
-}
-
-// Joins each piece but 0 that is nobody's part to 0.
-fn join(n: usize, edges: &mut [u64], held: &[u16; 2048])
-    requires { ⌜ (n ≤ 2048) × (0 < n) × (length (now edges) ≡ 65536) × Held n (now edges) (now held) ⌝ }
-    ensures { λ _. ⌜ Completed n (now (edges .entry)) (now (edges .exit)) ⌝ }
-{
-    let mut p: usize = 1;
-    while p < n {
-        if held[p] == 0 {
-            relation::insert(edges, 0, p);
-            p += 1;
-            continue;
-        }
-        p += 1;
     }
 }
 
@@ -120,7 +98,7 @@ fn spread(
 }
 
 // The parent of each piece but 0, breadth first from 0. 2048 stands for none yet.
-fn find_parents(n: usize, edges: &[u64]) -> [u16; 2048]
+pub fn find_parents(n: usize, edges: &[u64]) -> [u16; 2048]
     requires { ⌜ Sized n (now edges) 2048 2048 ⌝ }
     ensures { λ r. ⌜ Parented n (pairOf n (now (edges .entry))) r ⌝ }
 {
@@ -136,61 +114,8 @@ fn find_parents(n: usize, edges: &[u64]) -> [u16; 2048]
     parent
 }
 
-// The four parts, into parts that are zero, depth first. The shadow list has the number of each shadow's piece yet, as the piece's node
-// may come later. Piece 0 has place 0 already.
-fn walk(
-    n: usize,
-    edges: &[u64],
-    parent: &[u16; 2048],
-    parens: &mut [u8],
-    marks: &mut [u8],
-    shadows: &mut [u16],
-    places: &mut [u16],
-) -> Counts
-    requires { ⌜ Walkable n (now edges) (now parent) (length (now parens)) (length (now marks)) (length (now shadows)) (length (now places)) × Zero (now parens) × Zero (now marks) × Zero (now shadows) × Zero (now places) ⌝ }
-    ensures { λ r. ⌜ Walked n (pairOf n (now (edges .entry))) (now (parens .exit)) (now (marks .exit)) (now (shadows .exit)) (now (places .exit)) (r .nodes) (r .shadows) ⌝ }
-{
-    parentheses::put(parens, 0);
-    let mut c = DatasetId(0);
-    let mut from: usize = 1;
-    let mut at: usize = 1;
-    let mut k = TreeId(1);
-    let mut m: usize = 0;
-    loop {
-        let p = relation::next_bit(edges, c.0, from);
-        if p < n {
-            parentheses::put(parens, at);
-            if wide(parent[p]) == c.0 {
-                places[p] = narrow(k.0);
-                at += 1;
-                k = TreeId(k.0 + 1);
-                c = DatasetId(p);
-                from = 1;
-            } else {
-                parentheses::put(marks, k.0);
-                shadows[m] = narrow(p);
-                at += 2;
-                k = TreeId(k.0 + 1);
-                m += 1;
-                from = p + 1;
-            }
-        } else {
-            if c.0 == 0 {
-                return Counts {
-                    nodes: k.0,
-                    shadows: m,
-                };
-            }
-            at += 1;
-            let done = c.0;
-            from = done + 1;
-            c = DatasetId(wide(parent[done]));
-        }
-    }
-}
-
 // Each shadow's piece gives way to its place.
-fn resolve(shadows: &mut [u16], places: &[u16], m: usize)
+pub fn resolve(shadows: &mut [u16], places: &[u16], m: usize)
     requires { ⌜ Resolvable (now shadows) (now places) m ⌝ }
     ensures { λ _. ⌜ Resolved (now (shadows .entry)) (now (places .entry)) m (now (shadows .exit)) ⌝ }
 {
@@ -203,47 +128,12 @@ fn resolve(shadows: &mut [u16], places: &[u16], m: usize)
     }
 }
 
-// Puts the joins into row 0, and then finds the parents.
-fn complete(n: usize, edges: &mut [u64]) -> [u16; 2048]
-    requires { ⌜ Joinable n (now edges) ⌝ }
-    ensures { λ r. ⌜ Completed n (now (edges .entry)) (now (edges .exit)) × Parented n (pairOf n (now (edges .exit))) r ⌝ }
-{
-    let mut held = [0u16; 2048];
-    mark_held(n, edges, &mut held);
-    join(n, edges, &held);
-    find_parents(n, edges)
-}
-
-// Writes the index of the book whose pairs are in `edges` into the four lent parts, and the joins into `edges`.
-pub fn build(
-    n: usize,
-    edges: &mut [u64],
-    parens: &mut [u8],
-    marks: &mut [u8],
-    shadows: &mut [u16],
-    places: &mut [u16],
-) -> Counts
-    requires { ⌜ Buildable n (now edges) (length (now parens)) (length (now marks)) (length (now shadows)) (length (now places)) ⌝ }
-    ensures index { λ r. ⌜ Indexed n (joined n (pairOf n (now (edges .entry)))) (now (parens .exit)) (now (marks .exit)) (now (shadows .exit)) (now (places .exit)) (r .nodes) (r .shadows) ⌝ }
-    ensures joins { λ _. ⌜ Completed n (now (edges .entry)) (now (edges .exit)) ⌝ }
-{
-    let parent = complete(n, edges);
-    parentheses::clear(parens);
-    parentheses::clear(marks);
-    clear(shadows);
-    clear(places);
-    let counts = walk(n, edges, &parent, parens, marks, shadows, places);
-    let m = counts.shadows;
-    resolve(shadows, places, m);
-    counts
-}
-
 // Gives each piece below n the place of its group.
 pub fn place_members(n: usize, number: &[u16], groups: &[u16], places: &mut [u16])
     requires { ⌜ (n ≤ length (now number)) × (n ≤ length (now places)) × ((g : ℕ) → g < n → getD (now number) g 0 < length (now groups)) ⌝ }
     ensures { λ _. ⌜ now (places .exit) ≡ padded 0 (length (now (places .entry))) (tab (λ g. getD (now (groups .entry)) (getD (now (number .entry)) g 0) 0) 0 n) ⌝ }
 {
-    clear(places);
+    fill(places, 0);
     let mut g: usize = 0;
     while g < n {
         let k = wide(number[g]);

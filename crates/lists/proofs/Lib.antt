@@ -10,3 +10,4 @@ pub mod Tallies
 pub mod Sums
 pub mod Passed
 pub mod Bounds
+pub mod Bytes

@@ -1,14 +1,9 @@
-pub mod Masks
-pub mod Packed
 pub mod Unpacked
 pub mod Paddeds
-pub mod Ranks
 pub mod Rankings
 pub mod Founds
 pub mod Selects
 pub mod Excesses
-pub mod Lanes
-pub mod Margins
 pub mod Closes
 pub mod Encloses
 pub mod Subtrees

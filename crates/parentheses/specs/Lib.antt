@@ -1,12 +1,7 @@
-pub mod Bits
 pub mod Padded
-pub mod Rank
 pub mod Ranked
-pub mod Close
 pub mod Search
 pub mod Subtree
 pub mod Enclose
 pub mod Found
-pub mod Tables
-pub mod Words
 pub mod Forest

@@ -2,7 +2,7 @@
 use Prim.Native.Nat.{ℕ}
 use mathlib.Core.Path.{ap, _∙_}
 use mathlib.Core.List.{List}
-use Rattle.answers.specs.Outcome.{number, place}
+use Rattle.outcomes.specs.Outcome.{number, place}
 use Rattle.replicates.specs.Call.{handedBack, left, Determined}
 use Rattle.replicates.specs.declared.Window.{Window}
 use Rattle.replicates.specs.declared.Replicated.{Replicated}

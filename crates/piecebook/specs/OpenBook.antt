@@ -2,9 +2,9 @@
 use mathlib.Core.Path.{_≡_}
 use mathlib.Core.List.{List, [], _∷_}
 use Prim.Native.Nat.{ℕ}
-use Rattle.answers.specs.Outcome.{number, place}
-use Rattle.answers.specs.declared.Outcome.{Outcome}
-use Rattle.answers.specs.declared.Outcome.the-variants.{Accepted, Refused}
+use Rattle.outcomes.specs.Outcome.{number, place}
+use Rattle.outcomes.specs.declared.Outcome.{Outcome}
+use Rattle.outcomes.specs.declared.Outcome.the-variants.{Accepted, Refused}
 use Rattle.working.specs.declared.Working.{Working}
 use Rattle.working.specs.declared.Asked.{Asked}
 use Rattle.working.specs.Kept as on

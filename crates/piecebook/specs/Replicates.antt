@@ -3,7 +3,7 @@ use mathlib.Core.Path.{_≡_}
 use mathlib.Core.List.{List}
 use Prim.Native.Nat.{ℕ}
 use lib.ListN.{length}
-use Rattle.answers.specs.Outcome.{number, place}
+use Rattle.outcomes.specs.Outcome.{number, place}
 use Rattle.replicates.specs.Call.{outcome, handedBack, left}
 use Rattle.replicates.specs.declared.Window.{Window}
 use Rattle.piecebook.specs.declared.PiecebookReplicatesResult.{PiecebookReplicatesResult}

@@ -2,37 +2,8 @@
 ghost use lib.ListN.{length};
 ghost use Rattle.compare.specs.Call.{outcome};
 ghost use Rattle.compare.specs.Demands.{Demanded};
-ghost use Rattle.piecebook.specs.Compares.{Reported, Compares};
-use crate::wide;
-use compare::Comparison;
-
-// A comparison's outcome as include/piecebook.h has it.
-#[repr(C)]
-pub struct PiecebookComparison {
-    pub number: usize,
-    pub place: usize,
-    pub book: usize,
-    pub together: usize,
-}
-
-fn reported_of(comparison: Comparison) -> PiecebookComparison
-    ensures { λ r. ⌜ Reported comparison r ⌝ }
-{
-    match comparison {
-        Comparison::Compared(laid) => PiecebookComparison {
-            number: 0,
-            place: 0,
-            book: 0,
-            together: laid as usize,
-        },
-        Comparison::Refused(book, refusal, place) => PiecebookComparison {
-            number: wide(records::refusal_number(refusal)),
-            place,
-            book,
-            together: 0,
-        },
-    }
-}
+ghost use Rattle.results.specs.Compares.{Compares};
+use results::comparisons::PiecebookComparison;
 
 #[no_mangle]
 pub extern "C" fn piecebook_compare(
@@ -45,5 +16,5 @@ pub extern "C" fn piecebook_compare(
     ensures demanded { λ r. ⌜ Demanded (now (first .entry)) (now (second .entry)) (now (claims .entry)) (length (now (out .entry))) (now (out .exit)) (outcome (now (first .entry)) (now (second .entry)) (now (claims .entry)) (length (now (out .entry)))) ⌝ }
 {
     let comparison = compare::compare(first, second, claims, out);
-    reported_of(comparison)
+    results::comparisons::reported_of(comparison)
 }

@@ -1,62 +1,26 @@
 // The calls of include/piecebook.h: those of `answers`, `grids`, `working`, `convert`, `catalog`, `replicates`, `compare`, `chains` and `chain_writing`, with document 01's numbers for an outcome.
-pub mod catalogs;
-pub mod chain_calls;
-pub mod comparisons;
-
 ghost use mathlib.Core.Path.{_≡_};
 ghost use mathlib.Core.List.{[]};
-ghost use Rattle.answers.specs.Lent.{lent};
-ghost use Rattle.answers.specs.Demands.{Demand2, Demand3, Contradicted};
-ghost use Rattle.answers.specs.Fitting.{Fitting};
-ghost use Rattle.piecebook.specs.Exported.{Reported, Exported};
+ghost use Rattle.outcomes.specs.Lent.{lent};
+ghost use Rattle.outcomes.specs.Demands.{Demand2, Demand3, Contradicted};
+ghost use Rattle.outcomes.specs.Fitting.{Fitting};
+ghost use Rattle.results.specs.Exported.{Exported};
 ghost use Rattle.piecebook.specs.Sheeted.{Sheeted};
 ghost use Rattle.piecebook.specs.OpenBook.{Started, Added, Withdrawn, Answered, Replied, stateOf};
 ghost use Rattle.convert.specs.Converted.{converted};
 ghost use Rattle.convert.specs.Same.{InForce, SameAnswers};
-ghost use Rattle.piecebook.specs.Converts.{Told, Converts};
+ghost use Rattle.results.specs.Converts.{Converts};
 ghost use Rattle.piecebook.specs.Replicates.{Replicates};
-use answers::Outcome;
-use convert::Conversion;
+use outcomes::Outcome;
 use replicates::Window;
+use results::PiecebookConverted;
+use results::PiecebookResult;
 use working::Settled;
 use working::Working;
 
-// The outcome as include/piecebook.h has it.
-#[repr(C)]
-pub struct PiecebookResult {
-    pub number: usize,
-    pub place: usize,
-    pub pieces: usize,
-    pub nodes: usize,
-    pub shadows: usize,
-}
-
-fn wide(x: u8) -> usize
-    ensures { λ r. ⌜ r ≡ x ⌝ }
-{
-    x as usize
-}
-
-fn result_of(outcome: Outcome) -> PiecebookResult
-    ensures { λ r. ⌜ Reported outcome r ⌝ }
-{
-    match outcome {
-        Outcome::Accepted(pieces, nodes, shadows) => PiecebookResult {
-            number: 0,
-            place: 0,
-            pieces,
-            nodes,
-            shadows,
-        },
-        Outcome::Refused(refusal, place) => PiecebookResult {
-            number: wide(records::refusal_number(refusal)),
-            place,
-            pieces: 0,
-            nodes: 0,
-            shadows: 0,
-        },
-    }
-}
+pub mod catalogs;
+pub mod chain_calls;
+pub mod comparisons;
 
 #[no_mangle]
 pub extern "C" fn piecebook_answer(
@@ -75,7 +39,7 @@ pub extern "C" fn piecebook_answer(
     ensures fitting { λ r. ⌜ Fitting (now (book .entry)) (r .number) (r .nodes) ⌝ }
 {
     let outcome = answers::answer_claims(book, claims, parens, marks, shadows, places, answers);
-    result_of(outcome)
+    results::result_of(outcome)
 }
 
 #[no_mangle]
@@ -93,7 +57,7 @@ pub extern "C" fn piecebook_index(
     ensures fitting { λ r. ⌜ Fitting (now (book .entry)) (r .number) (r .nodes) ⌝ }
 {
     let outcome = answers::write_index(book, parens, marks, shadows, places);
-    result_of(outcome)
+    results::result_of(outcome)
 }
 
 // The grids as include/piecebook.h has them.
@@ -118,7 +82,7 @@ pub extern "C" fn piecebook_grid(book: &[u8]) -> PiecebookGrids
     let apart = grids.apart;
     let meets = grids.meets;
     let notpart = grids.notpart;
-    let result = result_of(outcome);
+    let result = results::result_of(outcome);
     PiecebookGrids {
         number: result.number,
         place: result.place,
@@ -161,7 +125,7 @@ fn told(outcome: Outcome, answer: usize) -> PiecebookWorkingResult
             answer,
         },
         Outcome::Refused(refusal, place) => PiecebookWorkingResult {
-            number: wide(records::refusal_number(refusal)),
+            number: results::wide(records::refusal_number(refusal)),
             place,
             answer,
         },
@@ -211,7 +175,7 @@ pub fn ask_of(was: PiecebookWorking, area: &[u8], claim: &[u8]) -> PiecebookWork
 {
     let asked = working::ask_of(state_of(was), area, claim);
     let outcome = asked.outcome;
-    told(outcome, wide(asked.answer))
+    told(outcome, results::wide(asked.answer))
 }
 
 // The counts are lent as two numbers, which is how C lays them out. A refused start leaves them.
@@ -269,31 +233,6 @@ pub extern "C" fn piecebook_ask(
     ask_of(*state, area, claim)
 }
 
-// A conversion as include/piecebook.h has it.
-#[repr(C)]
-pub struct PiecebookConverted {
-    pub number: usize,
-    pub place: usize,
-    pub length: usize,
-}
-
-fn converted_of(conversion: Conversion) -> PiecebookConverted
-    ensures { λ r. ⌜ Told conversion r ⌝ }
-{
-    match conversion {
-        Conversion::Written(length) => PiecebookConverted {
-            number: 0,
-            place: 0,
-            length,
-        },
-        Conversion::Refused(refusal, place) => PiecebookConverted {
-            number: wide(records::refusal_number(refusal)),
-            place,
-            length: 0,
-        },
-    }
-}
-
 #[no_mangle]
 pub extern "C" fn piecebook_convert(book: &[u8], out: &mut [u8]) -> PiecebookConverted
     ensures converts { λ r. ⌜ Converts (now (book .entry)) (now (out .entry)) r (now (out .exit)) ⌝ }
@@ -301,7 +240,7 @@ pub extern "C" fn piecebook_convert(book: &[u8], out: &mut [u8]) -> PiecebookCon
     ensures same { λ r. ⌜ (r .number ≡ 0 → SameAnswers (now (book .entry)) (converted (now (book .entry)))) ⌝ }
 {
     let conversion = convert::convert(book, out);
-    converted_of(conversion)
+    results::converted_of(conversion)
 }
 
 // What a part of the measurement log comes to, as include/piecebook.h has it, and the window to hand to the next.

@@ -5,7 +5,6 @@ pub mod Rows
 pub mod Check
 pub mod Facts
 pub mod Key
-pub mod Met
 pub mod Kept
 pub mod Reordered
 pub mod Marked

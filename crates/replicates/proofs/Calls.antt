@@ -16,16 +16,17 @@ use Rattle.records.specs.Refusal.{scan}
 use Rattle.records.specs.declared.BookCheck.the-variants as book
 use Rattle.records.specs.declared.Refusal.{Refusal}
 use Rattle.records.specs.declared.Refusal.the-variants.{ShortBuffer, Contradiction}
-use Rattle.settling.specs.Settled.{Clashed, Sizes}
+use Rattle.opening.specs.Settleable.{Sizes}
+use Rattle.settling.specs.Settled.{Clashed}
 use Rattle.closure.specs.Apart.{Aparts}
-use Rattle.answers.specs.Call.{byRuns, byClaims, byBook}
-use Rattle.answers.specs.declared.Outcome.the-variants.{Accepted, Refused}
+use Rattle.outcomes.specs.Call.{byRuns, byClaims, byBook}
+use Rattle.outcomes.specs.declared.Outcome.the-variants.{Accepted, Refused}
 use Rattle.answering.proofs.Counts.{own-count}
 use Rattle.answers.proofs.Judges.{refuses, accepts}
 use Rattle.replicates.specs.declared.Window.{Window}
 use Rattle.replicates.specs.declared.Replicated.{Replicated}
-use Rattle.replicates.specs.Before.{bytesFrom}
-use Rattle.replicates.specs.Looking.{Sequence}
+use Rattle.windows.specs.Before.{bytesFrom}
+use Rattle.windows.specs.Looking.{Sequence}
 use Rattle.replicates.specs.Log.{entryCount, sequence, windowOf}
 use Rattle.replicates.specs.Call.{apartIn, byPart, outcome, bytesIn, left, handedBack, Determined}
 use Rattle.replicates.specs.Writing.{Fits, Judged}

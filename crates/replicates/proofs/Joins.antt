@@ -15,11 +15,11 @@ use Rattle.parentheses.specs.Padded.{padded}
 use Rattle.records.specs.Check.{bookCheck}
 use Rattle.records.specs.declared.Refusal.{Refusal}
 use Rattle.records.specs.declared.Refusal.the-variants.{ShortBuffer}
-use Rattle.answers.specs.Call.{byBook}
-use Rattle.answers.specs.declared.Outcome.{Outcome}
-use Rattle.answers.specs.declared.Outcome.the-variants.{Accepted, Refused}
+use Rattle.outcomes.specs.Call.{byBook}
+use Rattle.outcomes.specs.declared.Outcome.{Outcome}
+use Rattle.outcomes.specs.declared.Outcome.the-variants.{Accepted, Refused}
 use Rattle.replicates.specs.declared.Window.{Window}
-use Rattle.replicates.specs.Before.{bytesFrom}
+use Rattle.windows.specs.Before.{bytesFrom}
 use Rattle.replicates.specs.Log.{entryCount, entryAt, entries, handed, sequence, lastOf, windowOf}
 use Rattle.replicates.specs.Call.{byPart, outcome, apartIn, bytesIn}
 use Rattle.replicates.specs.Writing.{Fits}

@@ -1,6 +1,4 @@
 -- What the proofs of several functions use.
-pub mod Looks
-pub mod Reaches
 pub mod Same
 pub mod Sequences
 pub mod Rows

@@ -17,7 +17,7 @@ use Rattle.records.specs.declared.Refusal.{Refusal}
 use Rattle.records.specs.declared.Refusal.the-variants.{LogLength, ReplicatePiece}
 use Rattle.records.specs.declared.Finding.{Finding}
 use Rattle.records.specs.declared.Finding.the-variants.{Fit, Unfit}
-use Rattle.answers.specs.declared.Outcome.the-variants.{Accepted, Refused}
+use Rattle.outcomes.specs.declared.Outcome.the-variants.{Accepted, Refused}
 use Rattle.replicates.specs.declared.Window.{Window}
 use Rattle.replicates.specs.Log.{entryCount, entryAt}
 use Rattle.replicates.specs.Call.{badLength, badWindow, partFinding, entryFinding, byPart}

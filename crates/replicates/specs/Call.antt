@@ -16,13 +16,13 @@ use Rattle.records.specs.Refusal.{row, judge, scan}
 use Rattle.records.specs.declared.Refusal.the-variants.{ShortBuffer, LogLength, ReplicatePiece}
 use Rattle.records.specs.declared.Finding.{Finding}
 use Rattle.records.specs.declared.Finding.the-variants.{Fit}
-use Rattle.answers.specs.Call.{byBook}
-use Rattle.answers.specs.declared.Outcome.{Outcome}
-use Rattle.answers.specs.declared.Outcome.the-variants.{Accepted, Refused}
+use Rattle.outcomes.specs.Call.{byBook}
+use Rattle.outcomes.specs.declared.Outcome.{Outcome}
+use Rattle.outcomes.specs.declared.Outcome.the-variants.{Accepted, Refused}
 use Rattle.replicates.specs.declared.Window.{Window}
 use Rattle.replicates.specs.declared.Replicated.{Replicated}
 use Rattle.replicates.specs.Log.{entryCount, entryAt, handed, sequence, windowOf}
-use Rattle.replicates.specs.Before.{bytesFrom}
+use Rattle.windows.specs.Before.{bytesFrom}
 
 -- ---- the outcome: 1, the book's rows, 14, then 20 and 21
 

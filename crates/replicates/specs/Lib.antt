@@ -1,5 +1,3 @@
-pub mod Before
-pub mod Looking
 pub mod Log
 pub mod Call
 pub mod Writing

@@ -1,20 +1,20 @@
 // Replicates in the measurement log: for each entry how many of the up to 31 before it are certainly APART from it, and whether every two of these are.
 ghost use mathlib.Core.Path.{_≡_};
-ghost use lib.ListN.{length, getD};
-ghost use Prim.Native.Nat.{ℕ, max, _+_, _*_, _-_, _<_, _≤_};
+ghost use lib.ListN.{length};
+ghost use Prim.Native.Nat.{_+_, _*_, _-_, _<_, _≤_};
 ghost use Rattle.lists.specs.Front.{front};
 ghost use Rattle.lists.specs.Tally.{num};
 ghost use Rattle.relation.specs.Matrix.{bitOf};
-ghost use Rattle.replicates.specs.Before.{oldest, bytesFrom};
-ghost use Rattle.replicates.specs.Looking.{Sequence, seeing, Looked, Reach};
+ghost use Rattle.windows.specs.Before.{bytesFrom};
+ghost use Rattle.windows.specs.Looking.{Sequence};
 ghost use Rattle.records.specs.Check.{bookCheck};
 ghost use Rattle.records.specs.Refusal.{scan};
 ghost use Rattle.records.specs.declared.BookCheck.the-variants as on;
-ghost use Rattle.answers.specs.declared.Outcome.the-variants.{Accepted, Refused};
+ghost use Rattle.outcomes.specs.declared.Outcome.the-variants.{Accepted, Refused};
 ghost use Rattle.replicates.specs.Log.{entryCount, entryAt, sequence, windowOf};
 ghost use Rattle.replicates.specs.Call.{badWindow, entryFinding, byPart, bytesIn, Determined};
 ghost use Rattle.replicates.specs.Writing.{Writable, Begun, Followed, Judged};
-use answers::Outcome;
+use outcomes::Outcome;
 use records::BookCheck;
 use records::Refusal;
 use settling::Settled;
@@ -32,83 +32,6 @@ pub struct Replicated {
     pub window: Window,
 }
 
-// How many of the entries looked at are apart, and the number from which on all are.
-pub struct Seen {
-    pub apart: u8,
-    pub from: usize,
-}
-
-// The number of the oldest of the up to 31 entries before entry q.
-fn oldest_of(q: usize) -> usize
-    ensures { λ r. ⌜ r ≡ oldest q ⌝ }
-{
-    if q < 31 {
-        return 0;
-    }
-    q - 31
-}
-
-// One entry more, number j, that is apart or not.
-fn see(seen: Seen, j: usize, apart: bool) -> Seen
-    requires { ⌜ (seen .apart < 255) × (j < 100000) ⌝ }
-    ensures { λ r. ⌜ r ≡ seeing seen j apart ⌝ }
-{
-    if apart {
-        return Seen {
-            apart: seen.apart + 1,
-            from: seen.from,
-        };
-    }
-    Seen {
-        apart: seen.apart,
-        from: j + 1,
-    }
-}
-
-// Entry q against the up to 31 entries before it.
-fn look(xs: &[u16], q: usize, a: &[u64]) -> Seen
-    requires { ⌜ Sequence (now xs) (now a) × (q < length (now xs)) × (q < 100000) ⌝ }
-    ensures { λ r. ⌜ Looked (bitOf (now (a .entry))) (now (xs .entry)) q r ⌝ }
-{
-    let oldest = oldest_of(q);
-    let piece = xs[q] as usize;
-    let mut seen = Seen {
-        apart: 0,
-        from: oldest,
-    };
-    let mut j = oldest;
-    while j < q {
-        seen = see(seen, j, relation::test(a, xs[j] as usize, piece));
-        j += 1;
-    }
-    seen
-}
-
-// The larger of two numbers.
-fn larger(x: usize, y: usize) -> usize
-    ensures { λ r. ⌜ r ≡ max x y ⌝ }
-{
-    if x < y {
-        return y;
-    }
-    x
-}
-
-// From where on every two of the first c entries are apart, as far back as anyone looks.
-fn reach(xs: &[u16], c: usize, a: &[u64]) -> usize
-    requires { ⌜ Sequence (now xs) (now a) × (c ≤ length (now xs)) × (length (now xs) < 100000) ⌝ }
-    ensures { λ r. ⌜ Reach (bitOf (now (a .entry))) (now (xs .entry)) c r ⌝ }
-{
-    let mut start: usize = 0;
-    let mut q: usize = 0;
-    while q < c {
-        let seen = look(xs, q, a);
-        start = larger(start, seen.from);
-        q += 1;
-    }
-    start
-}
-
 fn flag(b: bool) -> u8
     ensures { λ r. ⌜ r ≡ num b ⌝ }
 {
@@ -123,14 +46,14 @@ fn write_bytes(xs: &[u16], c: usize, a: &[u64], out: &mut [u8])
     requires { ⌜ Sequence (now xs) (now a) × (c ≤ length (now xs)) × (length (now xs) < 100000) × (2 * length (now xs) ≤ 2 * c + length (now out)) ⌝ }
     ensures { λ _. ⌜ now (out .exit) ≡ front (bytesFrom (bitOf (now (a .entry))) (now (xs .entry)) c (length (now (xs .entry)) - c)) (now (out .entry)) ⌝ }
 {
-    let mut start = reach(xs, c, a);
+    let mut start = windows::reach(xs, c, a);
     let mut q = c;
     while q < xs.len() {
-        let seen = look(xs, q, a);
-        start = larger(start, seen.from);
+        let seen = windows::look(xs, q, a);
+        start = windows::larger(start, seen.from);
         let at = 2 * (q - c);
         out[at] = seen.apart;
-        out[at + 1] = flag(start <= oldest_of(q));
+        out[at + 1] = flag(start <= windows::oldest_of(q));
         q += 1;
     }
 }
@@ -230,7 +153,7 @@ fn put_entries(log: &[u8], c: usize, xs: &mut [u16])
 fn last_window(xs: &[u16]) -> Window
     ensures { λ r. ⌜ r ≡ windowOf (now (xs .entry)) ⌝ }
 {
-    let from = oldest_of(xs.len());
+    let from = windows::oldest_of(xs.len());
     let count = xs.len() - from;
     let mut pieces = [0u16; 31];
     let mut i: usize = 0;
@@ -286,7 +209,7 @@ fn judge(book: &[u8], n: usize, window: Window, log: &[u8], out: &mut [u8]) -> R
     ensures { λ r. ⌜ Judged (now (book .entry)) n window (now (log .entry)) (now (out .entry)) r (now (out .exit)) ⌝ }
 {
     let mut voids = [0u64; 32];
-    closure::marking::mark_voids(book, &mut voids);
+    storing::marking::mark_voids(book, &mut voids);
     let mut e = [0u64; 65536];
     let mut order = [0u16; 2048];
     let mut lead = [0u16; 2048];
@@ -338,7 +261,7 @@ pub fn replicates(book: &[u8], window: Window, log: &[u8], out: &mut [u8]) -> Re
     if out.len() < 2 * count {
         return refuse(Refusal::ShortBuffer, 0, window);
     }
-    let checked = records::check_book(book);
+    let checked = checks::check_book(book);
     match checked {
         BookCheck::Refused(refusal, place) => refuse(refusal, place, window),
         BookCheck::Accepted(n) => judge(book, n, window, log, out),

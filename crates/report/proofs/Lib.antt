@@ -1,7 +1,3 @@
-pub mod Puts
-pub mod Decimals
-pub mod Names
-pub mod Lengths
 pub mod Claims
 pub mod Rooms
 pub mod Sessions

@@ -4,12 +4,12 @@ use mathlib.Core.Path.{_≡_, sym}
 use mathlib.Core.List.{List}
 use Rattle.records.specs.Refusal.{refusalNumber}
 use Rattle.records.specs.declared.Refusal.{Refusal}
-use Rattle.answers.specs.Lent.{Lent}
-use Rattle.answers.specs.Call.{Determined}
-use Rattle.answers.specs.declared.Outcome.{Outcome}
-use Rattle.answers.specs.declared.Outcome.the-variants.{Accepted, Refused}
-use Rattle.report.specs.Session.{session}
-use Rattle.report.specs.Printed.{Printed}
+use Rattle.outcomes.specs.Lent.{Lent}
+use Rattle.outcomes.specs.Call.{Determined}
+use Rattle.outcomes.specs.declared.Outcome.{Outcome}
+use Rattle.outcomes.specs.declared.Outcome.the-variants.{Accepted, Refused}
+use Rattle.printing.specs.Session.{session}
+use Rattle.printing.specs.Printed.{Printed}
 use Rattle.report.specs.Page.{zeros, pageOf, printed}
 
 module _ (book claims : List ℕ) (o : Outcome) (l : Lent) (d : Determined book claims zeros o l) {page page′ : List ℕ} {e : ℕ} where

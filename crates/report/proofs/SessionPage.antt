@@ -18,7 +18,7 @@ use Rattle.records.specs.Check.{formFinding, recordFinding, checkBy, claimAt, c
 use Rattle.records.specs.Facts.{entryOf, entries}
 use Rattle.lists.specs.Numbers.{range, keep, find}
 use Rattle.index.specs.Pairs.{joined, parts}
-use Rattle.settling.specs.PartIn.{partIn}
+use Rattle.opening.specs.PartIn.{partIn}
 use Rattle.index.specs.Breadth.{breadth, order, parent}
 use Rattle.index.specs.Tree.{hang, under, whole, visits}
 use Rattle.index.specs.Index.{visitsOf}
@@ -29,12 +29,12 @@ use Rattle.index.specs.Parts.{isShadow, shadows}
 use Rattle.lists.specs.Front.{front}
 use Rattle.records.specs.Kept.{picked}
 use Rattle.records.specs.Rows.{admitted}
-use Rattle.answers.specs.Lent.{shortLent}
+use Rattle.outcomes.specs.Lent.{shortLent}
 use Rattle.answering.specs.Claimed.{claimed, answersTo}
-use Rattle.answers.specs.Call.{byRuns, byClaims, byBook, outcome, indexed, left}
-use Rattle.report.specs.Text.{ascii}
-use Rattle.report.specs.Decimal.{spell, decimal}
-use Rattle.report.specs.Session.{kindName, answerName, claimLine, claimLines, countsLine, session}
+use Rattle.outcomes.specs.Call.{byRuns, byClaims, byBook, outcome, indexed, left}
+use Rattle.printing.specs.Text.{ascii}
+use Rattle.printing.specs.Decimal.{spell, decimal}
+use Rattle.printing.specs.Session.{kindName, answerName, claimLine, claimLines, countsLine, session}
 use Rattle.report.specs.Page.{zeros, printed}
 
 -- a record or a claim of kind k on pieces below 256

@@ -2,11 +2,11 @@
 use Prim.Native.Nat.{ℕ}
 use mathlib.Core.List.{List}
 use lib.ListN.{replicate}
-use Rattle.answers.specs.Lent.{Lent, lent}
-use Rattle.answers.specs.Call.{outcome, left}
-use Rattle.answers.specs.Outcome.{number, place, pieceCount, nodeCount, shadowCount}
-use Rattle.answers.specs.declared.Outcome.{Outcome}
-use Rattle.report.specs.Session.{session}
+use Rattle.outcomes.specs.Lent.{Lent, lent}
+use Rattle.outcomes.specs.Call.{outcome, left}
+use Rattle.outcomes.specs.Outcome.{number, place, pieceCount, nodeCount, shadowCount}
+use Rattle.outcomes.specs.declared.Outcome.{Outcome}
+use Rattle.printing.specs.Session.{session}
 
 -- the buffers that the program lends: document 01's lengths, and an answer for each claim that it reads
 unfoldable pub zeros : Lent

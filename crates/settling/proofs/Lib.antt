@@ -1,5 +1,1 @@
-pub mod Parts
-pub mod Halving
-pub mod FactIndex
-pub mod GroupIndex
 pub mod Settling

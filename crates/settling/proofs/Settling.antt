@@ -23,16 +23,17 @@ use Rattle.records.specs.declared.BookCheck.the-variants as book
 use Rattle.records.proofs.Accepted.{accepted, accepted-within, accepted-positive, accepted-pieces}
 use Rattle.groups.specs.Groups.{groups}
 use Rattle.groups.specs.Index.{edges, BookIndex}
-use Rattle.settling.specs.PartIn.{partIn}
+use Rattle.opening.specs.PartIn.{partIn}
 use Rattle.index.specs.Index.{Room}
-use Rattle.settling.specs.Opened.{Opened}
-use Rattle.settling.specs.Settled.{Settleable, Clashed, Settles, Steps, Sizes, Sized, Indexes}
+use Rattle.opening.specs.Opened.{Opened}
+use Rattle.opening.specs.Settleable.{Settleable, Sizes}
+use Rattle.settling.specs.Settled.{Clashed, Settles, Steps, Sized, Indexes}
 use Rattle.settling.specs.declared.Settled.{Settled}
 use Rattle.closure.specs.Stepped.{Stepped}
 use Rattle.settling.specs.declared.Settled.the-variants.{Free, Clash}
 use Rattle.settling.specs.Contradiction.{Contradiction}
-use Rattle.settling.proofs.Halving.{facts-roomy}
-use Rattle.settling.proofs.GroupIndex.{room}
+use Rattle.opening.proofs.Halving.{facts-roomy}
+use Rattle.opening.proofs.GroupIndex.{room}
 
 -- every book that rows 2 to 9 accept, in parts of document 01's lengths
 pub settleable : (s : List ℕ) (n : ℕ) → bookCheck s ≡ book.Accepted n → Settleable n s 2560 1280 8192 2048

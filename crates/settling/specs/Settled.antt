@@ -1,26 +1,18 @@
--- Row 14 of a run with the marks of its book: what settling it asks, and what it finds. Assumes nothing.
-use Prim.Native.Nat.{ℕ, _+_, _/_}
+-- Row 14 of a run with the marks of its book: what settling it finds. Assumes nothing.
+use Prim.Native.Nat.{ℕ, _+_}
 use mathlib.Core.Path.{_≡_}
 use mathlib.Core.Bool.{Bool, true, false}
 use mathlib.Core.List.{List}
-use lib.ListN.{length}
 use Rattle.rules.specs.Follows as on
 use Rattle.rules.specs.Entries.{shortestClash}
 use Rattle.records.specs.Facts.{entries, facts}
-use Rattle.index.specs.Parts.{shadows}
-use Rattle.groups.specs.Index.{bookVisits, BookIndex}
-use Rattle.closure.specs.Bounded.{Bounded}
-use Rattle.settling.specs.PartIn.{partIn}
-use Rattle.settling.specs.Roomy.{Roomy}
+use Rattle.groups.specs.Index.{BookIndex}
+use Rattle.opening.specs.PartIn.{partIn}
+use Rattle.opening.specs.Settleable.{Sizes}
 use Rattle.closure.specs.Stepped.{Stepped}
-use Rattle.settling.specs.Opened.{Opened}
+use Rattle.opening.specs.Opened.{Opened}
 use Rattle.settling.specs.declared.Settled.{Settled}
 use Rattle.settling.specs.declared.Settled.the-variants.{Free, Clash}
-
--- a run about n pieces, and parts of these lengths with room for its index
-pub record Settleable (n : ℕ) (run : List ℕ) (bytes markBytes shadowCount placeCount : ℕ) : Type 0 where
-  pub bounded : Bounded n (facts run)
-  pub roomy : Roomy n (length run / 6) bytes markBytes shadowCount placeCount
 
 -- a contradictory run, and the last record of its shortest contradictory run from the start
 pub record Clashed (void : ℕ → Bool) (n : ℕ) (run : List ℕ) (place : ℕ) : Type 0 where
@@ -37,9 +29,6 @@ pub record Steps (n : ℕ) (run e order lead : List ℕ) (r : Settled) : Type 0 
   pub free : (nodes shadowed : ℕ) → r ≡ Free nodes shadowed → Stepped n (facts run) e order lead
 
 -- the counts of its index
-abbrev pub Sizes : ℕ → List ℕ → ℕ → ℕ → Type 0
-Sizes n run nodes shadowed = (nodes ≡ length (bookVisits n (partIn (facts run)))) × (shadowed ≡ length (shadows (bookVisits n (partIn (facts run)))))
-
 pub record Sized (n : ℕ) (run : List ℕ) (r : Settled) : Type 0 where
   pub free : (nodes shadowed : ℕ) → r ≡ Free nodes shadowed → Sizes n run nodes shadowed
 

@@ -7,15 +7,15 @@ use native.Mathlib.Omega.{arith}
 use lib.ListN.{length, replicate, length-replicate}
 use Rattle.records.specs.Check.{bookCheck, claimsCheck}
 use Rattle.records.specs.Refusal.{scan}
-use Rattle.answers.specs.Lent.{lent}
+use Rattle.outcomes.specs.Lent.{lent}
 use Rattle.answers.proofs.Empty.{empty-outcome}
-use Rattle.answers.specs.declared.Outcome.{Outcome}
-use Rattle.answers.specs.declared.Outcome.the-variants.{Accepted}
+use Rattle.outcomes.specs.declared.Outcome.{Outcome}
+use Rattle.outcomes.specs.declared.Outcome.the-variants.{Accepted}
 use Rattle.working.specs.declared.Working.{Working}
 use Rattle.working.specs.declared.Asked.{Asked}
-use Rattle.answers.specs.Fresh.{freshCall}
-use Rattle.working.specs.Standing.{standing}
-use Rattle.answers.specs.One.{byOne}
+use Rattle.outcomes.specs.Fresh.{freshCall}
+use Rattle.runs.specs.Standing.{standing}
+use Rattle.outcomes.specs.One.{byOne}
 use Rattle.working.specs.Rows.{answerOf}
 use Rattle.working.specs.Kept.{Started, Answered}
 use Rattle.working.specs.Sequence.{Stands}

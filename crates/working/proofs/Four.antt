@@ -25,13 +25,13 @@ use Rattle.records.specs.declared.Finding.the-variants.{Fit, Unfit}
 use Rattle.records.specs.declared.BookCheck.{BookCheck}
 use Rattle.records.specs.declared.BookCheck.the-variants as book
 use Rattle.groups.specs.Index.{bookVisits}
-use Rattle.answers.specs.Call.{pairsOf, byBook, byClaims, byRuns}
+use Rattle.outcomes.specs.Call.{pairsOf, byBook, byClaims, byRuns}
 use Rattle.index.specs.Parts as on
-use Rattle.answers.specs.declared.Outcome.{Outcome}
-use Rattle.answers.specs.declared.Outcome.the-variants.{Accepted, Refused}
-use Rattle.answers.specs.Fresh.{freshCall}
-use Rattle.working.specs.Standing.{standing, extended}
-use Rattle.answers.specs.One.{refuseIf}
+use Rattle.outcomes.specs.declared.Outcome.{Outcome}
+use Rattle.outcomes.specs.declared.Outcome.the-variants.{Accepted, Refused}
+use Rattle.outcomes.specs.Fresh.{freshCall}
+use Rattle.runs.specs.Standing.{standing, extended}
+use Rattle.outcomes.specs.One.{refuseIf}
 use Rattle.working.specs.Rows.{byArea, addOutcome}
 
 -- number 4 is given only where B holds

@@ -13,14 +13,14 @@ use Rattle.records.specs.Refusal.{refusalNumber}
 use Rattle.records.specs.Check.{checkBy, bookCheck}
 use Rattle.records.specs.declared.Refusal.the-variants.{TooManyRecords}
 use Rattle.records.specs.declared.BookCheck.the-variants as book
-use Rattle.answers.specs.Lent.{Lent}
+use Rattle.outcomes.specs.Lent.{Lent}
 use Rattle.lists.specs.Front.{front}
 use Rattle.answering.specs.Claimed.{answersTo}
-use Rattle.answers.specs.Call.{byBook, indexed, cleared, left}
-use Rattle.answers.specs.declared.Outcome.{Outcome}
-use Rattle.answers.specs.declared.Outcome.the-variants.{Accepted, Refused}
-use Rattle.answers.specs.Fresh.{freshCall}
-use Rattle.working.specs.Standing.{standing, extended, without}
+use Rattle.outcomes.specs.Call.{byBook, indexed, cleared, left}
+use Rattle.outcomes.specs.declared.Outcome.{Outcome}
+use Rattle.outcomes.specs.declared.Outcome.the-variants.{Accepted, Refused}
+use Rattle.outcomes.specs.Fresh.{freshCall}
+use Rattle.runs.specs.Standing.{standing, extended, without}
 use Rattle.working.specs.Rows.{answerOf}
 
 -- the answer byte that the call leaves

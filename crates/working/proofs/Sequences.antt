@@ -16,12 +16,12 @@ use Rattle.records.specs.declared.Refusal.the-variants.{BookLength, TooManyReco
 use Rattle.parentheses.specs.Padded.{padded}
 use Rattle.parentheses.proofs.Paddeds.{padded-length}
 use Rattle.lists.specs.Front.{front}
-use Rattle.answers.specs.declared.Outcome.{Outcome}
-use Rattle.answers.specs.declared.Outcome.the-variants.{Accepted, Refused}
+use Rattle.outcomes.specs.declared.Outcome.{Outcome}
+use Rattle.outcomes.specs.declared.Outcome.the-variants.{Accepted, Refused}
 use Rattle.working.specs.declared.Working.{Working}
-use Rattle.answers.specs.Fresh.{freshCall}
-use Rattle.working.specs.Standing.{standing, extended, without}
-use Rattle.answers.specs.One.{refuseIf}
+use Rattle.outcomes.specs.Fresh.{freshCall}
+use Rattle.runs.specs.Standing.{standing, extended, without}
+use Rattle.outcomes.specs.One.{refuseIf}
 use Rattle.working.specs.Rows.{startOutcome, addOutcome, withdrawOutcome, answerOf}
 use Rattle.working.specs.Kept.{keptState, keptArea, image, noRecords, Determined, Started, Added, Withdrawn, Answered}
 use Rattle.working.specs.declared.Asked.{Asked}
@@ -29,7 +29,7 @@ use Rattle.records.specs.Check.{bookCheck}
 use Rattle.working.specs.Sequence.{addTo, withdrawFrom, chosen, Stands}
 use Rattle.working.proofs.Fresh.{over-full}
 use Rattle.working.proofs.Settling.{on, off, past-area, start-passes, ask-passes, one-fits}
-use Rattle.working.proofs.Runs.{padded-front}
+use Rattle.runs.proofs.Runs.{padded-front}
 
 clash : {x : Refusal} {i n v h : ℕ} → Refused x i ≡ Accepted n v h → ⊥
 clash e = subst (λ (o : Outcome). elim o as (λ _. Type 0) [ Accepted n v h ↦ ⊥ | Refused x i ↦ Unit {0} ]) e tt

@@ -13,21 +13,21 @@ use Rattle.records.specs.Record.{records}
 use Rattle.records.specs.Check.{bookCheck, claimsCheck}
 use Rattle.records.specs.declared.BookCheck.{BookCheck}
 use Rattle.records.specs.declared.BookCheck.the-variants as book
-use Rattle.answers.specs.Call.{byBook, byClaims}
+use Rattle.outcomes.specs.Call.{byBook, byClaims}
 use Rattle.records.specs.declared.Refusal.{Refusal}
 use Rattle.records.specs.declared.Refusal.the-variants.{ShortBuffer, BookLength, TooManyRecords, ClaimsLength, NotStanding}
 use Rattle.parentheses.specs.Padded.{padded}
-use Rattle.answers.specs.declared.Outcome.{Outcome}
-use Rattle.answers.specs.declared.Outcome.the-variants.{Accepted, Refused}
+use Rattle.outcomes.specs.declared.Outcome.{Outcome}
+use Rattle.outcomes.specs.declared.Outcome.the-variants.{Accepted, Refused}
 use Rattle.working.specs.declared.Working.{Working}
 use Rattle.working.specs.declared.Settled.{Settled}
-use Rattle.answers.specs.Fresh.{freshCall}
-use Rattle.working.specs.Standing.{standing, extended, without}
-use Rattle.answers.specs.One.{refuseIf, byOne}
+use Rattle.outcomes.specs.Fresh.{freshCall}
+use Rattle.runs.specs.Standing.{standing, extended, without}
+use Rattle.outcomes.specs.One.{refuseIf, byOne}
 use Rattle.working.specs.Rows.{byArea, askOutcome, answerOf, startOutcome, addOutcome, withdrawOutcome}
 use Rattle.working.specs.Kept.{keptState, keptArea, image, Determined, Extended, Answered}
 use Rattle.working.specs.declared.Asked.{Asked}
-use Rattle.working.proofs.Runs.{padded-front, padded-whole}
+use Rattle.runs.proofs.Runs.{padded-front, padded-whole}
 use Rattle.working.proofs.Fresh.{over-full, extended-length}
 
 -- ---- one row

@@ -3,10 +3,10 @@ use Prim.Native.Nat.{ℕ, _+_, _*_}
 use mathlib.Core.List.{List, [], _∷_, _++_}
 use lib.ListN.{take, drop}
 use Rattle.records.specs.Check.{bookCheck}
-use Rattle.answers.specs.declared.Outcome.{Outcome}
+use Rattle.outcomes.specs.declared.Outcome.{Outcome}
 use Rattle.working.specs.declared.Working.{Working}
 use Rattle.working.specs.declared.Asked.{Asked}
-use Rattle.answers.specs.One.{byOne}
+use Rattle.outcomes.specs.One.{byOne}
 use Rattle.working.specs.Rows.{answerOf}
 use Rattle.working.specs.Kept.{Added, Withdrawn, Answered}
 use Rattle.working.specs.Sequence.{addTo, withdrawFrom, chosen}

@@ -7,11 +7,11 @@ use lib.ListN.{length, getD}
 use Rattle.records.specs.Check.{bookCheck}
 use Rattle.records.specs.declared.Refusal.the-variants.{ShortBuffer, BookLength, TooManyRecords, NotStanding}
 use Rattle.answering.specs.Claimed.{answersTo}
-use Rattle.answers.specs.declared.Outcome.{Outcome}
-use Rattle.answers.specs.declared.Outcome.the-variants.{Accepted, Refused}
-use Rattle.answers.specs.Fresh.{freshCall}
-use Rattle.answers.specs.One.{refuseIf, byOne}
-use Rattle.working.specs.Standing.{standing, extended, without}
+use Rattle.outcomes.specs.declared.Outcome.{Outcome}
+use Rattle.outcomes.specs.declared.Outcome.the-variants.{Accepted, Refused}
+use Rattle.outcomes.specs.Fresh.{freshCall}
+use Rattle.outcomes.specs.One.{refuseIf, byOne}
+use Rattle.runs.specs.Standing.{standing, extended, without}
 
 -- the first rows of every call: 1 for an area below 49,152 bytes, 4 for a stated count above 8,192
 unfoldable pub byArea : List ℕ → ℕ → Outcome → Outcome

@@ -7,12 +7,12 @@ use lib.Dec.{eqb, leb}
 use lib.ListN.{length, take, drop}
 use Rattle.records.specs.Record.{records}
 use Rattle.records.specs.declared.Refusal.the-variants.{BookLength, NotStanding}
-use Rattle.answers.specs.declared.Outcome.{Outcome}
-use Rattle.answers.specs.declared.Outcome.the-variants.{Accepted, Refused}
+use Rattle.outcomes.specs.declared.Outcome.{Outcome}
+use Rattle.outcomes.specs.declared.Outcome.the-variants.{Accepted, Refused}
 use Rattle.working.specs.declared.Working.{Working}
-use Rattle.answers.specs.Fresh.{freshCall}
-use Rattle.working.specs.Standing.{standing}
-use Rattle.answers.specs.One.{refuseIf}
+use Rattle.outcomes.specs.Fresh.{freshCall}
+use Rattle.runs.specs.Standing.{standing}
+use Rattle.outcomes.specs.One.{refuseIf}
 
 unfoldable pub addTo : List ℕ → List ℕ → Outcome
 addTo s a = refuseIf (not (eqb (length a) 6)) BookLength (freshCall (s ++ a) [])

@@ -1,17 +1,15 @@
 // A working book: records are added and withdrawn one at a time, and claims are answered, each as a fresh call on the
 // records then standing would have it. The records stand in an area of bytes that the caller lends beside the counts.
 ghost use mathlib.Core.Path.{_≡_};
-ghost use mathlib.Core.List.{[], _++_};
 ghost use Prim.Native.Nat.{_+_, _*_, _≤_, _<_};
-ghost use lib.ListN.{length, getD, take, drop};
-ghost use Rattle.parentheses.specs.Padded.{padded};
-ghost use Rattle.answers.specs.Fresh.{freshCall};
-ghost use Rattle.working.specs.Standing.{standing, extended, without};
+ghost use lib.ListN.{length};
+ghost use Rattle.outcomes.specs.Fresh.{freshCall};
+ghost use Rattle.runs.specs.Standing.{extended, without};
 ghost use Rattle.records.specs.Check.{bookCheck};
-ghost use Rattle.answers.specs.One.{byOne};
+ghost use Rattle.outcomes.specs.One.{byOne};
 ghost use Rattle.working.specs.Rows.{answerOf};
 ghost use Rattle.working.specs.Kept.{keptState, keptArea, Extended, Started, Added, Withdrawn, Answered};
-use answers::Outcome;
+use outcomes::Outcome;
 use records::BookCheck;
 use records::Refusal;
 
@@ -31,32 +29,6 @@ pub struct Settled {
 pub struct Asked {
     pub outcome: Outcome,
     pub answer: u8,
-}
-
-// Byte j of two runs, one behind the other, and of the zeros behind them.
-fn byte_at(first: &[u8], second: &[u8], j: usize) -> u8
-    ensures { λ r. ⌜ r ≡ getD (now (first .entry) ++ now (second .entry)) j 0 ⌝ }
-{
-    if j < first.len() {
-        return first[j];
-    }
-    let k = j - first.len();
-    if k < second.len() {
-        return second[k];
-    }
-    0
-}
-
-// Writes two runs one behind the other, and zeros behind them.
-fn write_runs(first: &[u8], second: &[u8], out: &mut [u8])
-    requires { ⌜ length (now first) + length (now second) ≤ length (now out) ⌝ }
-    ensures { λ _. ⌜ now (out .exit) ≡ padded 0 (length (now (out .entry))) (now (first .entry) ++ now (second .entry)) ⌝ }
-{
-    let mut j: usize = 0;
-    while j < out.len() {
-        out[j] = byte_at(first, second, j);
-        j += 1;
-    }
 }
 
 // A fresh call on a run of records and one claim.
@@ -95,7 +67,7 @@ fn settle(was: Working, area: &mut [u8], image: &[u8], records: usize, outcome: 
             outcome,
         },
         Outcome::Accepted(pieces, _, _) => {
-            write_runs(image, &image[..0], &mut area[..49152]);
+            runs::write_runs(image, &image[..0], &mut area[..49152]);
             Settled {
                 working: Working { records, pieces },
                 outcome,
@@ -138,7 +110,7 @@ fn extend(was: Working, area: &mut [u8], addition: &[u8]) -> Settled
     let records = was.records;
     let end = 6 * records;
     let mut run = [0u8; 49152];
-    write_runs(&area[..end], addition, &mut run);
+    runs::write_runs(&area[..end], addition, &mut run);
     let outcome = answers::judge_run(&run[..end + 6]);
     settle(was, area, &run, records + 1, outcome)
 }
@@ -162,15 +134,6 @@ pub fn add_to(was: Working, area: &mut [u8], addition: &[u8]) -> Settled
     extend(was, area, addition)
 }
 
-// Writes the bytes before `at` and those from `at` + 6 up to `end`, and zeros behind them.
-fn write_without(area: &[u8], at: usize, end: usize, out: &mut [u8])
-    requires { ⌜ (at + 6 ≤ end) × ((end ≤ length (now area)) × (end ≤ length (now out))) ⌝ }
-    ensures { λ _. ⌜ now (out .exit) ≡ padded 0 (length (now (out .entry))) (take at (take end (now (area .entry))) ++ drop (at + 6) (take end (now (area .entry)))) ⌝ }
-{
-    let next = at + 6;
-    write_runs(&area[..at], &area[next..end], out);
-}
-
 // A withdrawal of a record that stands.
 fn remove(was: Working, area: &mut [u8], number: usize) -> Settled
     requires { ⌜ (number < was .records) × ((was .records ≤ 8192) × (49152 ≤ length (now area))) ⌝ }
@@ -180,7 +143,7 @@ fn remove(was: Working, area: &mut [u8], number: usize) -> Settled
     let at = 6 * number;
     let end = 6 * records;
     let mut run = [0u8; 49152];
-    write_without(area, at, end, &mut run);
+    runs::write_without(area, at, end, &mut run);
     let outcome = answers::judge_run(&run[..end - 6]);
     settle(was, area, &run, records - 1, outcome)
 }
@@ -206,7 +169,7 @@ fn misfit(run: &[u8], claim: &[u8]) -> Outcome
     requires { ⌜ (length (now claim) ≡ 6 → ⊥) ⌝ }
     ensures { λ r. ⌜ r ≡ byOne (now (run .entry)) (now (claim .entry)) (bookCheck (now (run .entry))) ⌝ }
 {
-    let checked = records::check_book(run);
+    let checked = checks::check_book(run);
     match checked {
         BookCheck::Refused(refusal, place) => Outcome::Refused(refusal, place),
         BookCheck::Accepted(_) => Outcome::Refused(Refusal::ClaimsLength, 0),

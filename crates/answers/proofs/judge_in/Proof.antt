@@ -2,7 +2,7 @@
 use borrow.Author.Needs.{needs}
 use mathlib.Core.Path.{_∙_}
 use Rattle.records.proofs.Accepted.{accepted}
-use Rattle.closure.proofs.VoidRows.{accepted-markable}
+use Rattle.storing.proofs.VoidRows.{accepted-markable}
 use Rattle.answers.proofs.Judges.{settleable-at, cleared-at, judged-refused, judged-accepted}
 use Rattle.answers.proofs.judge_in.Statement.{statement}
 use Rattle.answers.proofs.judge_in.Tie as tie

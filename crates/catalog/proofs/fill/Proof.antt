@@ -35,16 +35,16 @@ fill-area-requires-3 c κs =
     (B .within, book-few _ _ (P .1 .sound), B .fits, W .0, W .1, search needs, search needs, search needs, search needs)
 
 same-length : tie.Need-same-length
-same-length c = search needs
+same-length c = c .before .before .before .before .before .before .before .before .before .before .before .before .before .before .before .before .before .list-pieces .kept .1 .1 .1 .1 .1 .1 .1 .1 .0
 
 same-length-2 : tie.Need-same-length-2
-same-length-2 c = search needs
+same-length-2 c = c .before .before .before .before .before .before .before .before .before .before .before .before .fill-area .kept .1 .1 .1 .1 .1 .0
 
 same-length-3 : tie.Need-same-length-3
-same-length-3 c = search needs
+same-length-3 c = c .before .before .before .before .before .before .before .fill-area2 .kept .1 .1 .1 .1 .1 .0
 
 same-length-4 : tie.Need-same-length-4
-same-length-4 c = search needs
+same-length-4 c = c .before .before .fill-area3 .kept .1 .1 .1 .1 .1 .0
 
 returns : tie.Need-returns
 returns c =

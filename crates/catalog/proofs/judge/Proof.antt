@@ -3,7 +3,7 @@ use borrow.Author.Needs.{needs}
 use mathlib.Core.Path.{refl, _∙_}
 use Rattle.lists.specs.Tab.{tab}
 use Rattle.records.proofs.Accepted.{accepted}
-use Rattle.closure.proofs.VoidRows.{accepted-markable}
+use Rattle.storing.proofs.VoidRows.{accepted-markable}
 use Rattle.answering.specs.Claimed.{answersTo}
 use Rattle.answers.proofs.Judges.{settleable-at, cleared-at}
 use Rattle.answers.proofs.Judges as answers
@@ -13,10 +13,10 @@ use Rattle.catalog.proofs.judge.Statement.{statement}
 use Rattle.catalog.proofs.judge.Tie as tie
 
 slice-aggregate-mark-voids : tie.Need-slice-aggregate-mark-voids
-slice-aggregate-mark-voids c = search needs
+slice-aggregate-mark-voids c = refl
 
 mark-voids-requires : tie.Need-mark-voids-requires
-mark-voids-requires c κs = (accepted-markable (accepted _ _ (c .before .before .before .before .before .before .before .before .before .before .pre .1 .sound)), search needs)
+mark-voids-requires c κs = (accepted-markable (accepted _ _ (c .before .before .before .before .before .before .before .before .before .before .pre .1 .sound)), refl)
 
 slice-aggregate-settle : tie.Need-slice-aggregate-settle
 slice-aggregate-settle c = search needs
@@ -25,13 +25,13 @@ settle-requires : tie.Need-settle-requires
 settle-requires c κs = (settleable-at _ _ _ _ (c .before .before .before .before .before .before .before .before .before .before .before .before .before .before .before .before .before .before .before .before .before .before .pre .1 .exact), c .before .before .before .before .before .before .before .before .before .before .before .mark-voids .ensures .0)
 
 enum-known-settled : tie.Need-enum-known-settled
-enum-known-settled c = search needs
+enum-known-settled c = c .match .keys1
 
 clear-index-requires : tie.Need-clear-index-requires
-clear-index-requires c κs = search needs
+clear-index-requires c κs = tt
 
 enum-known-settled-2 : tie.Need-enum-known-settled-2
-enum-known-settled-2 c = search needs
+enum-known-settled-2 c = c .match .keys2
 
 slice-aggregate-fill : tie.Need-slice-aggregate-fill
 slice-aggregate-fill c = search needs
@@ -80,16 +80,16 @@ same-length-8 : tie.Need-same-length-8
 same-length-8 c = c .before .before .before .before .before .before .before .before .before .before .before .before .before .before .before .before .before .before .before .before .before .before .before .before .before .before .before .before .before .settle .kept .1 .1 .1 .1 .1 .1 .1 .1 .1 .1 .1 .0
 
 same-length-9 : tie.Need-same-length-9
-same-length-9 c = search needs
+same-length-9 c = c .before .before .before .before .before .before .before .before .fill .kept .1 .1 .1 .1 .1 .1 .1 .1 .1 .1 .1 .0
 
 same-length-10 : tie.Need-same-length-10
-same-length-10 c = search needs
+same-length-10 c = c .before .before .before .before .before .before .before .before .fill .kept .1 .1 .1 .1 .1 .1 .1 .1 .1 .1 .1 .1 .0
 
 same-length-11 : tie.Need-same-length-11
-same-length-11 c = search needs
+same-length-11 c = c .before .before .before .before .before .before .before .before .fill .kept .1 .1 .1 .1 .1 .1 .1 .1 .1 .1 .1 .1 .1 .0
 
 same-length-12 : tie.Need-same-length-12
-same-length-12 c = search needs
+same-length-12 c = c .before .before .before .before .before .before .before .before .fill .kept .1 .1 .1 .1 .1 .1 .1 .1 .1 .1 .1 .1 .1 .1 .0
 
 returns-2 : tie.Need-returns-2
 unfolding answersTo tab

@@ -1,144 +1,147 @@
 -- `catalog::write_catalog` meets its contract. Assumes nothing.
-use mathlib.Core.Path.{sym, _∙_}
+use mathlib.Core.Path.{_≡_, sym, _∙_}
+use mathlib.Core.Bool.{Bool, _||_}
 use mathlib.Core.List.{[]}
-use borrow.Author.Needs.{needs}
-use lib.Seq.{length-take-le}
-use Rattle.answers.specs.Lent.{shortLent}
+use lib.Dec.{ltb}
+use lib.ListN.{length}
+use lib.Seq.{length-take-le, length-front}
+use Rattle.outcomes.specs.Lent.{shortLent}
+use Rattle.outcomes.specs.Lent as lending
 use Rattle.answers.proofs.Calls.{long}
 use Rattle.catalog.specs.Lent.{Lent, lent, shortCatalog}
 use Rattle.catalog.proofs.Calls.{short-refused, catalog-refused, book-refused, ready, determined}
 use Rattle.catalog.proofs.write_catalog.Statement.{statement}
 use Rattle.catalog.proofs.write_catalog.Tie as tie
 
+-- what the two tests of lengths say of the buffers as a whole
+index-told :
+    (i : lending.Lent) {b v : Bool} → b ≡ (ltb (length (i .parens)) 2560 || (ltb (length (i .marks)) 1280 || (ltb (length (i .shadows)) 8192 || (ltb (length (i .places)) 2048 || ltb (length (i .answers)) 0))))
+    → b ≡ v → shortLent [] i ≡ v
+unfolding shortLent
+index-told i e t = sym e ∙ t
+
+catalog-told :
+    (l : Lent) {b v : Bool} → b ≡ (ltb (length (l .list)) 2048 || (ltb (length (l .meets)) 16384 || (ltb (length (l .apart)) 16384 || ltb (length (l .notpart)) 16384)))
+    → b ≡ v → shortCatalog l ≡ v
+unfolding shortCatalog
+catalog-told l e t = sym e ∙ t
+
 short-requires : tie.Need-short-requires
-short-requires c κs = search needs
+short-requires c κs = tt
 
 returns : tie.Need-returns
-unfolding shortLent
 returns c =
     let A = c .before .before .before .before .before .before .before .before .before .before .before .args in
     let l = lent (A .parens .now) (A .marks .now) (A .shadows .now) (A .places .now) (A .list .now) (A .meets .now) (A .apart .now) (A .notpart .now) in
-    short-refused _ _ _ l (sym (c .before .short .ensures) ∙ c .if1 .taken)
+    short-refused _ _ _ l (index-told (l .index) (c .before .short .ensures) (c .if1 .taken))
 
 short-requires-2 : tie.Need-short-requires-2
-short-requires-2 c κs = search needs
+short-requires-2 c κs = tt
 
 returns-2 : tie.Need-returns-2
-unfolding shortLent shortCatalog
 returns-2 c =
     let A = c .before .before .before .before .before .before .before .before .before .before .before .before .before .args in
     let l = lent (A .parens .now) (A .marks .now) (A .shadows .now) (A .places .now) (A .list .now) (A .meets .now) (A .apart .now) (A .notpart .now) in
-    catalog-refused _ _ _ l (sym (c .before .before .before .short .ensures) ∙ c .before .before .if1 .left) (sym (c .before .short2 .ensures) ∙ c .if2 .taken)
+    catalog-refused _ _ _ l (index-told (l .index) (c .before .before .before .short .ensures) (c .before .before .if1 .left)) (catalog-told l (c .before .short2 .ensures) (c .if2 .taken))
 
 check-book-requires : tie.Need-check-book-requires
-check-book-requires c κs = search needs
+check-book-requires c κs = tt
 
 enum-known-checked : tie.Need-enum-known-checked
-enum-known-checked c = search needs
+enum-known-checked c = c .match .keys1
 
 enum-known-checked-2 : tie.Need-enum-known-checked-2
-enum-known-checked-2 c = search needs
+enum-known-checked-2 c = c .match .keys2
 
 slice-relend-prefix-ask : tie.Need-slice-relend-prefix-ask
-unfolding shortLent
 slice-relend-prefix-ask c =
     let A = c .before .before .before .before .before .before .before .before .before .before .before .before .before .before .before .before .before .args in
-    let l = lent (A .parens .now) (A .marks .now) (A .shadows .now) (A .places .now) (A .list .now) (A .meets .now) (A .apart .now) (A .notpart .now) in
-    long [] (l .index) (sym (c .before .before .before .before .before .before .before .short .ensures) ∙ c .before .before .before .before .before .before .if1 .left) .parens
+    let i = lending.lent (A .parens .now) (A .marks .now) (A .shadows .now) (A .places .now) [] in
+    long [] i (index-told i (c .before .before .before .before .before .before .before .short .ensures) (c .before .before .before .before .before .before .if1 .left)) .parens
 
 slice-aggregate-ask : tie.Need-slice-aggregate-ask
-unfolding shortLent
 slice-aggregate-ask c =
     let A = c .before .before .before .before .before .before .before .before .before .before .before .before .before .before .before .before .before .before .args in
-    let l = lent (A .parens .now) (A .marks .now) (A .shadows .now) (A .places .now) (A .list .now) (A .meets .now) (A .apart .now) (A .notpart .now) in
-    sym (length-take-le 2560 (A .parens .now) (long [] (l .index) (sym (c .before .before .before .before .before .before .before .before .short .ensures) ∙ c .before .before .before .before .before .before .before .if1 .left) .parens))
+    let i = lending.lent (A .parens .now) (A .marks .now) (A .shadows .now) (A .places .now) [] in
+    sym (length-take-le 2560 (A .parens .now) (long [] i (index-told i (c .before .before .before .before .before .before .before .before .short .ensures) (c .before .before .before .before .before .before .before .if1 .left)) .parens))
 
 slice-relend-prefix-ask-2 : tie.Need-slice-relend-prefix-ask-2
-unfolding shortLent
 slice-relend-prefix-ask-2 c =
     let A = c .before .before .before .before .before .before .before .before .before .before .before .before .before .before .before .before .before .before .args in
-    let l = lent (A .parens .now) (A .marks .now) (A .shadows .now) (A .places .now) (A .list .now) (A .meets .now) (A .apart .now) (A .notpart .now) in
-    long [] (l .index) (sym (c .before .before .before .before .before .before .before .before .short .ensures) ∙ c .before .before .before .before .before .before .before .if1 .left) .marks
+    let i = lending.lent (A .parens .now) (A .marks .now) (A .shadows .now) (A .places .now) [] in
+    long [] i (index-told i (c .before .before .before .before .before .before .before .before .short .ensures) (c .before .before .before .before .before .before .before .if1 .left)) .marks
 
 slice-aggregate-ask-2 : tie.Need-slice-aggregate-ask-2
-unfolding shortLent
 slice-aggregate-ask-2 c =
     let A = c .before .before .before .before .before .before .before .before .before .before .before .before .before .before .before .before .before .before .before .args in
-    let l = lent (A .parens .now) (A .marks .now) (A .shadows .now) (A .places .now) (A .list .now) (A .meets .now) (A .apart .now) (A .notpart .now) in
-    sym (length-take-le 1280 (A .marks .now) (long [] (l .index) (sym (c .before .before .before .before .before .before .before .before .before .short .ensures) ∙ c .before .before .before .before .before .before .before .before .if1 .left) .marks))
+    let i = lending.lent (A .parens .now) (A .marks .now) (A .shadows .now) (A .places .now) [] in
+    sym (length-take-le 1280 (A .marks .now) (long [] i (index-told i (c .before .before .before .before .before .before .before .before .before .short .ensures) (c .before .before .before .before .before .before .before .before .if1 .left)) .marks))
 
 slice-relend-prefix-ask-3 : tie.Need-slice-relend-prefix-ask-3
-unfolding shortLent
 slice-relend-prefix-ask-3 c =
     let A = c .before .before .before .before .before .before .before .before .before .before .before .before .before .before .before .before .before .before .before .args in
-    let l = lent (A .parens .now) (A .marks .now) (A .shadows .now) (A .places .now) (A .list .now) (A .meets .now) (A .apart .now) (A .notpart .now) in
-    long [] (l .index) (sym (c .before .before .before .before .before .before .before .before .before .short .ensures) ∙ c .before .before .before .before .before .before .before .before .if1 .left) .shadows
+    let i = lending.lent (A .parens .now) (A .marks .now) (A .shadows .now) (A .places .now) [] in
+    long [] i (index-told i (c .before .before .before .before .before .before .before .before .before .short .ensures) (c .before .before .before .before .before .before .before .before .if1 .left)) .shadows
 
 slice-aggregate-ask-3 : tie.Need-slice-aggregate-ask-3
-unfolding shortLent
 slice-aggregate-ask-3 c =
     let A = c .before .before .before .before .before .before .before .before .before .before .before .before .before .before .before .before .before .before .before .before .args in
-    let l = lent (A .parens .now) (A .marks .now) (A .shadows .now) (A .places .now) (A .list .now) (A .meets .now) (A .apart .now) (A .notpart .now) in
-    sym (length-take-le 8192 (A .shadows .now) (long [] (l .index) (sym (c .before .before .before .before .before .before .before .before .before .before .short .ensures) ∙ c .before .before .before .before .before .before .before .before .before .if1 .left) .shadows))
+    let i = lending.lent (A .parens .now) (A .marks .now) (A .shadows .now) (A .places .now) [] in
+    sym (length-take-le 8192 (A .shadows .now) (long [] i (index-told i (c .before .before .before .before .before .before .before .before .before .before .short .ensures) (c .before .before .before .before .before .before .before .before .before .if1 .left)) .shadows))
 
 slice-relend-prefix-ask-4 : tie.Need-slice-relend-prefix-ask-4
-unfolding shortLent
 slice-relend-prefix-ask-4 c =
     let A = c .before .before .before .before .before .before .before .before .before .before .before .before .before .before .before .before .before .before .before .before .args in
-    let l = lent (A .parens .now) (A .marks .now) (A .shadows .now) (A .places .now) (A .list .now) (A .meets .now) (A .apart .now) (A .notpart .now) in
-    long [] (l .index) (sym (c .before .before .before .before .before .before .before .before .before .before .short .ensures) ∙ c .before .before .before .before .before .before .before .before .before .if1 .left) .places
+    let i = lending.lent (A .parens .now) (A .marks .now) (A .shadows .now) (A .places .now) [] in
+    long [] i (index-told i (c .before .before .before .before .before .before .before .before .before .before .short .ensures) (c .before .before .before .before .before .before .before .before .before .if1 .left)) .places
 
 slice-aggregate-ask-4 : tie.Need-slice-aggregate-ask-4
-unfolding shortLent
 slice-aggregate-ask-4 c =
     let A = c .before .before .before .before .before .before .before .before .before .before .before .before .before .before .before .before .before .before .before .before .before .args in
-    let l = lent (A .parens .now) (A .marks .now) (A .shadows .now) (A .places .now) (A .list .now) (A .meets .now) (A .apart .now) (A .notpart .now) in
-    sym (length-take-le 2048 (A .places .now) (long [] (l .index) (sym (c .before .before .before .before .before .before .before .before .before .before .before .short .ensures) ∙ c .before .before .before .before .before .before .before .before .before .before .if1 .left) .places))
+    let i = lending.lent (A .parens .now) (A .marks .now) (A .shadows .now) (A .places .now) [] in
+    sym (length-take-le 2048 (A .places .now) (long [] i (index-told i (c .before .before .before .before .before .before .before .before .before .before .before .short .ensures) (c .before .before .before .before .before .before .before .before .before .before .if1 .left)) .places))
 
 ask-requires : tie.Need-ask-requires
-unfolding shortLent shortCatalog
 ask-requires c κs =
     let A = c .before .before .before .before .before .before .before .before .before .before .before .before .before .before .before .before .before .before .before .before .before .before .before .before .before .args in
     let l = lent (A .parens .now) (A .marks .now) (A .shadows .now) (A .places .now) (A .list .now) (A .meets .now) (A .apart .now) (A .notpart .now) in
-    ready _ (A .kind) (A .g) l (sym (c .before .before .before .before .before .before .before .before .before .before .before .before .before .before .before .short .ensures) ∙ c .before .before .before .before .before .before .before .before .before .before .before .before .before .before .if1 .left) (sym (c .before .before .before .before .before .before .before .before .before .before .before .before .before .short2 .ensures) ∙ c .before .before .before .before .before .before .before .before .before .before .before .before .if2 .left) (sym (c .before .before .before .before .before .before .before .before .before .before .before .check-book .ensures) ∙ c .before .before .before .before .before .before .before .before .before .checked2 .given .1)
+    ready _ (A .kind) (A .g) l (index-told (l .index) (c .before .before .before .before .before .before .before .before .before .before .before .before .before .before .before .short .ensures) (c .before .before .before .before .before .before .before .before .before .before .before .before .before .before .if1 .left)) (catalog-told l (c .before .before .before .before .before .before .before .before .before .before .before .before .before .short2 .ensures) (c .before .before .before .before .before .before .before .before .before .before .before .before .if2 .left)) (sym (c .before .before .before .before .before .before .before .before .before .before .before .check-book .ensures) ∙ c .before .before .before .before .before .before .before .before .before .checked2 .given .1)
 
 returns-3 : tie.Need-returns-3
-unfolding shortLent shortCatalog
 returns-3 c =
     let A = c .before .before .before .before .before .before .before .before .before .before .before .before .before .before .before .before .before .args in
     let l = lent (A .parens .now) (A .marks .now) (A .shadows .now) (A .places .now) (A .list .now) (A .meets .now) (A .apart .now) (A .notpart .now) in
-    book-refused _ _ _ l (sym (c .before .before .before .before .before .before .before .short .ensures) ∙ c .before .before .before .before .before .before .if1 .left) (sym (c .before .before .before .before .before .short2 .ensures) ∙ c .before .before .before .before .if2 .left) (sym (c .before .before .before .check-book .ensures) ∙ c .before .checked .given .1)
+    book-refused _ _ _ l (index-told (l .index) (c .before .before .before .before .before .before .before .short .ensures) (c .before .before .before .before .before .before .if1 .left)) (catalog-told l (c .before .before .before .before .before .short2 .ensures) (c .before .before .before .before .if2 .left)) (sym (c .before .before .before .check-book .ensures) ∙ c .before .checked .given .1)
 
 same-length : tie.Need-same-length
-same-length c = search needs
+same-length c = length-front (c .before .before .before .before .before .before .before .before .before .before .before .before .before .before .before .before .before .before .before .before .before .before .before .before .before .before .before .before .before .before .before .before .before .before .before .before .before .before .before .before .before .before .args .parens .now) (c .before .before .before .before .before .before .before .before .before .before .before .before .before .before .before .before .ask .last .1 .1 .1 .1 .0) 2560 (c .before .before .before .before .before .before .before .before .before .before .before .before .before .before .before .before .ask .kept .1 .1 .1 .1 .0)
 
 same-length-2 : tie.Need-same-length-2
-same-length-2 c = search needs
+same-length-2 c = length-front (c .before .before .before .before .before .before .before .before .before .before .before .before .before .before .before .before .before .before .before .before .before .before .before .before .before .before .before .before .before .before .before .before .before .before .before .before .before .before .before .before .before .before .args .marks .now) (c .before .before .before .before .before .before .before .before .before .before .before .before .before .before .before .before .ask .last .1 .1 .1 .1 .1 .0) 1280 (c .before .before .before .before .before .before .before .before .before .before .before .before .before .before .before .before .ask .kept .1 .1 .1 .1 .1 .0)
 
 same-length-3 : tie.Need-same-length-3
-same-length-3 c = search needs
+same-length-3 c = length-front (c .before .before .before .before .before .before .before .before .before .before .before .before .before .before .before .before .before .before .before .before .before .before .before .before .before .before .before .before .before .before .before .before .before .before .before .before .before .before .before .before .before .before .args .shadows .now) (c .before .before .before .before .before .before .before .before .before .before .before .before .before .before .before .before .ask .last .1 .1 .1 .1 .1 .1 .0) 8192 (c .before .before .before .before .before .before .before .before .before .before .before .before .before .before .before .before .ask .kept .1 .1 .1 .1 .1 .1 .0)
 
 same-length-4 : tie.Need-same-length-4
-same-length-4 c = search needs
+same-length-4 c = length-front (c .before .before .before .before .before .before .before .before .before .before .before .before .before .before .before .before .before .before .before .before .before .before .before .before .before .before .before .before .before .before .before .before .before .before .before .before .before .before .before .before .before .before .args .places .now) (c .before .before .before .before .before .before .before .before .before .before .before .before .before .before .before .before .ask .last .1 .1 .1 .1 .1 .1 .1 .0) 2048 (c .before .before .before .before .before .before .before .before .before .before .before .before .before .before .before .before .ask .kept .1 .1 .1 .1 .1 .1 .1 .0)
 
 same-length-5 : tie.Need-same-length-5
-same-length-5 c = search needs
+same-length-5 c = c .before .before .before .before .before .before .before .before .before .before .before .before .before .before .before .before .ask .kept .1 .1 .1 .1 .1 .1 .1 .1 .0
 
 same-length-6 : tie.Need-same-length-6
-same-length-6 c = search needs
+same-length-6 c = c .before .before .before .before .before .before .before .before .before .before .before .before .before .before .before .before .ask .kept .1 .1 .1 .1 .1 .1 .1 .1 .1 .0
 
 same-length-7 : tie.Need-same-length-7
-same-length-7 c = search needs
+same-length-7 c = c .before .before .before .before .before .before .before .before .before .before .before .before .before .before .before .before .ask .kept .1 .1 .1 .1 .1 .1 .1 .1 .1 .1 .0
 
 same-length-8 : tie.Need-same-length-8
-same-length-8 c = search needs
+same-length-8 c = c .before .before .before .before .before .before .before .before .before .before .before .before .before .before .before .before .ask .kept .1 .1 .1 .1 .1 .1 .1 .1 .1 .1 .1 .0
 
 returns-4 : tie.Need-returns-4
-unfolding shortLent shortCatalog
 returns-4 c =
     let A = c .before .before .before .before .before .before .before .before .before .before .before .before .before .before .before .before .before .before .before .before .before .before .before .before .before .before .before .before .before .before .before .before .before .before .before .before .before .before .before .before .before .before .args in
     let l = lent (A .parens .now) (A .marks .now) (A .shadows .now) (A .places .now) (A .list .now) (A .meets .now) (A .apart .now) (A .notpart .now) in
-    determined _ _ _ l (sym (c .before .before .before .before .before .before .before .before .before .before .before .before .before .before .before .before .before .before .before .before .before .before .before .before .before .before .before .before .before .before .before .before .short .ensures) ∙ c .before .before .before .before .before .before .before .before .before .before .before .before .before .before .before .before .before .before .before .before .before .before .before .before .before .before .before .before .before .before .before .if1 .left) (sym (c .before .before .before .before .before .before .before .before .before .before .before .before .before .before .before .before .before .before .before .before .before .before .before .before .before .before .before .before .before .before .short2 .ensures) ∙ c .before .before .before .before .before .before .before .before .before .before .before .before .before .before .before .before .before .before .before .before .before .before .before .before .before .before .before .before .before .if2 .left) (sym (c .before .before .before .before .before .before .before .before .before .before .before .before .before .before .before .before .before .before .before .before .before .before .before .before .before .before .before .before .check-book .ensures) ∙ c .before .before .before .before .before .before .before .before .before .before .before .before .before .before .before .before .before .before .before .before .before .before .before .before .before .before .checked2 .given .1) _ _ (c .before .before .before .before .before .before .before .before .before .before .before .before .before .before .before .before .ask .ensures)
+    determined _ _ _ l (index-told (l .index) (c .before .before .before .before .before .before .before .before .before .before .before .before .before .before .before .before .before .before .before .before .before .before .before .before .before .before .before .before .before .before .before .before .short .ensures) (c .before .before .before .before .before .before .before .before .before .before .before .before .before .before .before .before .before .before .before .before .before .before .before .before .before .before .before .before .before .before .before .if1 .left)) (catalog-told l (c .before .before .before .before .before .before .before .before .before .before .before .before .before .before .before .before .before .before .before .before .before .before .before .before .before .before .before .before .before .before .short2 .ensures) (c .before .before .before .before .before .before .before .before .before .before .before .before .before .before .before .before .before .before .before .before .before .before .before .before .before .before .before .before .before .if2 .left)) (sym (c .before .before .before .before .before .before .before .before .before .before .before .before .before .before .before .before .before .before .before .before .before .before .before .before .before .before .before .before .check-book .ensures) ∙ c .before .before .before .before .before .before .before .before .before .before .before .before .before .before .before .before .before .before .before .before .before .before .before .before .before .before .checked2 .given .1) _ _ (c .before .before .before .before .before .before .before .before .before .before .before .before .before .before .before .before .ask .ensures)
 
 pub write-catalog-spec : {M : Type 1} → statement M
 write-catalog-spec =

@@ -1,4 +1,4 @@
--- `chains::by_premises` meets its contract: at each rule its three facts, at the only pieces of which it can hold. Assumes nothing.
+-- `chain_steps::by_premises` meets its contract: at each rule its three facts, at the only pieces of which it can hold. Assumes nothing.
 use mathlib.Core.Path.{sym, _∙_}
 use Rattle.chain_steps.proofs.Somes.{some-none}
 use Rattle.chain_steps.proofs.Asked.{unpremised}

@@ -1,11 +1,11 @@
--- `chains::check_steps` meets its contract: the loop keeps that the steps passed are justified. Assumes nothing.
+-- `chain_steps::check_steps` meets its contract: the loop keeps that the steps passed are justified. Assumes nothing.
 use Prim.Native.Nat.{_-_, _≤_}
 use mathlib.Core.Path.{_≡_, sym, _∙_}
 use mathlib.Core.Bool.{true}
 use native.Mathlib.Omega.{arith}
 use borrow.Author.Needs.{needs}
 use borrow.Author.Tests.{not-true, not-false}
-use Rattle.chain_steps.specs.Citing.{citing}
+use Rattle.steps.specs.Citing.{citing}
 use Rattle.chain_steps.specs.Chain.{allOk}
 use Rattle.chain_steps.proofs.Passing.{ragged-steps, no-steps, many-steps, bad-step, all-none, all-more, all-done, kind-most, ends-claim, ends-opposite}
 use Rattle.chain_steps.proofs.check_steps.Statement.{statement}

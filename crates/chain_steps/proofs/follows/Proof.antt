@@ -1,4 +1,4 @@
--- `chains::follows` meets its contract: the three tests in order. Assumes nothing.
+-- `chain_steps::follows` meets its contract: the three tests in order. Assumes nothing.
 use mathlib.Core.Path.{sym, _∙_}
 use borrow.Author.Tests.{not-true, not-false}
 use borrow.Author.Needs.{needs}

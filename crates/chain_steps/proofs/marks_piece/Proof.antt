@@ -1,5 +1,5 @@
--- `chains::marks_piece` meets its contract. Assumes nothing.
-use Rattle.chain_steps.proofs.Computed.{marks-beyond, marks-no, marks-it}
+-- `chain_steps::marks_piece` meets its contract. Assumes nothing.
+use Rattle.steps.proofs.Computed.{marks-beyond, marks-no, marks-it}
 use native.Mathlib.Omega.{arith}
 use borrow.Author.Needs.{needs}
 use Rattle.chain_steps.proofs.marks_piece.Statement.{statement}

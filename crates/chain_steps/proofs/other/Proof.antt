@@ -1,5 +1,5 @@
--- `chains::other` meets its contract: its test computes on each way out. Assumes nothing.
-use Rattle.chain_steps.proofs.Computed.{other-second, other-first}
+-- `chain_steps::other` meets its contract: its test computes on each way out. Assumes nothing.
+use Rattle.steps.proofs.Computed.{other-second, other-first}
 use Rattle.chain_steps.proofs.other.Statement.{statement}
 use Rattle.chain_steps.proofs.other.Tie as tie
 

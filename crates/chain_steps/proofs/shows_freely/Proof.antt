@@ -1,4 +1,4 @@
--- `chains::shows_freely` meets its contract: each way out is a case of the two zeros. Assumes nothing.
+-- `chain_steps::shows_freely` meets its contract: each way out is a case of the two zeros. Assumes nothing.
 use mathlib.Core.Path.{_∙_}
 use borrow.Author.Tests.{eq-eqb, ne-eqb}
 use borrow.Author.Needs.{needs}

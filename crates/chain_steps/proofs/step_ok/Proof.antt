@@ -1,6 +1,6 @@
--- `chains::step_ok` meets its contract. Assumes nothing.
+-- `chain_steps::step_ok` meets its contract. Assumes nothing.
 use mathlib.Core.Path.{sym, ap, _∙_}
-use Rattle.chain_steps.proofs.Citings.{marks-read}
+use Rattle.steps.proofs.Citings.{marks-read}
 use Rattle.chain_steps.proofs.Stepping.{outside-a, outside-b, stored-second, stored-cites, free-c, free-f, marked-e′, free-e′, void-second-d, void-d, void-second-e, void-e, first-late, second-late, two-premises}
 use native.Mathlib.Omega.{arith}
 use borrow.Author.Needs.{needs}

@@ -1,4 +1,4 @@
--- `chains::void_part` meets its contract. Assumes nothing.
+-- `chain_steps::void_part` meets its contract. Assumes nothing.
 use mathlib.Core.Path.{sym, _∙_}
 use borrow.Author.Tests.{not-true, not-false}
 use native.Mathlib.Omega.{arith}

@@ -1,35 +1,35 @@
 -- `chain_writing::judge` meets its contract. Assumes nothing.
-use borrow.Author.Needs.{needs}
+use mathlib.Core.Path.{refl, sym}
 use Rattle.records.proofs.Accepted.{accepted}
-use Rattle.closure.proofs.VoidRows.{accepted-markable}
+use Rattle.storing.proofs.VoidRows.{accepted-markable}
 use Rattle.settling.proofs.Settling.{settleable, settleable-alone}
 use Rattle.chain_writing.proofs.Replies.{by-marks, judged-clash, judged-free}
 use Rattle.chain_writing.proofs.judge.Statement.{statement}
 use Rattle.chain_writing.proofs.judge.Tie as tie
 
 slice-aggregate-mark-voids : tie.Need-slice-aggregate-mark-voids
-slice-aggregate-mark-voids c = search needs
+slice-aggregate-mark-voids c = refl
 
 mark-voids-requires : tie.Need-mark-voids-requires
-mark-voids-requires c κs = (accepted-markable (accepted _ _ (c .before .before .before .pre .0)), search needs)
+mark-voids-requires c κs = (accepted-markable (accepted _ _ (c .before .before .before .pre .0)), refl)
 
 slice-aggregate-settle-alone : tie.Need-slice-aggregate-settle-alone
-slice-aggregate-settle-alone c = search needs
+slice-aggregate-settle-alone c = sym (c .before .before .mark-voids .kept .1 .0)
 
 settle-alone-requires : tie.Need-settle-alone-requires
 settle-alone-requires c κs = (settleable-alone (settleable _ _ (c .before .before .before .before .before .before .before .before .before .before .before .pre .0)), c .before .before .before .before .before .before .before .mark-voids .ensures .0)
 
 enum-known-settled : tie.Need-enum-known-settled
-enum-known-settled c = search needs
+enum-known-settled c = c .match .keys1
 
 refuse-requires : tie.Need-refuse-requires
-refuse-requires c κs = search needs
+refuse-requires c κs = tt
 
 enum-told : tie.Need-enum-told
-enum-told c = search needs
+enum-told c = c .match .keys2
 
 slice-aggregate-write-whole : tie.Need-slice-aggregate-write-whole
-slice-aggregate-write-whole c = search needs
+slice-aggregate-write-whole c = sym (c .before .before .before .before .before .before .before .before .before .before .before .before .before .mark-voids .kept .1 .0)
 
 write-whole-requires : tie.Need-write-whole-requires
 write-whole-requires c κs = (c .before .before .before .before .before .before .before .before .before .before .before .before .before .before .before .before .before .before .before .before .before .pre .0, c .before .before .before .before .before .before .before .before .before .before .before .before .before .before .before .before .before .mark-voids .ensures, c .before .before .before .before .before .before .before .before .before .settle-alone .ensures .0 .free _ _ (c .before .before .before .before .before .before .before .enum-told .given .1), c .before .before .before .before .before .if1 .taken, c .before .before .before .before .before .before .before .before .before .before .before .before .before .before .before .before .before .before .before .before .before .pre .1, c .before .before .before .before .before .before .before .before .before .before .before .before .before .before .before .before .before .before .before .before .before .pre .2, c .before .before .before .before .before .before .before .before .before .before .before .before .before .before .before .before .before .before .before .before .before .pre .3)
@@ -41,7 +41,7 @@ returns : tie.Need-returns
 returns c = judged-free _ _ _ _ (c .before .before .before .before .before .before .before .before .before .before .before .before .before .before .before .before .before .before .before .before .before .before .before .before .pre .0) (by-marks _ _ _ (c .before .before .before .before .before .before .before .before .before .before .before .before .before .before .before .before .before .before .before .before .mark-voids .ensures) (c .before .before .before .before .before .before .before .before .before .before .before .before .settle-alone .ensures .0 .free _ _ (c .before .before .before .before .before .before .before .before .before .before .enum-told .given .1))) _ (c .before .before .write-whole .ensures)
 
 slice-aggregate-write-restricted : tie.Need-slice-aggregate-write-restricted
-slice-aggregate-write-restricted c = search needs
+slice-aggregate-write-restricted c = sym (c .before .before .before .before .before .before .before .before .before .before .before .before .before .mark-voids .kept .1 .0)
 
 write-restricted-requires : tie.Need-write-restricted-requires
 write-restricted-requires c κs = let O = by-marks _ _ _ (c .before .before .before .before .before .before .before .before .before .before .before .before .before .before .before .before .before .mark-voids .ensures) (c .before .before .before .before .before .before .before .before .before .settle-alone .ensures .0 .free _ _ (c .before .before .before .before .before .before .before .enum-told .given .1)) in (c .before .before .before .before .before .before .before .before .before .before .before .before .before .before .before .before .before .before .before .before .before .pre .0, c .before .before .before .before .before .before .before .before .before .before .before .before .before .before .before .before .before .mark-voids .ensures, O .is, c .before .before .before .before .before .if1 .left, c .before .before .before .before .before .before .before .before .before .before .before .before .before .before .before .before .before .before .before .before .before .pre .1, c .before .before .before .before .before .before .before .before .before .before .before .before .before .before .before .before .before .before .before .before .before .pre .2, c .before .before .before .before .before .before .before .before .before .before .before .before .before .before .before .before .before .before .before .before .before .pre .3)

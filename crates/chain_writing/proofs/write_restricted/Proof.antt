@@ -1,6 +1,8 @@
 -- `chain_writing::write_restricted` meets its contract. Assumes nothing.
 use borrow.Author.Needs.{needs}
 use mathlib.Core.Path.{sym, _∙_}
+use Prim.Native.Nat.{ℕ}
+use lib.ListN.{length-replicate}
 use lib.Seq.{length-take-le}
 use Rattle.records.proofs.Keeps.{picked-sheets, sheets-shorter}
 use Rattle.settling.proofs.Settling.{settleable-alone}
@@ -12,7 +14,7 @@ use Rattle.chain_writing.proofs.write_restricted.Statement.{statement}
 use Rattle.chain_writing.proofs.write_restricted.Tie as tie
 
 slice-aggregate-keep-sheets : tie.Need-slice-aggregate-keep-sheets
-slice-aggregate-keep-sheets c = search needs
+slice-aggregate-keep-sheets c = sym (length-replicate {A = ℕ} 49152 0)
 
 keep-sheets-requires : tie.Need-keep-sheets-requires
 keep-sheets-requires c κs = omega (arith, book-short _ (own-count (c .before .before .before .before .pre .0)))
@@ -21,7 +23,7 @@ array-share-prefix-kept : tie.Need-array-share-prefix-kept
 array-share-prefix-kept c = let K = c .before .keep-sheets in omega (arith, K .ensures .0, K .kept .1 .0, sheets-shorter (c .before .before .before .before .before .before .args .book .now), book-short _ (own-count (c .before .before .before .before .before .before .pre .0)))
 
 slice-aggregate-run : tie.Need-slice-aggregate-run
-slice-aggregate-run c = let K = c .before .before .keep-sheets in sym (length-take-le _ _ (omega (arith, K .ensures .0, K .kept .1 .0, sheets-shorter (c .before .before .before .before .before .before .before .args .book .now), book-short _ (own-count (c .before .before .before .before .before .before .before .pre .0)))))
+slice-aggregate-run c = sym (length-take-le _ _ (array-share-prefix-kept (c .before)))
 
 settle-alone-requires : tie.Need-settle-alone-requires
 settle-alone-requires c κs = let K = c .before .before .before .before .before .before .before .keep-sheets in let run = sheets-taken _ _ _ (K .ensures .0) (K .ensures .1) in (settleable-alone (sheets-settleable _ (own-count (c .before .before .before .before .before .before .before .before .before .before .before .before .pre .0)) run), c .before .before .before .before .before .before .before .before .before .before .before .before .pre .1 .0)
@@ -36,7 +38,7 @@ same-length : tie.Need-same-length
 same-length c = c .before .before .write-found .kept .1 .1 .1 .1 .1 .1 .1 .0
 
 returns : tie.Need-returns
-returns c = search needs
+returns c = c .before .before .write-found .ensures
 
 pub write-restricted-spec : {M : Type 1} → statement M
 write-restricted-spec =

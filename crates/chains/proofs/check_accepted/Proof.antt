@@ -2,8 +2,8 @@
 use mathlib.Core.Path.{sym, ap, subst, _∙_}
 use Rattle.records.specs.Pieces.{stated}
 use Rattle.records.proofs.Accepted.{accepted, accepted-pieces, accepted-claims}
-use Rattle.closure.proofs.VoidRows.{accepted-markable}
-use Rattle.chains.proofs.Asking.{passes-claim, passes-chain}
+use Rattle.storing.proofs.VoidRows.{accepted-markable}
+use Rattle.passing.proofs.Asking.{passes-claim, passes-chain}
 use native.Mathlib.Omega.{arith}
 use borrow.Author.Needs.{needs}
 use Rattle.chains.proofs.check_accepted.Statement.{statement}

@@ -1,7 +1,7 @@
 -- `chains::check_chain` meets its contract. Assumes nothing.
 use mathlib.Core.Path.{sym, _∙_}
 use Rattle.answers.proofs.Fresh.{fresh-sound}
-use Rattle.chains.proofs.Asking.{fresh-runs, passes-misfit, passes-refused}
+use Rattle.passing.proofs.Asking.{fresh-runs, passes-misfit, passes-refused}
 use native.Mathlib.Omega.{arith}
 use borrow.Author.Needs.{needs}
 use Rattle.chains.proofs.check_chain.Statement.{statement}

@@ -1,6 +1,6 @@
 -- `closure::meets` meets its contract: the stored MEETS and the diagonal of pieces not marked. Assumes nothing.
 use borrow.Author.Needs.{needs}
-use Rattle.closure.proofs.Holding.{below-2048, meet-holds}
+use Rattle.storing.proofs.Holding.{below-2048, meet-holds}
 use Rattle.closure.proofs.meets.Statement.{statement}
 use Rattle.closure.proofs.meets.Tie as tie
 

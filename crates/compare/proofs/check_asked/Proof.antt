@@ -1,46 +1,51 @@
 -- `compare::check_asked` meets its contract. Assumes nothing.
-use borrow.Author.Needs.{needs}
+use Prim.Native.Nat.{ℕ, _≤_}
 use native.Mathlib.Omega.{arith}
 use mathlib.Core.Path.{sym, _∙_}
+use lib.ListN.{length, replicate, length-replicate}
 use lib.Seq.{length-take-le}
 use Rattle.records.proofs.Accepted.{accepted-claims}
 use Rattle.compare.proofs.Rows.{asked-refused}
 use Rattle.compare.proofs.check_asked.Statement.{statement}
 use Rattle.compare.proofs.check_asked.Tie as tie
 
+-- an answer to each claim has room
+asked-fit : {a : ℕ} → a ≤ 4096 → a ≤ length (replicate {A = ℕ} 4096 0)
+asked-fit p = omega (arith, length-replicate {A = ℕ} 4096 0)
+
 larger-requires : tie.Need-larger-requires
-larger-requires c κs = search needs
+larger-requires c κs = tt
 
 check-claims-requires : tie.Need-check-claims-requires
-check-claims-requires c κs = search needs
+check-claims-requires c κs = tt
 
 enum-known-fit : tie.Need-enum-known-fit
-enum-known-fit c = search needs
+enum-known-fit c = c .match .keys1
 
 after-requires : tie.Need-after-requires
-after-requires c κs = search needs
+after-requires c κs = tt
 
 after-requires-2 : tie.Need-after-requires-2
-after-requires-2 c κs = search needs
+after-requires-2 c κs = tt
 
 enum-told : tie.Need-enum-told
-enum-told c = search needs
+enum-told c = c .match .keys2
 
 array-borrow-prefix-ours : tie.Need-array-borrow-prefix-ours
-array-borrow-prefix-ours c = omega (arith, accepted-claims _ _ (sym (c .before .before .check-claims .ensures) ∙ c .enum-told .given .1) .few)
+array-borrow-prefix-ours c = asked-fit (accepted-claims _ _ (sym (c .before .before .check-claims .ensures) ∙ c .enum-told .given .1) .few)
 
 slice-aggregate-judge-both : tie.Need-slice-aggregate-judge-both
-slice-aggregate-judge-both c = sym (length-take-le _ _ (omega (arith, accepted-claims _ _ (sym (c .before .before .before .check-claims .ensures) ∙ c .before .enum-told .given .1) .few)))
+slice-aggregate-judge-both c = sym (length-take-le _ _ (asked-fit (accepted-claims _ _ (sym (c .before .before .before .check-claims .ensures) ∙ c .before .enum-told .given .1) .few)))
 
 array-borrow-prefix-theirs : tie.Need-array-borrow-prefix-theirs
-array-borrow-prefix-theirs c = omega (arith, accepted-claims _ _ (sym (c .before .before .before .check-claims .ensures) ∙ c .before .enum-told .given .1) .few)
+array-borrow-prefix-theirs c = asked-fit (accepted-claims _ _ (sym (c .before .before .before .check-claims .ensures) ∙ c .before .enum-told .given .1) .few)
 
 slice-aggregate-judge-both-2 : tie.Need-slice-aggregate-judge-both-2
-slice-aggregate-judge-both-2 c = sym (length-take-le _ _ (omega (arith, accepted-claims _ _ (sym (c .before .before .before .before .check-claims .ensures) ∙ c .before .before .enum-told .given .1) .few)))
+slice-aggregate-judge-both-2 c = sym (length-take-le _ _ (asked-fit (accepted-claims _ _ (sym (c .before .before .before .before .check-claims .ensures) ∙ c .before .before .enum-told .given .1) .few)))
 
 judge-both-requires : tie.Need-judge-both-requires
 judge-both-requires c κs =
-    (record { sound = c .before .before .before .before .before .before .before .before .before .before .before .before .pre; fit = rw (c .before .before .before .before .before .before .larger .ensures) at (sym (c .before .before .before .before .before .check-claims .ensures) ∙ c .before .before .before .enum-told .given .1) }, length-take-le _ _ (omega (arith, accepted-claims _ _ (sym (c .before .before .before .before .before .check-claims .ensures) ∙ c .before .before .before .enum-told .given .1) .few)), length-take-le _ _ (omega (arith, accepted-claims _ _ (sym (c .before .before .before .before .before .check-claims .ensures) ∙ c .before .before .before .enum-told .given .1) .few)))
+    (record { sound = c .before .before .before .before .before .before .before .before .before .before .before .before .pre; fit = rw (c .before .before .before .before .before .before .larger .ensures) at (sym (c .before .before .before .before .before .check-claims .ensures) ∙ c .before .before .before .enum-told .given .1) }, length-take-le _ _ (asked-fit (accepted-claims _ _ (sym (c .before .before .before .before .before .check-claims .ensures) ∙ c .before .before .before .enum-told .given .1) .few)), length-take-le _ _ (asked-fit (accepted-claims _ _ (sym (c .before .before .before .before .before .check-claims .ensures) ∙ c .before .before .before .enum-told .given .1) .few)))
 
 returns : tie.Need-returns
 returns c =
@@ -48,10 +53,10 @@ returns c =
     asked-refused _ _ _ _ (P .first) (P .second) _ _ (rw (c .before .before .before .before .before .before .larger .ensures) at (sym (c .before .before .before .before .before .check-claims .ensures) ∙ c .before .before .before .fit .given .1)) (c .before .after .ensures) (c .after2 .ensures)
 
 same-length : tie.Need-same-length
-same-length c = search needs
+same-length c = c .before .before .before .before .judge-both .kept .1 .1 .1 .1 .1 .1 .1 .1 .0
 
 returns-2 : tie.Need-returns-2
-returns-2 c = search needs
+returns-2 c = c .before .before .before .before .judge-both .ensures
 
 pub check-asked-spec : {M : Type 1} → statement M
 check-asked-spec =

@@ -1,6 +1,4 @@
 -- `compare::judge_both` meets its contract. Assumes nothing.
-use borrow.Author.Needs.{needs}
-use native.Mathlib.Omega.{arith}
 use mathlib.Core.Path.{sym, _∙_}
 use mathlib.Core.List.{[]}
 use Rattle.compare.proofs.Joining.{layable}
@@ -17,7 +15,7 @@ answer-book-requires c κs =
     (rw (c .before .before .before .before .larger .ensures) (record { counted = first-counted _ _ _ [] (P .sound .first) (P .sound .second) (P .fit); fit = P .fit; rooms = c .before .before .before .before .before .before .before .before .before .before .before .before .pre .1 }))
 
 enum-known-one : tie.Need-enum-known-one
-enum-known-one c = search needs
+enum-known-one c = c .match .keys1
 
 same-length : tie.Need-same-length
 same-length c = c .before .before .before .before .before .answer-book .kept .1 .1 .1 .1 .1 .1 .0
@@ -28,7 +26,7 @@ returns c =
     first-clashed _ _ _ _ (P .sound .first) (P .sound .second) (P .fit) (rw (c .before .before .before .before .before .before .before .before .before .before .larger .ensures) at (c .before .before .before .before .before .answer-book .ensures .outcome-is)) (c .before .one .given .1)
 
 enum-told : tie.Need-enum-told
-enum-told c = search needs
+enum-told c = c .match .keys2
 
 answer-book-requires-2 : tie.Need-answer-book-requires-2
 answer-book-requires-2 c κs =
@@ -36,7 +34,7 @@ answer-book-requires-2 c κs =
     (rw (c .before .before .before .before .before .before .before .before .before .before .before .before .before .larger .ensures) (record { counted = second-counted _ _ _ [] (P .sound .first) (P .sound .second) (P .fit); fit = P .fit; rooms = c .before .before .before .before .before .before .before .before .before .before .before .before .before .before .before .before .before .before .before .before .before .pre .2 }))
 
 enum-known-two : tie.Need-enum-known-two
-enum-known-two c = search needs
+enum-known-two c = c .match2 .keys1
 
 same-length-2 : tie.Need-same-length-2
 same-length-2 c = c .before .before .before .before .before .before .before .before .before .before .before .before .before .before .answer-book .kept .1 .1 .1 .1 .1 .1 .0
@@ -50,7 +48,7 @@ returns-2 c =
     second-clashed _ _ _ _ (P .sound .first) (P .sound .second) (P .fit) (rw (c .before .before .before .before .before .before .before .before .before .before .before .before .before .before .before .before .before .before .before .larger .ensures) at (c .before .before .before .before .before .before .before .before .before .before .before .before .before .before .answer-book .ensures .outcome-is)) (c .before .before .before .before .before .before .before .before .before .before .enum-told .given .1) (rw (c .before .before .before .before .before .before .before .before .before .before .before .before .before .before .before .before .before .before .before .larger .ensures) at (c .before .before .before .before .before .answer-book2 .ensures .outcome-is)) (c .before .two .given .1)
 
 enum-told-2 : tie.Need-enum-told-2
-enum-told-2 c = search needs
+enum-told-2 c = c .match2 .keys2
 
 can-be-laid-requires : tie.Need-can-be-laid-requires
 can-be-laid-requires c κs =
@@ -61,7 +59,7 @@ write-answers-requires : tie.Need-write-answers-requires
 write-answers-requires c κs =
     let P = c .before .before .before .before .before .before .before .before .before .before .before .before .before .before .before .before .before .before .before .before .before .before .before .before .before .before .before .before .before .before .before .before .before .pre in
     let o = c .before .before .before .before .before .before .before .before .before .before .before .before .before .before .before .before .before .before .before .before .answer-book .kept .1 .1 .1 .1 .1 .1 .0 ∙ P .1 in
-    (c .before .before .before .before .before .before .before .before .before .before .before .answer-book2 .kept .1 .1 .1 .1 .1 .1 .0 ∙ P .2 ∙ sym o, omega (arith, o, P .0 .sound .rooms))
+    (c .before .before .before .before .before .before .before .before .before .before .before .answer-book2 .kept .1 .1 .1 .1 .1 .1 .0 ∙ P .2 ∙ sym o, rw o (P .0 .sound .rooms))
 
 same-length-4 : tie.Need-same-length-4
 same-length-4 c = c .before .before .before .before .before .before .before .before .before .before .before .before .before .before .before .before .before .before .before .before .before .before .before .answer-book .kept .1 .1 .1 .1 .1 .1 .0

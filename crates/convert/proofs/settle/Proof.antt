@@ -1,6 +1,6 @@
 -- `convert::settle` meets its contract. Assumes nothing.
 use borrow.Author.Needs.{needs}
-use Rattle.closure.proofs.VoidRows.{no-voids}
+use Rattle.storing.proofs.VoidRows.{no-voids}
 use Rattle.settling.proofs.Settling.{settleable-alone}
 use Rattle.convert.proofs.Writes.{no-marks, settleable-former}
 use Rattle.convert.proofs.settle.Statement.{statement}

@@ -5,7 +5,7 @@ use native.Mathlib.Omega.{arith}
 use lib.ListN.{length, getD, length-set}
 use Rattle.groups.proofs.Ranking.{Ranking, rank-none, rank-new, rank-old, rank-all, old-head}
 use Rattle.lists.proofs.Bounds.{closer}
-use Rattle.groups.proofs.Fits.{below, under, in-room, short, fits-more, fits-twice}
+use Rattle.components.proofs.Fits.{below, under, in-room, short, fits-more, fits-twice}
 use Rattle.groups.proofs.number_groups.Statement.{statement}
 use Rattle.groups.proofs.number_groups.Tie as tie
 
@@ -32,13 +32,13 @@ old c =
     let h = old-head (s .args .n) (λ x. getD (s .args .done .now) x 0) (o .number) (o .lead) (o .heads) (o .k) (o .g) (o .inv .1) l (s .pre .few) (s .pre .small (o .g) l) (omega (arith, o .inv .0)) (omega (arith, o .inv .0)) (omega (arith, o .inv .0)) (λ q. c .if1 .left (e ∙ q)) in
     (e, omega (arith, e, h .1))
 
-blank-requires : tie.Need-blank-requires Inv-loop μ-loop
-blank-requires c κs = tt
+fill-requires : tie.Need-fill-requires Inv-loop μ-loop
+fill-requires c κs = tt
 
 loop-holds : tie.Need-loop-holds Inv-loop μ-loop
 loop-holds c =
     let s = c .before .before .before .before .before .before .before in
-    ((s .pre .few, omega arith, omega arith, s .pre .numbers, s .pre .leads, c .before .before .blank .kept .0 ∙ s .pre .heads), rank-none (s .args .n) (λ x. getD (s .args .done .now) x 0) _ _ _ (length (s .args .heads .now)) (omega (arith, s .pre .few, s .pre .heads)) (c .before .before .blank .ensures))
+    ((s .pre .few, omega arith, omega arith, s .pre .numbers, s .pre .leads, c .before .before .fill .kept .0 ∙ s .pre .heads), rank-none (s .args .n) (λ x. getD (s .args .done .now) x 0) _ _ _ (length (s .args .heads .now)) (omega (arith, s .pre .few, s .pre .heads)) (c .before .before .fill .ensures))
 
 mul-wide : tie.Need-mul-wide Inv-loop μ-loop
 mul-wide c = fits-twice _ (below _ _ (c .loop-test .taken) (c .before .before .before .before .before .before .before .before .before .pre .few))
@@ -165,7 +165,7 @@ number-groups-spec =
     (tie.spec
     Inv-loop
     μ-loop
-    blank-requires
+    fill-requires
     loop-holds
     mul-wide
     element-copy-out-wide

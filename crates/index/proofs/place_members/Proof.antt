@@ -21,11 +21,11 @@ Inv-loop n number groups places₀ g₀ places g =
 abbrev μ-loop : tie.MeasureT-loop
 μ-loop n number groups places₀ g₀ places g = n - g
 
-clear-requires : tie.Need-clear-requires Inv-loop μ-loop
-clear-requires c κs = search needs
+fill-requires : tie.Need-fill-requires Inv-loop μ-loop
+fill-requires c κs = search needs
 
 loop-holds : tie.Need-loop-holds Inv-loop μ-loop
-loop-holds c = (search needs, refl, below-none _, λ k l. cleared (length (c .before .before .before .before .before .before .before .args .places .now)) (c .before .before .clear .ensures) .zeros k)
+loop-holds c = (search needs, refl, below-none _, λ k l. cleared (length (c .before .before .before .before .before .before .before .args .places .now)) (c .before .before .fill .ensures) .zeros k)
 
 mul-wide : tie.Need-mul-wide Inv-loop μ-loop
 mul-wide c = search needs
@@ -90,7 +90,7 @@ place-members-spec =
     (tie.spec
     Inv-loop
     μ-loop
-    clear-requires
+    fill-requires
     loop-holds
     mul-wide
     shared-slice-read-wide

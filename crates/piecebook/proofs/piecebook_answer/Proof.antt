@@ -1,4 +1,4 @@
-use Rattle.piecebook.proofs.Results.{handed}
+use Rattle.results.proofs.Results.{handed}
 use borrow.Author.Needs.{needs}
 use Rattle.piecebook.proofs.piecebook_answer.Statement.{statement}
 use Rattle.piecebook.proofs.piecebook_answer.Tie as tie

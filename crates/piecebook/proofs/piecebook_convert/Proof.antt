@@ -1,4 +1,4 @@
-use Rattle.piecebook.proofs.Results.{passed}
+use Rattle.results.proofs.Results.{passed}
 use borrow.Author.Needs.{needs}
 use Rattle.piecebook.proofs.piecebook_convert.Statement.{statement}
 use Rattle.piecebook.proofs.piecebook_convert.Tie as tie

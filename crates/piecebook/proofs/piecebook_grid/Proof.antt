@@ -1,7 +1,7 @@
 -- `piecebook::piecebook_grid` meets its contract: the numbers of the outcome, and the grids as they are. Assumes nothing.
 use mathlib.Core.Path.{ap, _∙_}
 use borrow.Author.Needs.{needs}
-use Rattle.answers.specs.Outcome.{number, place}
+use Rattle.outcomes.specs.Outcome.{number, place}
 use Rattle.piecebook.proofs.piecebook_grid.Statement.{statement}
 use Rattle.piecebook.proofs.piecebook_grid.Tie as tie
 

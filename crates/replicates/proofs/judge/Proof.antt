@@ -1,8 +1,7 @@
 -- `replicates::judge` meets its contract. Assumes nothing.
-use borrow.Author.Needs.{needs}
-use mathlib.Core.Path.{sym, _∙_}
+use mathlib.Core.Path.{refl, sym, _∙_}
 use Rattle.records.proofs.Accepted.{accepted}
-use Rattle.closure.proofs.VoidRows.{accepted-markable}
+use Rattle.storing.proofs.VoidRows.{accepted-markable}
 use Rattle.settling.proofs.Settling.{settleable, settleable-alone}
 use Rattle.replicates.proofs.Rows.{passes}
 use Rattle.replicates.proofs.Calls.{clash-refused, part-refused, part-written}
@@ -10,40 +9,40 @@ use Rattle.replicates.proofs.judge.Statement.{statement}
 use Rattle.replicates.proofs.judge.Tie as tie
 
 slice-aggregate-mark-voids : tie.Need-slice-aggregate-mark-voids
-slice-aggregate-mark-voids c = search needs
+slice-aggregate-mark-voids c = refl
 
 mark-voids-requires : tie.Need-mark-voids-requires
-mark-voids-requires c κs = (accepted-markable (accepted _ _ (c .before .before .before .before .pre .0)), search needs)
+mark-voids-requires c κs = (accepted-markable (accepted _ _ (c .before .before .before .before .pre .0)), refl)
 
 slice-aggregate-settle-alone : tie.Need-slice-aggregate-settle-alone
-slice-aggregate-settle-alone c = search needs
+slice-aggregate-settle-alone c = sym (c .before .before .mark-voids .kept .1 .0)
 
 settle-alone-requires : tie.Need-settle-alone-requires
 settle-alone-requires c κs = (settleable-alone (settleable _ _ (c .before .before .before .before .before .before .before .before .before .before .before .before .pre .0)), c .before .before .before .before .before .before .before .mark-voids .ensures .0)
 
 enum-known-settled : tie.Need-enum-known-settled
-enum-known-settled c = search needs
+enum-known-settled c = c .match .keys1
 
 refuse-requires : tie.Need-refuse-requires
-refuse-requires c κs = search needs
+refuse-requires c κs = tt
 
 enum-known-settled-2 : tie.Need-enum-known-settled-2
-enum-known-settled-2 c = search needs
+enum-known-settled-2 c = c .match .keys2
 
 check-part-requires : tie.Need-check-part-requires
-check-part-requires c κs = search needs
+check-part-requires c κs = tt
 
 enum-known-fit : tie.Need-enum-known-fit
-enum-known-fit c = search needs
+enum-known-fit c = c .match2 .keys1
 
 refuse-requires-2 : tie.Need-refuse-requires-2
-refuse-requires-2 c κs = search needs
+refuse-requires-2 c κs = tt
 
 enum-known-fit-2 : tie.Need-enum-known-fit-2
-enum-known-fit-2 c = search needs
+enum-known-fit-2 c = c .match2 .keys2
 
 slice-aggregate-write-part : tie.Need-slice-aggregate-write-part
-slice-aggregate-write-part c = search needs
+slice-aggregate-write-part c = sym (c .before .before .before .before .before .before .before .before .before .before .before .before .before .before .before .before .mark-voids .kept .1 .0)
 
 write-part-requires : tie.Need-write-part-requires
 write-part-requires c κs =
@@ -74,7 +73,7 @@ returns-2 c =
     (sym (c .before .before .fit .given .1) ∙ c .before .before .before .before .check-part .ensures)
 
 same-length : tie.Need-same-length
-same-length c = search needs
+same-length c = c .before .before .write-part .kept .1 .1 .1 .1 .1 .1 .1 .1 .1 .1 .0
 
 returns-3 : tie.Need-returns-3
 returns-3 c =

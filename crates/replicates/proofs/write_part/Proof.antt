@@ -1,9 +1,11 @@
 -- `replicates::write_part` meets its contract. Assumes nothing.
 use native.Mathlib.Omega.{arith}
-use Prim.Native.Nat.{_+_, _≤_}
+use Prim.Native.Nat.{ℕ, _+_, _≤_}
 use mathlib.Core.Path.{_≡_, sym, ap, _∙_}
-use lib.ListN.{length, take}
+use lib.ListN.{length, take, length-replicate}
 use lib.Seq.{length-take-le}
+use mir.Syntax.{w64}
+use mir.Val.{Fits}
 use Rattle.settling.proofs.Settling.{settleable}
 use Rattle.replicates.specs.Log.{entryCount, sequence, windowOf}
 use Rattle.replicates.proofs.Sequences.{filled}
@@ -12,71 +14,84 @@ use borrow.Author.Needs.{needs}
 use Rattle.replicates.proofs.write_part.Statement.{statement}
 use Rattle.replicates.proofs.write_part.Tie as tie
 
+-- the window and the part have room in the sequence
+all-fit : {a b m : ℕ} → a ≤ 31 → b ≤ 32768 → m ≡ 32799 → a + b ≤ m
+all-fit p q e = omega arith
+
+wide-enough : {m : ℕ} → m ≡ 32799 → 31 ≤ m
+wide-enough e = omega arith
+
+end-fits : {a b : ℕ} → a ≤ 31 → b ≤ 32768 → Fits w64 (a + b)
+end-fits p q = omega arith
+
+all-there : {a m : ℕ} → m ≡ 31 → a ≤ 31 → a ≤ m
+all-there e p = omega arith
+
 slice-aggregate-apart-rows : tie.Need-slice-aggregate-apart-rows
-slice-aggregate-apart-rows c = search needs
+slice-aggregate-apart-rows c = sym (length-replicate {A = ℕ} 65536 0)
 
 apart-rows-requires : tie.Need-apart-rows-requires
 apart-rows-requires c κs =
     let P = c .before .before .before .before .before .before .before .before .before .before .pre in
     let S = settleable _ _ (P .sound) in
-    (S .bounded, P .void .0, P .steps, P .parts, search needs, search needs, sym (P .free))
+    (S .bounded, P .void .0, P .steps, P .parts, search needs, length-replicate {A = ℕ} 65536 0, sym (P .free))
 
 slice-aggregate-put-window : tie.Need-slice-aggregate-put-window
-slice-aggregate-put-window c = search needs
+slice-aggregate-put-window c = sym (length-replicate {A = ℕ} 32799 0)
 
 put-window-requires : tie.Need-put-window-requires
-put-window-requires c κs = (c .before .before .before .before .before .before .before .before .before .before .before .before .before .pre .fits .short, search needs)
+put-window-requires c κs = (c .before .before .before .before .before .before .before .before .before .before .before .before .before .pre .fits .short, wide-enough (length-replicate {A = ℕ} 32799 0))
 
 slice-aggregate-put-entries : tie.Need-slice-aggregate-put-entries
-slice-aggregate-put-entries c = search needs
+slice-aggregate-put-entries c = sym (c .before .before .put-window .kept .1 .0 ∙ length-replicate {A = ℕ} 32799 0)
 
 put-entries-requires : tie.Need-put-entries-requires
-put-entries-requires c κs = let P = c .before .before .before .before .before .before .before .before .before .before .before .before .before .before .before .before .pre in (omega (arith, P .fits .few, P .fits .short, c .before .before .put-window .kept .1 .0), P .fits .short)
+put-entries-requires c κs = let P = c .before .before .before .before .before .before .before .before .before .before .before .before .before .before .before .before .pre in (all-fit (P .fits .short) (P .fits .few) (sym (slice-aggregate-put-entries c)), P .fits .short)
 
 add-end : tie.Need-add-end
-add-end c = let P = c .before .before .before .before .before .before .before .before .before .before .before .before .before .before .before .before .before .before .pre in omega (arith, P .fits .few, P .fits .short)
+add-end c = let P = c .before .before .before .before .before .before .before .before .before .before .before .before .before .before .before .before .before .before .pre in end-fits (P .fits .short) (P .fits .few)
 
 array-share-prefix-xs : tie.Need-array-share-prefix-xs
-array-share-prefix-xs c = let P = c .before .before .before .before .before .before .before .before .before .before .before .before .before .before .before .before .before .before .pre in omega (arith, P .fits .few, P .fits .short)
+array-share-prefix-xs c = let P = c .before .before .before .before .before .before .before .before .before .before .before .before .before .before .before .before .before .before .pre in all-fit (P .fits .short) (P .fits .few) (c .before .put-entries .kept .1 .1 .0 ∙ sym (slice-aggregate-put-entries (c .before .before)))
 
 slice-aggregate-seq : tie.Need-slice-aggregate-seq
 slice-aggregate-seq c =
     let P = c .before .before .before .before .before .before .before .before .before .before .before .before .before .before .before .before .before .before .before .pre in
     let A = c .before .before .before .before .before .before .before .before .before .before .before .before .before .before .before .before .before .before .before .args in
     let xs = c .before .before .put-entries .last .1 .1 .0 in
-    let long : length xs ≡ 32799 = search needs in
-    sym (length-take-le (A .window .count + entryCount (A .log .now)) xs (omega (arith, long, P .fits .few, P .fits .short)))
+    let long : length xs ≡ 32799 = c .before .before .put-entries .kept .1 .1 .0 ∙ sym (slice-aggregate-put-entries (c .before .before .before)) in
+    sym (length-take-le (A .window .count + entryCount (A .log .now)) xs (all-fit (P .fits .short) (P .fits .few) long))
 
 slice-aggregate-write-bytes : tie.Need-slice-aggregate-write-bytes
-slice-aggregate-write-bytes c = search needs
+slice-aggregate-write-bytes c = sym (c .before .before .before .before .before .before .before .before .before .apart-rows .ensures .sized)
 
 write-bytes-requires : tie.Need-write-bytes-requires
 write-bytes-requires c κs =
     let P = c .before .before .before .before .before .before .before .before .before .before .before .before .before .before .before .before .before .before .before .before .before .pre in
     let A = c .before .before .before .before .before .before .before .before .before .before .before .before .before .before .before .before .before .before .before .before .before .args in
     let xs = c .before .before .before .before .put-entries .last .1 .1 .0 in
-    let long : length xs ≡ 32799 = search needs in
-    let few : A .window .count ≤ length (A .window .pieces) = omega (arith, c .before .before .before .before .before .before .before .put-window .ensures .all, P .fits .short) in
+    let long : length xs ≡ 32799 = c .before .before .before .before .put-entries .kept .1 .1 .0 ∙ sym (slice-aggregate-put-entries (c .before .before .before .before .before)) in
+    let few : A .window .count ≤ length (A .window .pieces) = all-there (c .before .before .before .before .before .before .before .put-window .ensures .all) (P .fits .short) in
     asks (A .book .now) (A .n) (A .window) (A .log .now) few (settleable _ _ (P .sound) .bounded .fits) (P .fits)
     (take (A .window .count + entryCount (A .log .now)) xs) _ _
-    (filled (A .window) (A .log .now) few _ xs (omega (arith, long, P .fits .few, P .fits .short)) (c .before .before .before .before .before .before .before .put-window .ensures) (c .before .before .before .before .put-entries .ensures))
+    (filled (A .window) (A .log .now) few _ xs (all-fit (P .fits .short) (P .fits .few) long) (c .before .before .before .before .before .before .before .put-window .ensures) (c .before .before .before .before .put-entries .ensures))
     (c .before .before .before .before .before .before .before .before .before .before .apart-rows .ensures .sized) (P .wide)
 
 last-window-requires : tie.Need-last-window-requires
-last-window-requires c κs = search needs
+last-window-requires c κs = tt
 
 same-length : tie.Need-same-length
-same-length c = search needs
+same-length c = c .before .before .before .write-bytes .kept .1 .1 .1 .0
 
 returns : tie.Need-returns
 returns c =
     let P = c .before .before .before .before .before .before .before .before .before .before .before .before .before .before .before .before .before .before .before .before .before .before .before .before .before .pre in
     let A = c .before .before .before .before .before .before .before .before .before .before .before .before .before .before .before .before .before .before .before .before .before .before .before .before .before .args in
     let xs = c .before .before .before .before .before .before .before .before .put-entries .last .1 .1 .0 in
-    let long : length xs ≡ 32799 = search needs in
-    let few : A .window .count ≤ length (A .window .pieces) = omega (arith, c .before .before .before .before .before .before .before .before .before .before .before .put-window .ensures .all, P .fits .short) in
+    let long : length xs ≡ 32799 = c .before .before .before .before .before .before .before .before .put-entries .kept .1 .1 .0 ∙ sym (slice-aggregate-put-entries (c .before .before .before .before .before .before .before .before .before)) in
+    let few : A .window .count ≤ length (A .window .pieces) = all-there (c .before .before .before .before .before .before .before .before .before .before .before .put-window .ensures .all) (P .fits .short) in
     let e : take (A .window .count + entryCount (A .log .now)) xs ≡ sequence (A .window) (A .log .now)
-    = filled (A .window) (A .log .now) few _ xs (omega (arith, long, P .fits .few, P .fits .short)) (c .before .before .before .before .before .before .before .before .before .before .before .put-window .ensures) (c .before .before .before .before .before .before .before .before .put-entries .ensures) in (
+    = filled (A .window) (A .log .now) few _ xs (all-fit (P .fits .short) (P .fits .few) long) (c .before .before .before .before .before .before .before .before .before .before .before .put-window .ensures) (c .before .before .before .before .before .before .before .before .put-entries .ensures) in (
       c .last-window .ensures ∙ ap windowOf e,
       writes (A .book .now) (A .n) (A .window) (A .log .now) few (settleable _ _ (P .sound) .bounded .fits) (P .fits) _ _ _ _ e
           (rw (P .void .1) at (c .before .before .before .before .before .before .before .before .before .before .before .before .before .before .apart-rows .ensures)) (c .before .before .before .write-bytes .ensures),

@@ -5,8 +5,8 @@ use Prim.Native.Nat.{_+_, _*_, _/_, _-_, _≤_}
 use mathlib.Core.Path.{sym}
 use lib.ListN.{length}
 use lib.Seq.{length-take-le}
-use Rattle.closure.specs.Void.{voidOf}
-use Rattle.settling.proofs.Halving.{run-bounded, run-roomy, Halving, halving-start, halving-high, halving-low, halving-done}
+use Rattle.storing.specs.Void.{voidOf}
+use Rattle.opening.proofs.Halving.{run-bounded, run-roomy, Halving, halving-start, halving-high, halving-low, halving-done}
 use Rattle.settling.proofs.contradiction.Statement.{statement}
 use Rattle.settling.proofs.contradiction.Tie as tie
 

@@ -5,7 +5,7 @@ use native.Mathlib.Omega.{arith}
 use denote.Ref.{now}
 use Prim.Native.Nat.{ℕ}
 use lib.ListN.{getD, replicate, length-replicate}
-use Rattle.answers.specs.Lent.{Lent, lent}
+use Rattle.outcomes.specs.Lent.{Lent, lent}
 use Rattle.answers.proofs.Fresh.{long-lent, fresh-is}
 use Rattle.working.proofs.Fresh.{answer-left}
 use borrow.Author.Needs.{needs}

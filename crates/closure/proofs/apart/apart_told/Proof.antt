@@ -1,5 +1,5 @@
 -- `closure::apart::apart_told` meets its contract. Assumes nothing.
-use Rattle.closure.proofs.Holding.{below-2048}
+use Rattle.storing.proofs.Holding.{below-2048}
 use Rattle.closure.proofs.Aparts.{told-holds}
 use borrow.Author.Needs.{needs}
 use Rattle.closure.proofs.apart.apart_told.Statement.{statement}

@@ -1,4 +1,4 @@
--- `chain_writing::kinds::chain_apart` meets its contract. Assumes nothing.
+-- `derivations::kinds::chain_apart` meets its contract. Assumes nothing.
 use mathlib.Core.Path.{refl, sym, _∙_}
 use mathlib.Core.Logic.{inl, inr}
 use Rattle.rules.specs.Fact.{APART}

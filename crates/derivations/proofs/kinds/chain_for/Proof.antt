@@ -1,4 +1,4 @@
--- `chain_writing::kinds::chain_for` meets its contract. Assumes nothing.
+-- `derivations::kinds::chain_for` meets its contract. Assumes nothing.
 use mathlib.Core.Path.{sym}
 use Rattle.derivations.proofs.Chaining.{of-part, of-apart, of-meets, of-notpart}
 use native.Mathlib.Omega.{arith}

@@ -1,4 +1,4 @@
--- `chain_writing::kinds::chain_meets` meets its contract. Assumes nothing.
+-- `derivations::kinds::chain_meets` meets its contract. Assumes nothing.
 use mathlib.Core.Path.{sym, _∙_}
 use borrow.Author.Tests.{not-true, not-false}
 use Rattle.rules.specs.Fact.{MEETS}

@@ -1,4 +1,4 @@
--- `chain_writing::kinds::chain_notpart` meets its contract. Assumes nothing.
+-- `derivations::kinds::chain_notpart` meets its contract. Assumes nothing.
 use mathlib.Core.Path.{sym, ap, _∙_}
 use Rattle.rules.specs.Fact.{NOTPART}
 use Rattle.derivations.proofs.Grounds.{small, setting, all-within, marks-out, marks-silent, notpart-none}

@@ -1,4 +1,4 @@
--- `chain_writing::kinds::chain_outside` meets its contract. Assumes nothing.
+-- `derivations::kinds::chain_outside` meets its contract. Assumes nothing.
 use mathlib.Core.Path.{sym, _∙_}
 use mathlib.Core.Bool.{false≢true}
 use borrow.Author.Tests.{not-true, not-false}

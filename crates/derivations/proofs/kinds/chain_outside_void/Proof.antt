@@ -1,4 +1,4 @@
--- `chain_writing::kinds::chain_outside_void` meets its contract. Assumes nothing.
+-- `derivations::kinds::chain_outside_void` meets its contract. Assumes nothing.
 use mathlib.Core.Path.{sym, _∙_}
 use Rattle.derivations.proofs.Grounds.{book-ok, small, found-mark}
 use Rattle.derivations.proofs.Chaining.{outside-marked}

@@ -1,4 +1,4 @@
--- `chain_writing::kinds::void_step` meets its contract. Assumes nothing.
+-- `derivations::kinds::void_step` meets its contract. Assumes nothing.
 use Rattle.derivations.proofs.Grounds.{mark-there}
 use mathlib.Core.Path.{refl}
 use native.Mathlib.Omega.{arith}

@@ -1,4 +1,4 @@
--- `chain_writing::search::both` meets its contract. Assumes nothing.
+-- `derivations::search::both` meets its contract. Assumes nothing.
 use mathlib.Core.Path.{sym, _∙_}
 use borrow.Author.Tests.{not-true, not-false}
 use native.Mathlib.Omega.{arith}

@@ -1,4 +1,4 @@
--- `chain_writing::search::cite_record` meets its contract. Assumes nothing.
+-- `derivations::search::cite_record` meets its contract. Assumes nothing.
 use mathlib.Core.Path.{sym, _∙_}
 use Rattle.derivations.proofs.Grounds.{small}
 use Rattle.derivations.proofs.Serving.{pieces-in, cited-straight, cited-swapped}

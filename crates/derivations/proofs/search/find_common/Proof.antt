@@ -1,9 +1,9 @@
--- `chain_writing::search::find_common` meets its contract. Assumes nothing.
+-- `derivations::search::find_common` meets its contract. Assumes nothing.
 use Prim.Native.Nat.{ℕ, _≤_, _-_}
 use mathlib.Core.Path.{_≡_, sym, ap, _∙_}
 use mathlib.Core.Bool.{Bool, true, false, not, _&&_}
 use Rattle.relation.specs.Matrix.{bitOf}
-use Rattle.closure.specs.Void.{voidOf}
+use Rattle.storing.specs.Void.{voidOf}
 use Rattle.derivations.proofs.Searching.{Passed, passed-none, passed-more, found-hit, found-none, common-void, common-both}
 use native.Mathlib.Omega.{arith}
 use borrow.Author.Needs.{needs}

@@ -1,4 +1,4 @@
--- `chain_writing::search::find_meeting` meets its contract. Assumes nothing.
+-- `derivations::search::find_meeting` meets its contract. Assumes nothing.
 use mathlib.Core.Path.{refl, sym, _∙_}
 use Rattle.derivations.proofs.Grounds.{small, all-within}
 use Rattle.derivations.proofs.Chaining.{met-common, met-stored, met-none}

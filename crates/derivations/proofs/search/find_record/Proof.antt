@@ -1,4 +1,4 @@
--- `chain_writing::search::find_record` meets its contract. Assumes nothing.
+-- `derivations::search::find_record` meets its contract. Assumes nothing.
 use Prim.Native.Nat.{ℕ, _≤_, _-_}
 use mathlib.Core.Path.{_≡_, sym, ap, _∙_}
 use Rattle.records.specs.Record.{recordAt}

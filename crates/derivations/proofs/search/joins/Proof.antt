@@ -1,4 +1,4 @@
--- `chain_writing::search::joins` meets its contract. Assumes nothing.
+-- `derivations::search::joins` meets its contract. Assumes nothing.
 use mathlib.Core.Path.{sym, _∙_}
 use borrow.Author.Tests.{not-true, not-false}
 use Rattle.derivations.proofs.Serving.{joins-apart, joins-meets, joins-notpart, joins-outside}

@@ -1,4 +1,4 @@
--- `chain_writing::search::serves` meets its contract. Assumes nothing.
+-- `derivations::search::serves` meets its contract. Assumes nothing.
 use mathlib.Core.Path.{sym, _∙_}
 use borrow.Author.Tests.{not-true, not-false}
 use Rattle.derivations.proofs.Serving.{kind-range, serves-other, serves-barred, serves-straight, serves-ordered, serves-swapped}

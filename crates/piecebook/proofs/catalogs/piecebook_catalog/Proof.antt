@@ -1,5 +1,5 @@
 use borrow.Author.Needs.{needs}
-use Rattle.piecebook.proofs.Listings.{cataloged}
+use Rattle.results.proofs.Listings.{cataloged}
 use Rattle.piecebook.proofs.catalogs.piecebook_catalog.Statement.{statement}
 use Rattle.piecebook.proofs.catalogs.piecebook_catalog.Tie as tie
 

@@ -1,6 +1,6 @@
 -- `piecebook::chain_calls::piecebook_chain` meets its contract. Assumes nothing.
 use native.Mathlib.Omega.{arith}
-use Rattle.piecebook.proofs.Chaining.{chained-all}
+use Rattle.results.proofs.Chaining.{chained-all}
 use borrow.Author.Needs.{needs}
 use Rattle.piecebook.proofs.chain_calls.piecebook_chain.Statement.{statement}
 use Rattle.piecebook.proofs.chain_calls.piecebook_chain.Tie as tie

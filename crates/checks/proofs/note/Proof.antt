@@ -1,0 +1,43 @@
+-- `checks::note` meets its contract. Assumes nothing.
+use borrow.Author.Needs.{needs}
+use native.Mathlib.Omega.{arith}
+use Rattle.checks.proofs.Filters.{noted-second, noted-new}
+use Rattle.checks.proofs.note.Statement.{statement}
+use Rattle.checks.proofs.note.Tie as tie
+
+slot-of-requires : tie.Need-slot-of-requires
+slot-of-requires c κs = search needs
+
+mark-requires : tie.Need-mark-requires
+mark-requires c κs = (c .before .before .before .pre, omega (arith, c .slot-of .ensures))
+
+other-slot-requires : tie.Need-other-slot-requires
+other-slot-requires c κs = search needs
+
+mark-requires-2 : tie.Need-mark-requires-2
+mark-requires-2 c κs = (search needs, omega (arith, c .other-slot .ensures))
+
+same-length : tie.Need-same-length
+same-length c = search needs
+
+returns : tie.Need-returns
+returns c = noted-second _ _ _ _ (c .before .before .before .before .before .before .before .before .before .slot-of .ensures) (c .before .before .before .before .other-slot .ensures) (c .before .before .before .before .before .before .before .before .mark .ensures .1) (c .before .before .before .mark2 .ensures .1) _ (c .before .before .before .mark2 .ensures .0)
+
+same-length-2 : tie.Need-same-length-2
+same-length-2 c = search needs
+
+returns-2 : tie.Need-returns-2
+returns-2 c = noted-new _ _ _ _ (c .before .before .before .before .before .before .before .before .before .slot-of .ensures) (c .before .before .before .before .other-slot .ensures) (c .before .before .before .before .before .before .before .before .mark .ensures .1) (c .before .before .before .mark2 .ensures .1) _ (c .before .before .before .before .before .before .before .before .mark .ensures .0) (c .if1 .left)
+
+pub note-spec : {M : Type 1} → statement M
+note-spec =
+    tie.close
+    (tie.spec
+    slot-of-requires
+    mark-requires
+    other-slot-requires
+    mark-requires-2
+    same-length
+    returns
+    same-length-2
+    returns-2)

@@ -1,0 +1,6 @@
+pub mod Contains
+pub mod Lent
+pub mod Siblings
+pub mod Seeds
+pub mod Rows
+pub mod Table

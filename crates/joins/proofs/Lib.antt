@@ -1,0 +1,3 @@
+pub mod Products
+pub mod Flows
+pub mod Leads

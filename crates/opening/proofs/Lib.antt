@@ -1,0 +1,4 @@
+pub mod Parts
+pub mod Halving
+pub mod FactIndex
+pub mod GroupIndex

@@ -1,0 +1,10 @@
+pub mod Outcome
+pub mod Lent
+pub mod Call
+pub mod Demands
+pub mod Agree
+pub mod Fitting
+pub mod Order
+pub mod Lower
+pub mod Fresh
+pub mod One

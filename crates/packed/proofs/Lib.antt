@@ -1,0 +1,5 @@
+pub mod Masks
+pub mod Packed
+pub mod Ranks
+pub mod Lanes
+pub mod Margins

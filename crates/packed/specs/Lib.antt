@@ -1,0 +1,5 @@
+pub mod Bits
+pub mod Rank
+pub mod Close
+pub mod Tables
+pub mod Words

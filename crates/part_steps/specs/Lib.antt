@@ -1,0 +1,5 @@
+pub mod Climbs
+pub mod Hops
+pub mod Queue
+pub mod Sources
+pub mod Written

@@ -1,0 +1,5 @@
+pub mod Text
+pub mod Decimal
+pub mod Session
+pub mod Put
+pub mod Printed

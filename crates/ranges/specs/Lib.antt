@@ -1,0 +1,3 @@
+pub mod Between
+pub mod Subtree
+pub mod Question

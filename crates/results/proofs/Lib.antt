@@ -1,0 +1,4 @@
+pub mod Results
+pub mod Listings
+pub mod Comparing
+pub mod Chaining

@@ -1,0 +1,5 @@
+pub mod Exported
+pub mod Converts
+pub mod Catalogs
+pub mod Compares
+pub mod Chains

@@ -1,0 +1,5 @@
+pub mod Rows
+pub mod Products
+pub mod Sweeps
+pub mod Rounds
+pub mod Growing

@@ -1,0 +1,5 @@
+pub mod Linked
+pub mod Joining
+pub mod Composed
+pub mod Lifting
+pub mod Carries

@@ -1,0 +1,2 @@
+pub mod Citings
+pub mod Computed

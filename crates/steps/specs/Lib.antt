@@ -1,0 +1,5 @@
+pub mod Step
+pub mod Citing
+pub mod Rule
+pub mod Justified
+pub mod Other

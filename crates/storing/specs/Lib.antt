@@ -1,0 +1,5 @@
+pub mod Void
+pub mod Stored
+pub mod Closed
+pub mod Bounded
+pub mod Counted

@@ -1,0 +1,4 @@
+pub mod Opposed
+pub mod ByMarks
+pub mod Tells
+pub mod Answers

@@ -1,0 +1,173 @@
+// What the closure and the marks say of records and claims: whether a run is contradictory, and the answer to a claim.
+ghost use mathlib.Core.Path.{_≡_};
+ghost use mathlib.Core.Bool.{true, not, _&&_, _||_};
+ghost use mathlib.Core.List.{List};
+ghost use Prim.Native.Nat.{ℕ, _<_, _≤_};
+ghost use lib.ListN.{length};
+ghost use Rattle.rules.specs.Fact.{factOf, AllWithin};
+ghost use Rattle.records.specs.Facts.{facts};
+ghost use Rattle.storing.specs.Void.{voidOf};
+ghost use Rattle.verdicts.specs.ByMarks.{byMarks};
+ghost use Rattle.relation.specs.Matrix.{bitOf};
+ghost use Rattle.verdicts.specs.Opposed.{opposed};
+ghost use Rattle.verdicts.specs.Tells.{Derived, Answered, Clashing};
+ghost use Rattle.verdicts.specs.Answers.{answerByte};
+use records::Record;
+
+// What a book says of a claim.
+pub enum Answer {
+    Follows,
+    Denied,
+    Open,
+}
+
+// Whether one of two pieces is marked.
+fn either_marked(voids: &[u64], a: usize, b: usize) -> bool
+    requires { ⌜ (length (now voids) ≡ 32) × (a < 2048) × (b < 2048) ⌝ }
+    ensures { λ r. ⌜ r ≡ (voidOf (now (voids .entry)) a || voidOf (now (voids .entry)) b) ⌝ }
+{
+    if relation::has(voids, a) {
+        return true;
+    }
+    relation::has(voids, b)
+}
+
+// Whether of two pieces the second alone is marked.
+fn second_marked(voids: &[u64], a: usize, b: usize) -> bool
+    requires { ⌜ (length (now voids) ≡ 32) × (a < 2048) × (b < 2048) ⌝ }
+    ensures { λ r. ⌜ r ≡ (not (voidOf (now (voids .entry)) a) && voidOf (now (voids .entry)) b) ⌝ }
+{
+    if relation::has(voids, a) {
+        return false;
+    }
+    relation::has(voids, b)
+}
+
+// Whether a is marked, or part of b by the stored facts.
+fn part_or_marked(voids: &[u64], d: &[u64], a: usize, b: usize) -> bool
+    requires { ⌜ (length (now voids) ≡ 32) × (length (now d) ≡ 65536) × (a < 2048) × (b < 2048) ⌝ }
+    ensures { λ r. ⌜ r ≡ (voidOf (now (voids .entry)) a || bitOf (now (d .entry)) b a) ⌝ }
+{
+    if relation::has(voids, a) {
+        return true;
+    }
+    relation::test(d, b, a)
+}
+
+// Whether the marks and the closure contradict a record.
+fn opposes(r: Record, voids: &[u64], d: &[u64], t: &[u64]) -> bool
+    requires { ⌜ (length (now voids) ≡ 32) × (length (now d) ≡ 65536) × (length (now t) ≡ 65536) × (1 ≤ r .kind → r .kind ≤ 4 → (r .a < 2048) × (r .b < 2048)) ⌝ }
+    ensures { λ b. ⌜ b ≡ opposed (voidOf (now (voids .entry))) (now (d .entry)) (now (t .entry)) r ⌝ }
+{
+    if r.kind == 1 {
+        return second_marked(voids, r.a, r.b);
+    }
+    if r.kind == 2 {
+        return relation::meet(t, r.a, d, r.b);
+    }
+    if r.kind == 3 {
+        return either_marked(voids, r.a, r.b);
+    }
+    if r.kind == 4 {
+        return part_or_marked(voids, d, r.a, r.b);
+    }
+    false
+}
+
+// Whether the run is contradictory, where d and t are those of its facts: only stored facts are looked at.
+pub fn clashes(run: &[u8], voids: &[u64], d: &[u64], t: &[u64]) -> bool
+    requires { ⌜ (length (now voids) ≡ 32) × (length (now d) ≡ 65536) × (length (now t) ≡ 65536) × AllWithin 2048 (facts (now run)) ⌝ }
+    ensures { λ b. ⌜ Clashing (voidOf (now (voids .entry))) (facts (now (run .entry))) (now (d .entry)) (now (t .entry)) b ⌝ }
+{
+    let n = run.len() / 6;
+    let mut i: usize = 0;
+    while i < n {
+        let r = records::record_at(run, i);
+        if opposes(r, voids, d, t) {
+            return true;
+        }
+        i += 1;
+    }
+    false
+}
+
+// Whether the marks alone tell the fact of a kind about a and b.
+pub fn marks_tell(kind: u8, a: usize, b: usize, voids: &[u64]) -> bool
+    requires { ⌜ (length (now voids) ≡ 32) × (a < 2048) × (b < 2048) ⌝ }
+    ensures { λ r. ⌜ r ≡ byMarks (voidOf (now (voids .entry))) (factOf kind a b) ⌝ }
+{
+    if kind == 1 {
+        return relation::has(voids, a);
+    }
+    if kind == 2 {
+        return either_marked(voids, a, b);
+    }
+    if kind == 3 {
+        return false;
+    }
+    second_marked(voids, a, b)
+}
+
+// Whether the fact of a kind about two pieces that are not marked has a derivation from the facts whose closure is lent.
+fn derived(
+    kind: u8,
+    a: usize,
+    b: usize,
+    d: &[u64],
+    u: &[u64],
+    p: &[u64],
+    t: &[u64],
+    q: &[u64],
+) -> bool
+    requires { ⌜ (a < 2048) × (b < 2048) × (length (now d) ≡ 65536) × (length (now u) ≡ 65536) × (length (now p) ≡ 65536) × (length (now t) ≡ 65536) × (length (now q) ≡ 65536) ⌝ }
+    ensures { λ r. ⌜ Derived (now (d .entry)) (now (u .entry)) (now (p .entry)) (now (t .entry)) (now (q .entry)) kind a b r ⌝ }
+{
+    if kind == 1 {
+        return relation::test(d, b, a);
+    }
+    if kind == 2 {
+        return relation::meet(p, a, u, b);
+    }
+    if kind == 3 {
+        return relation::meet(t, a, d, b);
+    }
+    relation::meet(q, a, u, b)
+}
+
+// The answer to a claim of a kind 1 to 4 about two pieces of which one is marked: the marks decide it.
+fn answer_marked(kind: u8, a: usize, b: usize, voids: &[u64]) -> Answer
+    requires { ⌜ (1 ≤ kind) × (kind ≤ 4) × (a < 2048) × (b < 2048) × (length (now voids) ≡ 32) × ((voidOf (now voids) a || voidOf (now voids) b) ≡ true) ⌝ }
+    ensures { λ r. ⌜ ((d u p t q : List ℕ) → Answered (voidOf (now (voids .entry))) d u p t q kind a b (answerByte r)) ⌝ }
+{
+    if marks_tell(kind, a, b, voids) {
+        return Answer::Follows;
+    }
+    Answer::Denied
+}
+
+// The answer to a claim of a kind 1 to 4. The kinds of opposite claims add up to 5.
+pub fn answer_to(
+    kind: u8,
+    a: usize,
+    b: usize,
+    voids: &[u64],
+    d: &[u64],
+    u: &[u64],
+    p: &[u64],
+    t: &[u64],
+    q: &[u64],
+) -> Answer
+    requires { ⌜ (1 ≤ kind) × (kind ≤ 4) × (a < 2048) × (b < 2048) × (length (now voids) ≡ 32) × (length (now d) ≡ 65536) × (length (now u) ≡ 65536) × (length (now p) ≡ 65536) × (length (now t) ≡ 65536) × (length (now q) ≡ 65536) ⌝ }
+    ensures { λ r. ⌜ Answered (voidOf (now (voids .entry))) (now (d .entry)) (now (u .entry)) (now (p .entry)) (now (t .entry)) (now (q .entry)) kind a b (answerByte r) ⌝ }
+{
+    if either_marked(voids, a, b) {
+        return answer_marked(kind, a, b, voids);
+    }
+    if derived(kind, a, b, d, u, p, t, q) {
+        return Answer::Follows;
+    }
+    if derived(5 - kind, a, b, d, u, p, t, q) {
+        return Answer::Denied;
+    }
+    Answer::Open
+}
