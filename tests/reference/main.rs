@@ -1371,12 +1371,13 @@ fn run(times: usize, threads: usize) -> bool {
     std::thread::scope(|scope| {
         for _ in 0..threads {
             let (waiting, done) = (&waiting, done.clone());
-            let work = move || {
-                while let Some((number, (name, job))) = { waiting.lock().expect("no thread has failed").next() } {
-                    let mut tally = Tally::new(seed(&format!("lent, {name}")));
-                    job(&mut tally);
-                    done.send((number, tally)).expect("all are awaited");
-                }
+            let work = move || loop {
+                // a statement of its own: in the head of a loop the lock would be held while the part is tried
+                let next = waiting.lock().expect("no thread has failed").next();
+                let Some((number, (name, job))) = next else { break };
+                let mut tally = Tally::new(seed(&format!("lent, {name}")));
+                job(&mut tally);
+                done.send((number, tally)).expect("all are awaited");
             };
             // the calls hold up to 4 MiB
             std::thread::Builder::new().stack_size(1 << 24).spawn_scoped(scope, work).expect("a thread");
