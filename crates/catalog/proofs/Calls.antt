@@ -1,18 +1,19 @@
 -- What a catalog comes to and leaves, row by row. Assumes nothing.
 use Prim.Native.Nat.{ℕ, _≤_, _<_}
-use mathlib.Core.Path.{_≡_, refl, sym, ap, _∙_}
+use mathlib.Core.Path.{_≡_, refl, sym, ap, ap₂, subst, _∙_}
 use mathlib.Core.Bool.{Bool, true, false, not, _&&_, _||_, false≢true, and-false}
 use mathlib.Core.List.{List, [], _++_}
 use native.Mathlib.Omega.{arith}
-use borrow.Author.Tests.{ltb-false, ne-eqb, le-leb, lt-leb}
+use borrow.Author.Tests.{ltb-false, ne-eqb, le-leb, lt-leb, leb-true, leb-false}
 use lib.Dec.{ltb, leb}
 use lib.ListN.{length, take, drop}
-use Rattle.lists.proofs.Bools.{Known, is-true, is-false, known}
+use Rattle.lists.proofs.Bools.{and-both}
 use Rattle.records.specs.Record.{records}
 use Rattle.records.specs.Refusal.{refusalNumber, scan}
 use Rattle.records.specs.Check.{bookCheck, claimsCheck}
 use Rattle.records.specs.declared.Refusal.{Refusal}
 use Rattle.records.specs.declared.Refusal.the-variants.{ShortBuffer, ShortCatalog, ClaimFormat, ClaimPiece, Contradiction}
+use Rattle.records.specs.declared.BookCheck.{BookCheck}
 use Rattle.records.specs.declared.BookCheck.the-variants as book
 use Rattle.records.specs.declared.ClaimsCheck.the-variants as claims
 use Rattle.outcomes.specs.Lent.{shortLent}
@@ -30,7 +31,7 @@ use Rattle.answers.proofs.Calls.{long}
 use Rattle.answers.proofs.Calls as calls
 use Rattle.catalog.specs.Lent.{Lent, lent, shortCatalog}
 use Rattle.catalog.specs.Call.{countsOf, refuseIf, byIndex, byAsked, byBook, outcome, left, Determined}
-use Rattle.catalog.specs.Filling.{Roomy, Asked, Filled, Ready, Judged, Answered}
+use Rattle.catalog.specs.Filling.{refusedIf, asked, Roomy, Asked, Filled, Ready, Judged}
 use Rattle.catalog.specs.declared.Counts.{Counts}
 use Rattle.catalog.specs.declared.Listing.{Listing}
 use Rattle.catalog.specs.declared.Listing.the-variants as listing
@@ -73,18 +74,7 @@ module _ (s : List ℕ) (k g n : ℕ) (l : Lent) where
   unfolding left call.left
   untouched r i o = rw (ne-eqb (refusalNumber r) 14 o, call.left)
 
-  -- rows 12 and 13
-  pub kind-refused : (leb 1 k && leb k 3) ≡ false → Answered s k g n l (listing.Refused ClaimFormat 0) l
-  unfolding byAsked refuseIf
-  kind-refused e = record { outcome-is = rw (e, refuseIf); left-is = untouched ClaimFormat 0 (omega arith) }
-
-  pub piece-refused : (leb 1 k && leb k 3) ≡ true → n ≤ g → Answered s k g n l (listing.Refused ClaimPiece 0) l
-  unfolding byAsked refuseIf
-  piece-refused e h = record { outcome-is = rw (e, refuseIf, le-leb n g h, refuseIf); left-is = untouched ClaimPiece 0 (omega arith) }
-
-  pub answered : {r : Listing} {l′ : Lent} → (leb 1 k && leb k 3) ≡ true → g < n → Judged s k g n l r l′ → Answered s k g n l r l′
-  unfolding byAsked refuseIf
-  answered e h J = record { outcome-is = J .outcome-is ∙ rw (e, refuseIf, lt-leb n g h, refuseIf); left-is = J .left-is }
+-- ---- rows 12 and 13
 
 -- kinds 1 to 3
 pub low-kind : (k : ℕ) → k < 1 → (leb 1 k && leb k 3) ≡ false
@@ -95,6 +85,38 @@ high-kind k h = rw (lt-leb k 3 h) (and-false (leb 1 k))
 
 pub fit-kind : (k : ℕ) → 1 ≤ k → k ≤ 3 → (leb 1 k && leb k 3) ≡ true
 fit-kind k h h′ = rw (le-leb 1 k h, le-leb k 3 h′)
+
+module _ (k g n : ℕ) where
+  pub kind-refused : (leb 1 k && leb k 3) ≡ false → book.Refused ClaimFormat 0 ≡ asked k g (book.Accepted n)
+  unfolding asked refusedIf
+  kind-refused e = rw (e, refusedIf)
+
+  pub piece-refused : (leb 1 k && leb k 3) ≡ true → n ≤ g → book.Refused ClaimPiece 0 ≡ asked k g (book.Accepted n)
+  unfolding asked refusedIf
+  piece-refused e h = rw (e, refusedIf, le-leb n g h, refusedIf)
+
+  pub asked-accepted : (leb 1 k && leb k 3) ≡ true → g < n → book.Accepted n ≡ asked k g (book.Accepted n)
+  unfolding asked refusedIf
+  asked-accepted e h = rw (e, refusedIf, lt-leb n g h, refusedIf)
+
+-- a book whose rows are passed with a kind and a piece
+pub passed-asked : (s : List ℕ) (k g : ℕ) {n : ℕ} → asked k g (bookCheck s) ≡ book.Accepted n → (bookCheck s ≡ book.Accepted n) × Asked n k g
+unfolding asked refusedIf
+passed-asked s k g {n} = pick (bookCheck s) refl
+  where
+    rows : (m : ℕ) (a b : Bool) → (leb 1 k && leb k 3) ≡ a → leb m g ≡ b → refusedIf (not a) ClaimFormat (refusedIf b ClaimPiece (book.Accepted m)) ≡ book.Accepted n → (m ≡ n) × Asked m k g
+    rows m false b p q e = let z : _≡_ {A = ℕ} 0 1 = cc in absurd (omega arith)
+    rows m true true p q e = let z : _≡_ {A = ℕ} 0 1 = cc in absurd (omega arith)
+    rows m true false p q e =
+        let w = and-both (leb 1 k) (leb k 3) p in
+        let x : m ≡ n = cc in
+        (x, record { least = leb-true _ _ (w .0); most = leb-true _ _ (w .1); piece = leb-false _ _ q })
+
+    pick : (b : BookCheck) → bookCheck s ≡ b → asked k g b ≡ book.Accepted n → (bookCheck s ≡ book.Accepted n) × Asked n k g
+    pick (book.Refused r i) e q = let z : _≡_ {A = ℕ} 0 1 = cc in absurd (omega arith)
+    pick (book.Accepted m) e q =
+        let w = rows m (leb 1 k && leb k 3) (leb m g) refl refl q in
+        (e ∙ ap book.Accepted (w .0), subst (λ (x : ℕ). Asked x k g) (w .0) (w .1))
 
 -- ---- the whole call
 
@@ -117,9 +139,21 @@ module _ (s : List ℕ) (k g : ℕ) (l : Lent) where
     catalog-refused e = (rw (ok, refuseIf, e, refuseIf), untouched s k g 0 l ShortCatalog 0 (omega arith))
 
     module _ (fit : shortCatalog l ≡ false) where
-      pub book-refused : {r : Refusal} {i : ℕ} → bookCheck s ≡ book.Refused r i → Determined s k g l (listing.Refused r i) l
-      unfolding outcome refuseIf byBook
-      book-refused {r} {i} q = (rw (ok, refuseIf, fit, refuseIf, q, byBook), untouched s k g 0 l r i (rw q at (book-other s)))
+      -- the book's rows, 12 or 13 refuse
+      pub rows-refused : {r : Refusal} {i : ℕ} → asked k g (bookCheck s) ≡ book.Refused r i → Determined s k g l (listing.Refused r i) l
+      unfolding outcome refuseIf refusedIf asked byBook byAsked
+      rows-refused {r} {i} q = let w = pick (bookCheck s) refl q in (rw (ok, refuseIf, fit, refuseIf) (w .0), untouched s k g 0 l r i (w .1))
+        where
+          rows :
+              (m : ℕ) (a b : Bool) → refusedIf a ClaimFormat (refusedIf b ClaimPiece (book.Accepted m)) ≡ book.Refused r i
+              → (listing.Refused r i ≡ refuseIf a ClaimFormat (refuseIf b ClaimPiece (byIndex s k g (byRuns s m)))) × Other r
+          rows m true b e = let x : ClaimFormat ≡ r = cc in let y : 0 ≡ i = cc in (sym (ap₂ listing.Refused x y), subst Other x (omega arith))
+          rows m false true e = let x : ClaimPiece ≡ r = cc in let y : 0 ≡ i = cc in (sym (ap₂ listing.Refused x y), subst Other x (omega arith))
+          rows m false false e = let z : _≡_ {A = ℕ} 0 1 = cc in absurd (omega arith)
+
+          pick : (b : BookCheck) → bookCheck s ≡ b → asked k g b ≡ book.Refused r i → (listing.Refused r i ≡ byBook s k g b) × Other r
+          pick (book.Refused x j) e q = let a : x ≡ r = cc in let b : j ≡ i = cc in (sym (ap₂ listing.Refused a b), subst Other a (rw e at (book-other s)))
+          pick (book.Accepted m) e q = rows m (not (leb 1 k && leb k 3)) (leb m g) q
 
       pub roomy : Roomy (length (l .list)) (length (l .meets)) (length (l .apart)) (length (l .notpart))
       unfolding shortCatalog
@@ -149,22 +183,13 @@ module _ (s : List ℕ) (k g : ℕ) (l : Lent) where
         runs-fit : Fitted s (indexOutcome (byIndex s k g (byRuns s n)))
         runs-fit = same-fit (byRuns s n) (fitted s [] (l .index) (byRuns s n) (runs-told s [] (l .index) n (record { lent = ok; sound = sound; fit = no-claims n })))
 
-        asked-fit : Fitted s (indexOutcome (byAsked s k g n))
-        unfolding byAsked refuseIf
-        asked-fit = pick (not (leb 1 k && leb k 3)) (leb n g)
-          where
-            pick : (a b : Bool) → Fitted s (indexOutcome (refuseIf a ClaimFormat (refuseIf b ClaimPiece (byIndex s k g (byRuns s n)))))
-            pick true b = tt
-            pick false true = tt
-            pick false false = runs-fit
-
         left-is : (r : Listing) → Fitted s (indexOutcome r) → back (left s k g parts r) ≡ left s k g l r
         unfolding left
         left-is (listing.Refused r i) F = same (left-back s [] (l .index) (Refused r i) (long [] (l .index) ok) F) refl refl refl refl
         left-is (listing.Written c) F = same (left-back s [] (l .index) (Accepted (c .pieces) (c .nodes) (c .shadows)) (long [] (l .index) ok) F) refl refl refl refl
 
-        pub determined : (r : Listing) (x : Lent) → Answered s k g n parts r x → Determined s k g l r (back x)
-        unfolding outcome refuseIf byBook
-        determined r x A =
-            let f : Fitted s (indexOutcome r) = rw (A .outcome-is) asked-fit in
-            (A .outcome-is ∙ rw (ok, refuseIf, fit, refuseIf, sound, byBook), ap back (A .left-is) ∙ left-is r f)
+        pub determined : (r : Listing) (x : Lent) → Asked n k g → Judged s k g n parts r x → Determined s k g l r (back x)
+        unfolding outcome refuseIf byBook byAsked
+        determined r x A J =
+            let f : Fitted s (indexOutcome r) = rw (J .outcome-is) runs-fit in
+            (J .outcome-is ∙ rw (ok, refuseIf, fit, refuseIf, sound, byBook, byAsked, fit-kind k (A .least) (A .most), refuseIf, lt-leb n g (A .piece), refuseIf), ap back (J .left-is) ∙ left-is r f)

@@ -1,13 +1,17 @@
 -- What the steps of a catalog promise each other. Assumes nothing.
 use mathlib.Core.Path.{_≡_}
-use mathlib.Core.Bool.{false}
+use mathlib.Core.Bool.{Bool, true, false, not, _&&_}
 use mathlib.Core.List.{List, []}
 use Prim.Native.Nat.{ℕ, _≤_, _<_}
+use lib.Dec.{leb}
 use lib.ListN.{length}
 use Rattle.lists.specs.Front.{front}
 use Rattle.rules.specs.Follows.{clash}
 use Rattle.records.specs.Facts.{facts}
 use Rattle.records.specs.Check.{bookCheck}
+use Rattle.records.specs.declared.Refusal.{Refusal}
+use Rattle.records.specs.declared.Refusal.the-variants.{ClaimFormat, ClaimPiece}
+use Rattle.records.specs.declared.BookCheck.{BookCheck}
 use Rattle.records.specs.declared.BookCheck.the-variants as book
 use Rattle.storing.specs.Void.{voidOf}
 use Rattle.storing.specs.Closed.{Holds, partBit, towardBit}
@@ -16,9 +20,18 @@ use Rattle.storing.specs.Counted.{MarksOf}
 use Rattle.answers.specs.Judging.{Exact}
 use Rattle.areas.specs.Area.{filled}
 use Rattle.catalog.specs.Lent.{Lent}
-use Rattle.catalog.specs.Call.{listOf, placesOf, areaOf, countsOf, byIndex, byAsked, left}
+use Rattle.catalog.specs.Call.{listOf, placesOf, areaOf, countsOf, byIndex, left}
 use Rattle.catalog.specs.declared.Counts.{Counts}
 use Rattle.catalog.specs.declared.Listing.{Listing}
+
+-- the book's rows, then 12 and 13 for the kind and the piece: the piece count, or the first refusal
+unfoldable pub refusedIf : Bool → Refusal → BookCheck → BookCheck
+refusedIf true r below = book.Refused r 0
+refusedIf false r below = below
+
+unfoldable pub asked : ℕ → ℕ → BookCheck → BookCheck
+asked k g (book.Refused r i) = book.Refused r i
+asked k g (book.Accepted n) = refusedIf (not (leb 1 k && leb k 3)) ClaimFormat (refusedIf (leb n g) ClaimPiece (book.Accepted n))
 
 -- a list and areas of these lengths have room for what is written
 pub record Roomy (list meets apart notpart : ℕ) : Type 0 where
@@ -59,9 +72,4 @@ pub record Ready (s : List ℕ) (n : ℕ) (l : Lent) : Type 0 where
 -- row 14's outcome, and what it leaves in them
 pub record Judged (s : List ℕ) (k g n : ℕ) (l : Lent) (r : Listing) (l′ : Lent) : Type 0 where
   pub outcome-is : r ≡ byIndex s k g (byRuns s n)
-  pub left-is : l′ ≡ left s k g l r
-
--- the same behind rows 12 and 13
-pub record Answered (s : List ℕ) (k g n : ℕ) (l : Lent) (r : Listing) (l′ : Lent) : Type 0 where
-  pub outcome-is : r ≡ byAsked s k g n
   pub left-is : l′ ≡ left s k g l r

@@ -5,9 +5,10 @@ ghost use mathlib.Core.Bool.{_||_};
 ghost use Prim.Native.Nat.{_<_};
 ghost use lib.Dec.{ltb};
 ghost use lib.ListN.{length};
+ghost use Rattle.records.specs.Check.{bookCheck};
 ghost use Rattle.catalog.specs.Lent.{lent};
 ghost use Rattle.catalog.specs.Call.{Determined};
-ghost use Rattle.catalog.specs.Filling.{Roomy, Asked, Settled, Filled, Ready, Judged, Answered};
+ghost use Rattle.catalog.specs.Filling.{asked, Roomy, Asked, Settled, Filled, Ready, Judged};
 use records::BookCheck;
 use records::Refusal;
 
@@ -131,47 +132,26 @@ fn judge(
     }
 }
 
-// Rows 12 and 13 for the kind and the piece that are asked for, then the others.
-fn ask(
-    book: &[u8],
-    n: usize,
-    kind: usize,
-    g: usize,
-    parens: &mut [u8],
-    marks: &mut [u8],
-    shadows: &mut [u16],
-    places: &mut [u16],
-    list: &mut [u16],
-    meets: &mut [u16],
-    apart: &mut [u16],
-    notpart: &mut [u16],
-) -> Listing
-    requires { ⌜ Ready (now book) n (lent (now parens) (now marks) (now shadows) (now places) (now list) (now meets) (now apart) (now notpart)) ⌝ }
-    ensures { λ r. ⌜ Answered (now (book .entry)) kind g n (lent (now (parens .entry)) (now (marks .entry)) (now (shadows .entry)) (now (places .entry)) (now (list .entry)) (now (meets .entry)) (now (apart .entry)) (now (notpart .entry))) r (lent (now (parens .exit)) (now (marks .exit)) (now (shadows .exit)) (now (places .exit)) (now (list .exit)) (now (meets .exit)) (now (apart .exit)) (now (notpart .exit))) ⌝ }
+// The rows of the book, then 12 and 13 for the kind and the piece that are asked for.
+fn check_asked(book: &[u8], kind: usize, g: usize) -> BookCheck
+    ensures { λ r. ⌜ r ≡ asked kind g (bookCheck (now (book .entry))) ⌝ }
 {
-    if kind < 1 {
-        return Listing::Refused(Refusal::ClaimFormat, 0);
+    let checked = checks::check_book(book);
+    match checked {
+        BookCheck::Refused(refusal, place) => BookCheck::Refused(refusal, place),
+        BookCheck::Accepted(n) => {
+            if kind < 1 {
+                return BookCheck::Refused(Refusal::ClaimFormat, 0);
+            }
+            if 3 < kind {
+                return BookCheck::Refused(Refusal::ClaimFormat, 0);
+            }
+            if n <= g {
+                return BookCheck::Refused(Refusal::ClaimPiece, 0);
+            }
+            BookCheck::Accepted(n)
+        }
     }
-    if 3 < kind {
-        return Listing::Refused(Refusal::ClaimFormat, 0);
-    }
-    if n <= g {
-        return Listing::Refused(Refusal::ClaimPiece, 0);
-    }
-    judge(
-        book,
-        n,
-        kind,
-        g,
-        parens,
-        marks,
-        shadows,
-        places,
-        list,
-        meets,
-        apart,
-        notpart,
-    )
 }
 
 // Row 17.
@@ -212,10 +192,10 @@ pub fn write_catalog(
     if short(list.len(), meets.len(), apart.len(), notpart.len()) {
         return Listing::Refused(Refusal::ShortCatalog, 0);
     }
-    let checked = checks::check_book(book);
+    let checked = check_asked(book, kind, g);
     match checked {
         BookCheck::Refused(refusal, place) => Listing::Refused(refusal, place),
-        BookCheck::Accepted(n) => ask(
+        BookCheck::Accepted(n) => judge(
             book,
             n,
             kind,

@@ -6,19 +6,19 @@ use Rattle.answers.proofs.check_rows.Statement.{statement}
 use Rattle.answers.proofs.check_rows.Tie as tie
 
 check-book-requires : tie.Need-check-book-requires
-check-book-requires c κs = search needs
+check-book-requires c κs = tt
 
 enum-known-checked : tie.Need-enum-known-checked
-enum-known-checked c = search needs
+enum-known-checked c = c .match .keys1
 
 enum-known-checked-2 : tie.Need-enum-known-checked-2
-enum-known-checked-2 c = search needs
+enum-known-checked-2 c = c .match .keys2
 
 check-claims-requires : tie.Need-check-claims-requires
-check-claims-requires c κs = search needs
+check-claims-requires c κs = tt
 
 enum-known-fit : tie.Need-enum-known-fit
-enum-known-fit c = search needs
+enum-known-fit c = c .match2 .keys1
 
 enum-told : tie.Need-enum-told
 enum-told c = search needs

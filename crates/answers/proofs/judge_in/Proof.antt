@@ -1,6 +1,5 @@
 -- `answers::judge_in` meets its contract. Assumes nothing.
-use borrow.Author.Needs.{needs}
-use mathlib.Core.Path.{_∙_}
+use mathlib.Core.Path.{refl, sym, _∙_}
 use Rattle.records.proofs.Accepted.{accepted}
 use Rattle.storing.proofs.VoidRows.{accepted-markable}
 use Rattle.answers.proofs.Judges.{settleable-at, cleared-at, judged-refused, judged-accepted}
@@ -8,28 +7,28 @@ use Rattle.answers.proofs.judge_in.Statement.{statement}
 use Rattle.answers.proofs.judge_in.Tie as tie
 
 slice-aggregate-mark-voids : tie.Need-slice-aggregate-mark-voids
-slice-aggregate-mark-voids c = search needs
+slice-aggregate-mark-voids c = refl
 
 mark-voids-requires : tie.Need-mark-voids-requires
-mark-voids-requires c κs = (accepted-markable (accepted _ _ (c .before .before .before .before .before .before .before .before .pre .sound .sound)), search needs)
+mark-voids-requires c κs = (accepted-markable (accepted _ _ (c .before .before .before .before .before .before .before .before .pre .sound .sound)), refl)
 
 slice-aggregate-settle : tie.Need-slice-aggregate-settle
-slice-aggregate-settle c = search needs
+slice-aggregate-settle c = sym (c .before .before .mark-voids .kept .1 .0)
 
 settle-requires : tie.Need-settle-requires
 settle-requires c κs = (settleable-at _ _ _ _ (c .before .before .before .before .before .before .before .before .before .before .before .before .before .before .before .before .before .before .before .before .pre), c .before .before .before .before .before .before .before .before .before .before .before .mark-voids .ensures .0)
 
 enum-known-settled : tie.Need-enum-known-settled
-enum-known-settled c = search needs
+enum-known-settled c = c .match .keys1
 
 clear-index-requires : tie.Need-clear-index-requires
-clear-index-requires c κs = search needs
+clear-index-requires c κs = tt
 
 enum-known-settled-2 : tie.Need-enum-known-settled-2
-enum-known-settled-2 c = search needs
+enum-known-settled-2 c = c .match .keys2
 
 slice-aggregate-answer-all : tie.Need-slice-aggregate-answer-all
-slice-aggregate-answer-all c = search needs
+slice-aggregate-answer-all c = sym (c .before .before .before .before .before .before .before .before .before .before .before .before .before .before .before .before .before .before .before .before .before .before .before .before .mark-voids .kept .1 .0)
 
 answer-all-requires : tie.Need-answer-all-requires
 answer-all-requires c κs =

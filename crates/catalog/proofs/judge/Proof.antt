@@ -1,6 +1,5 @@
 -- `catalog::judge` meets its contract. Assumes nothing.
-use borrow.Author.Needs.{needs}
-use mathlib.Core.Path.{refl, _∙_}
+use mathlib.Core.Path.{refl, sym, _∙_}
 use Rattle.lists.specs.Tab.{tab}
 use Rattle.records.proofs.Accepted.{accepted}
 use Rattle.storing.proofs.VoidRows.{accepted-markable}
@@ -19,7 +18,7 @@ mark-voids-requires : tie.Need-mark-voids-requires
 mark-voids-requires c κs = (accepted-markable (accepted _ _ (c .before .before .before .before .before .before .before .before .before .before .pre .1 .sound)), refl)
 
 slice-aggregate-settle : tie.Need-slice-aggregate-settle
-slice-aggregate-settle c = search needs
+slice-aggregate-settle c = sym (c .before .before .mark-voids .kept .1 .0)
 
 settle-requires : tie.Need-settle-requires
 settle-requires c κs = (settleable-at _ _ _ _ (c .before .before .before .before .before .before .before .before .before .before .before .before .before .before .before .before .before .before .before .before .before .before .pre .1 .exact), c .before .before .before .before .before .before .before .before .before .before .before .mark-voids .ensures .0)
@@ -34,7 +33,7 @@ enum-known-settled-2 : tie.Need-enum-known-settled-2
 enum-known-settled-2 c = c .match .keys2
 
 slice-aggregate-fill : tie.Need-slice-aggregate-fill
-slice-aggregate-fill c = search needs
+slice-aggregate-fill c = sym (c .before .before .before .before .before .before .before .before .before .before .before .before .before .before .before .before .before .before .before .before .before .before .before .before .mark-voids .kept .1 .0)
 
 fill-requires : tie.Need-fill-requires
 fill-requires c κs =

@@ -9,7 +9,7 @@ use Rattle.outcomes.specs.Lent.{shortLent}
 use Rattle.outcomes.specs.Lent as lending
 use Rattle.answers.proofs.Calls.{long}
 use Rattle.catalog.specs.Lent.{Lent, lent, shortCatalog}
-use Rattle.catalog.proofs.Calls.{short-refused, catalog-refused, book-refused, ready, determined}
+use Rattle.catalog.proofs.Calls.{passed-asked, short-refused, catalog-refused, rows-refused, ready, determined}
 use Rattle.catalog.proofs.write_catalog.Statement.{statement}
 use Rattle.catalog.proofs.write_catalog.Tie as tie
 
@@ -44,8 +44,8 @@ returns-2 c =
     let l = lent (A .parens .now) (A .marks .now) (A .shadows .now) (A .places .now) (A .list .now) (A .meets .now) (A .apart .now) (A .notpart .now) in
     catalog-refused _ _ _ l (index-told (l .index) (c .before .before .before .short .ensures) (c .before .before .if1 .left)) (catalog-told l (c .before .short2 .ensures) (c .if2 .taken))
 
-check-book-requires : tie.Need-check-book-requires
-check-book-requires c κs = tt
+check-asked-requires : tie.Need-check-asked-requires
+check-asked-requires c κs = tt
 
 enum-known-checked : tie.Need-enum-known-checked
 enum-known-checked c = c .match .keys1
@@ -53,95 +53,97 @@ enum-known-checked c = c .match .keys1
 enum-known-checked-2 : tie.Need-enum-known-checked-2
 enum-known-checked-2 c = c .match .keys2
 
-slice-relend-prefix-ask : tie.Need-slice-relend-prefix-ask
-slice-relend-prefix-ask c =
+slice-relend-prefix-judge : tie.Need-slice-relend-prefix-judge
+slice-relend-prefix-judge c =
     let A = c .before .before .before .before .before .before .before .before .before .before .before .before .before .before .before .before .before .args in
     let i = lending.lent (A .parens .now) (A .marks .now) (A .shadows .now) (A .places .now) [] in
     long [] i (index-told i (c .before .before .before .before .before .before .before .short .ensures) (c .before .before .before .before .before .before .if1 .left)) .parens
 
-slice-aggregate-ask : tie.Need-slice-aggregate-ask
-slice-aggregate-ask c =
+slice-aggregate-judge : tie.Need-slice-aggregate-judge
+slice-aggregate-judge c =
     let A = c .before .before .before .before .before .before .before .before .before .before .before .before .before .before .before .before .before .before .args in
     let i = lending.lent (A .parens .now) (A .marks .now) (A .shadows .now) (A .places .now) [] in
     sym (length-take-le 2560 (A .parens .now) (long [] i (index-told i (c .before .before .before .before .before .before .before .before .short .ensures) (c .before .before .before .before .before .before .before .if1 .left)) .parens))
 
-slice-relend-prefix-ask-2 : tie.Need-slice-relend-prefix-ask-2
-slice-relend-prefix-ask-2 c =
+slice-relend-prefix-judge-2 : tie.Need-slice-relend-prefix-judge-2
+slice-relend-prefix-judge-2 c =
     let A = c .before .before .before .before .before .before .before .before .before .before .before .before .before .before .before .before .before .before .args in
     let i = lending.lent (A .parens .now) (A .marks .now) (A .shadows .now) (A .places .now) [] in
     long [] i (index-told i (c .before .before .before .before .before .before .before .before .short .ensures) (c .before .before .before .before .before .before .before .if1 .left)) .marks
 
-slice-aggregate-ask-2 : tie.Need-slice-aggregate-ask-2
-slice-aggregate-ask-2 c =
+slice-aggregate-judge-2 : tie.Need-slice-aggregate-judge-2
+slice-aggregate-judge-2 c =
     let A = c .before .before .before .before .before .before .before .before .before .before .before .before .before .before .before .before .before .before .before .args in
     let i = lending.lent (A .parens .now) (A .marks .now) (A .shadows .now) (A .places .now) [] in
     sym (length-take-le 1280 (A .marks .now) (long [] i (index-told i (c .before .before .before .before .before .before .before .before .before .short .ensures) (c .before .before .before .before .before .before .before .before .if1 .left)) .marks))
 
-slice-relend-prefix-ask-3 : tie.Need-slice-relend-prefix-ask-3
-slice-relend-prefix-ask-3 c =
+slice-relend-prefix-judge-3 : tie.Need-slice-relend-prefix-judge-3
+slice-relend-prefix-judge-3 c =
     let A = c .before .before .before .before .before .before .before .before .before .before .before .before .before .before .before .before .before .before .before .args in
     let i = lending.lent (A .parens .now) (A .marks .now) (A .shadows .now) (A .places .now) [] in
     long [] i (index-told i (c .before .before .before .before .before .before .before .before .before .short .ensures) (c .before .before .before .before .before .before .before .before .if1 .left)) .shadows
 
-slice-aggregate-ask-3 : tie.Need-slice-aggregate-ask-3
-slice-aggregate-ask-3 c =
+slice-aggregate-judge-3 : tie.Need-slice-aggregate-judge-3
+slice-aggregate-judge-3 c =
     let A = c .before .before .before .before .before .before .before .before .before .before .before .before .before .before .before .before .before .before .before .before .args in
     let i = lending.lent (A .parens .now) (A .marks .now) (A .shadows .now) (A .places .now) [] in
     sym (length-take-le 8192 (A .shadows .now) (long [] i (index-told i (c .before .before .before .before .before .before .before .before .before .before .short .ensures) (c .before .before .before .before .before .before .before .before .before .if1 .left)) .shadows))
 
-slice-relend-prefix-ask-4 : tie.Need-slice-relend-prefix-ask-4
-slice-relend-prefix-ask-4 c =
+slice-relend-prefix-judge-4 : tie.Need-slice-relend-prefix-judge-4
+slice-relend-prefix-judge-4 c =
     let A = c .before .before .before .before .before .before .before .before .before .before .before .before .before .before .before .before .before .before .before .before .args in
     let i = lending.lent (A .parens .now) (A .marks .now) (A .shadows .now) (A .places .now) [] in
     long [] i (index-told i (c .before .before .before .before .before .before .before .before .before .before .short .ensures) (c .before .before .before .before .before .before .before .before .before .if1 .left)) .places
 
-slice-aggregate-ask-4 : tie.Need-slice-aggregate-ask-4
-slice-aggregate-ask-4 c =
+slice-aggregate-judge-4 : tie.Need-slice-aggregate-judge-4
+slice-aggregate-judge-4 c =
     let A = c .before .before .before .before .before .before .before .before .before .before .before .before .before .before .before .before .before .before .before .before .before .args in
     let i = lending.lent (A .parens .now) (A .marks .now) (A .shadows .now) (A .places .now) [] in
     sym (length-take-le 2048 (A .places .now) (long [] i (index-told i (c .before .before .before .before .before .before .before .before .before .before .before .short .ensures) (c .before .before .before .before .before .before .before .before .before .before .if1 .left)) .places))
 
-ask-requires : tie.Need-ask-requires
+ask-requires : tie.Need-judge-requires
 ask-requires c κs =
     let A = c .before .before .before .before .before .before .before .before .before .before .before .before .before .before .before .before .before .before .before .before .before .before .before .before .before .args in
     let l = lent (A .parens .now) (A .marks .now) (A .shadows .now) (A .places .now) (A .list .now) (A .meets .now) (A .apart .now) (A .notpart .now) in
-    ready _ (A .kind) (A .g) l (index-told (l .index) (c .before .before .before .before .before .before .before .before .before .before .before .before .before .before .before .short .ensures) (c .before .before .before .before .before .before .before .before .before .before .before .before .before .before .if1 .left)) (catalog-told l (c .before .before .before .before .before .before .before .before .before .before .before .before .before .short2 .ensures) (c .before .before .before .before .before .before .before .before .before .before .before .before .if2 .left)) (sym (c .before .before .before .before .before .before .before .before .before .before .before .check-book .ensures) ∙ c .before .before .before .before .before .before .before .before .before .checked2 .given .1)
+    let w = passed-asked _ _ _ (sym (c .before .before .before .before .before .before .before .before .before .before .before .check-asked .ensures) ∙ c .before .before .before .before .before .before .before .before .before .checked2 .given .1) in
+    (w .1, ready _ (A .kind) (A .g) l (index-told (l .index) (c .before .before .before .before .before .before .before .before .before .before .before .before .before .before .before .short .ensures) (c .before .before .before .before .before .before .before .before .before .before .before .before .before .before .if1 .left)) (catalog-told l (c .before .before .before .before .before .before .before .before .before .before .before .before .before .short2 .ensures) (c .before .before .before .before .before .before .before .before .before .before .before .before .if2 .left)) (w .0))
 
 returns-3 : tie.Need-returns-3
 returns-3 c =
     let A = c .before .before .before .before .before .before .before .before .before .before .before .before .before .before .before .before .before .args in
     let l = lent (A .parens .now) (A .marks .now) (A .shadows .now) (A .places .now) (A .list .now) (A .meets .now) (A .apart .now) (A .notpart .now) in
-    book-refused _ _ _ l (index-told (l .index) (c .before .before .before .before .before .before .before .short .ensures) (c .before .before .before .before .before .before .if1 .left)) (catalog-told l (c .before .before .before .before .before .short2 .ensures) (c .before .before .before .before .if2 .left)) (sym (c .before .before .before .check-book .ensures) ∙ c .before .checked .given .1)
+    rows-refused _ _ _ l (index-told (l .index) (c .before .before .before .before .before .before .before .short .ensures) (c .before .before .before .before .before .before .if1 .left)) (catalog-told l (c .before .before .before .before .before .short2 .ensures) (c .before .before .before .before .if2 .left)) (sym (c .before .before .before .check-asked .ensures) ∙ c .before .checked .given .1)
 
 same-length : tie.Need-same-length
-same-length c = length-front (c .before .before .before .before .before .before .before .before .before .before .before .before .before .before .before .before .before .before .before .before .before .before .before .before .before .before .before .before .before .before .before .before .before .before .before .before .before .before .before .before .before .before .args .parens .now) (c .before .before .before .before .before .before .before .before .before .before .before .before .before .before .before .before .ask .last .1 .1 .1 .1 .0) 2560 (c .before .before .before .before .before .before .before .before .before .before .before .before .before .before .before .before .ask .kept .1 .1 .1 .1 .0)
+same-length c = length-front (c .before .before .before .before .before .before .before .before .before .before .before .before .before .before .before .before .before .before .before .before .before .before .before .before .before .before .before .before .before .before .before .before .before .before .before .before .before .before .before .before .before .before .args .parens .now) (c .before .before .before .before .before .before .before .before .before .before .before .before .before .before .before .before .judge .last .1 .1 .1 .1 .0) 2560 (c .before .before .before .before .before .before .before .before .before .before .before .before .before .before .before .before .judge .kept .1 .1 .1 .1 .0)
 
 same-length-2 : tie.Need-same-length-2
-same-length-2 c = length-front (c .before .before .before .before .before .before .before .before .before .before .before .before .before .before .before .before .before .before .before .before .before .before .before .before .before .before .before .before .before .before .before .before .before .before .before .before .before .before .before .before .before .before .args .marks .now) (c .before .before .before .before .before .before .before .before .before .before .before .before .before .before .before .before .ask .last .1 .1 .1 .1 .1 .0) 1280 (c .before .before .before .before .before .before .before .before .before .before .before .before .before .before .before .before .ask .kept .1 .1 .1 .1 .1 .0)
+same-length-2 c = length-front (c .before .before .before .before .before .before .before .before .before .before .before .before .before .before .before .before .before .before .before .before .before .before .before .before .before .before .before .before .before .before .before .before .before .before .before .before .before .before .before .before .before .before .args .marks .now) (c .before .before .before .before .before .before .before .before .before .before .before .before .before .before .before .before .judge .last .1 .1 .1 .1 .1 .0) 1280 (c .before .before .before .before .before .before .before .before .before .before .before .before .before .before .before .before .judge .kept .1 .1 .1 .1 .1 .0)
 
 same-length-3 : tie.Need-same-length-3
-same-length-3 c = length-front (c .before .before .before .before .before .before .before .before .before .before .before .before .before .before .before .before .before .before .before .before .before .before .before .before .before .before .before .before .before .before .before .before .before .before .before .before .before .before .before .before .before .before .args .shadows .now) (c .before .before .before .before .before .before .before .before .before .before .before .before .before .before .before .before .ask .last .1 .1 .1 .1 .1 .1 .0) 8192 (c .before .before .before .before .before .before .before .before .before .before .before .before .before .before .before .before .ask .kept .1 .1 .1 .1 .1 .1 .0)
+same-length-3 c = length-front (c .before .before .before .before .before .before .before .before .before .before .before .before .before .before .before .before .before .before .before .before .before .before .before .before .before .before .before .before .before .before .before .before .before .before .before .before .before .before .before .before .before .before .args .shadows .now) (c .before .before .before .before .before .before .before .before .before .before .before .before .before .before .before .before .judge .last .1 .1 .1 .1 .1 .1 .0) 8192 (c .before .before .before .before .before .before .before .before .before .before .before .before .before .before .before .before .judge .kept .1 .1 .1 .1 .1 .1 .0)
 
 same-length-4 : tie.Need-same-length-4
-same-length-4 c = length-front (c .before .before .before .before .before .before .before .before .before .before .before .before .before .before .before .before .before .before .before .before .before .before .before .before .before .before .before .before .before .before .before .before .before .before .before .before .before .before .before .before .before .before .args .places .now) (c .before .before .before .before .before .before .before .before .before .before .before .before .before .before .before .before .ask .last .1 .1 .1 .1 .1 .1 .1 .0) 2048 (c .before .before .before .before .before .before .before .before .before .before .before .before .before .before .before .before .ask .kept .1 .1 .1 .1 .1 .1 .1 .0)
+same-length-4 c = length-front (c .before .before .before .before .before .before .before .before .before .before .before .before .before .before .before .before .before .before .before .before .before .before .before .before .before .before .before .before .before .before .before .before .before .before .before .before .before .before .before .before .before .before .args .places .now) (c .before .before .before .before .before .before .before .before .before .before .before .before .before .before .before .before .judge .last .1 .1 .1 .1 .1 .1 .1 .0) 2048 (c .before .before .before .before .before .before .before .before .before .before .before .before .before .before .before .before .judge .kept .1 .1 .1 .1 .1 .1 .1 .0)
 
 same-length-5 : tie.Need-same-length-5
-same-length-5 c = c .before .before .before .before .before .before .before .before .before .before .before .before .before .before .before .before .ask .kept .1 .1 .1 .1 .1 .1 .1 .1 .0
+same-length-5 c = c .before .before .before .before .before .before .before .before .before .before .before .before .before .before .before .before .judge .kept .1 .1 .1 .1 .1 .1 .1 .1 .0
 
 same-length-6 : tie.Need-same-length-6
-same-length-6 c = c .before .before .before .before .before .before .before .before .before .before .before .before .before .before .before .before .ask .kept .1 .1 .1 .1 .1 .1 .1 .1 .1 .0
+same-length-6 c = c .before .before .before .before .before .before .before .before .before .before .before .before .before .before .before .before .judge .kept .1 .1 .1 .1 .1 .1 .1 .1 .1 .0
 
 same-length-7 : tie.Need-same-length-7
-same-length-7 c = c .before .before .before .before .before .before .before .before .before .before .before .before .before .before .before .before .ask .kept .1 .1 .1 .1 .1 .1 .1 .1 .1 .1 .0
+same-length-7 c = c .before .before .before .before .before .before .before .before .before .before .before .before .before .before .before .before .judge .kept .1 .1 .1 .1 .1 .1 .1 .1 .1 .1 .0
 
 same-length-8 : tie.Need-same-length-8
-same-length-8 c = c .before .before .before .before .before .before .before .before .before .before .before .before .before .before .before .before .ask .kept .1 .1 .1 .1 .1 .1 .1 .1 .1 .1 .1 .0
+same-length-8 c = c .before .before .before .before .before .before .before .before .before .before .before .before .before .before .before .before .judge .kept .1 .1 .1 .1 .1 .1 .1 .1 .1 .1 .1 .0
 
 returns-4 : tie.Need-returns-4
 returns-4 c =
     let A = c .before .before .before .before .before .before .before .before .before .before .before .before .before .before .before .before .before .before .before .before .before .before .before .before .before .before .before .before .before .before .before .before .before .before .before .before .before .before .before .before .before .before .args in
     let l = lent (A .parens .now) (A .marks .now) (A .shadows .now) (A .places .now) (A .list .now) (A .meets .now) (A .apart .now) (A .notpart .now) in
-    determined _ _ _ l (index-told (l .index) (c .before .before .before .before .before .before .before .before .before .before .before .before .before .before .before .before .before .before .before .before .before .before .before .before .before .before .before .before .before .before .before .before .short .ensures) (c .before .before .before .before .before .before .before .before .before .before .before .before .before .before .before .before .before .before .before .before .before .before .before .before .before .before .before .before .before .before .before .if1 .left)) (catalog-told l (c .before .before .before .before .before .before .before .before .before .before .before .before .before .before .before .before .before .before .before .before .before .before .before .before .before .before .before .before .before .before .short2 .ensures) (c .before .before .before .before .before .before .before .before .before .before .before .before .before .before .before .before .before .before .before .before .before .before .before .before .before .before .before .before .before .if2 .left)) (sym (c .before .before .before .before .before .before .before .before .before .before .before .before .before .before .before .before .before .before .before .before .before .before .before .before .before .before .before .before .check-book .ensures) ∙ c .before .before .before .before .before .before .before .before .before .before .before .before .before .before .before .before .before .before .before .before .before .before .before .before .before .before .checked2 .given .1) _ _ (c .before .before .before .before .before .before .before .before .before .before .before .before .before .before .before .before .ask .ensures)
+    let w = passed-asked _ _ _ (sym (c .before .before .before .before .before .before .before .before .before .before .before .before .before .before .before .before .before .before .before .before .before .before .before .before .before .before .before .before .check-asked .ensures) ∙ c .before .before .before .before .before .before .before .before .before .before .before .before .before .before .before .before .before .before .before .before .before .before .before .before .before .before .checked2 .given .1) in
+    determined _ _ _ l (index-told (l .index) (c .before .before .before .before .before .before .before .before .before .before .before .before .before .before .before .before .before .before .before .before .before .before .before .before .before .before .before .before .before .before .before .before .short .ensures) (c .before .before .before .before .before .before .before .before .before .before .before .before .before .before .before .before .before .before .before .before .before .before .before .before .before .before .before .before .before .before .before .if1 .left)) (catalog-told l (c .before .before .before .before .before .before .before .before .before .before .before .before .before .before .before .before .before .before .before .before .before .before .before .before .before .before .before .before .before .before .short2 .ensures) (c .before .before .before .before .before .before .before .before .before .before .before .before .before .before .before .before .before .before .before .before .before .before .before .before .before .before .before .before .before .if2 .left)) (w .0) _ _ (w .1) (c .before .before .before .before .before .before .before .before .before .before .before .before .before .before .before .before .judge .ensures)
 
 pub write-catalog-spec : {M : Type 1} → statement M
 write-catalog-spec =
@@ -151,17 +153,17 @@ write-catalog-spec =
     returns
     short-requires-2
     returns-2
-    check-book-requires
+    check-asked-requires
     enum-known-checked
     enum-known-checked-2
-    slice-relend-prefix-ask
-    slice-aggregate-ask
-    slice-relend-prefix-ask-2
-    slice-aggregate-ask-2
-    slice-relend-prefix-ask-3
-    slice-aggregate-ask-3
-    slice-relend-prefix-ask-4
-    slice-aggregate-ask-4
+    slice-relend-prefix-judge
+    slice-aggregate-judge
+    slice-relend-prefix-judge-2
+    slice-aggregate-judge-2
+    slice-relend-prefix-judge-3
+    slice-aggregate-judge-3
+    slice-relend-prefix-judge-4
+    slice-aggregate-judge-4
     ask-requires
     returns-3
     same-length
