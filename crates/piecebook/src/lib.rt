@@ -11,12 +11,12 @@ ghost use Rattle.convert.specs.Converted.{converted};
 ghost use Rattle.convert.specs.Same.{InForce, SameAnswers};
 ghost use Rattle.results.specs.Converts.{Converts};
 ghost use Rattle.piecebook.specs.Replicates.{Replicates};
+use keeping::Settled;
+use keeping::Working;
 use outcomes::Outcome;
 use replicates::Window;
 use results::PiecebookConverted;
 use results::PiecebookResult;
-use working::Settled;
-use working::Working;
 
 pub mod catalogs;
 pub mod chain_calls;

@@ -32,7 +32,7 @@ use Rattle.outcomes.specs.declared.Outcome.the-variants.{Accepted, Refused}
 use Rattle.outcomes.specs.Fresh.{freshCall}
 use Rattle.runs.specs.Standing.{standing, extended}
 use Rattle.outcomes.specs.One.{refuseIf}
-use Rattle.working.specs.Rows.{byArea, addOutcome}
+use Rattle.keeping.specs.Rows.{byArea, addOutcome}
 
 -- number 4 is given only where B holds
 module _ (B : Type 0) where

@@ -9,7 +9,7 @@ use Rattle.records.specs.Record.{records}
 use Rattle.records.specs.declared.Refusal.the-variants.{BookLength, NotStanding}
 use Rattle.outcomes.specs.declared.Outcome.{Outcome}
 use Rattle.outcomes.specs.declared.Outcome.the-variants.{Accepted, Refused}
-use Rattle.working.specs.declared.Working.{Working}
+use Rattle.keeping.specs.declared.Working.{Working}
 use Rattle.outcomes.specs.Fresh.{freshCall}
 use Rattle.runs.specs.Standing.{standing}
 use Rattle.outcomes.specs.One.{refuseIf}

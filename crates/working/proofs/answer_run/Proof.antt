@@ -7,7 +7,7 @@ use Prim.Native.Nat.{ℕ}
 use lib.ListN.{getD, replicate, length-replicate}
 use Rattle.outcomes.specs.Lent.{Lent, lent}
 use Rattle.answers.proofs.Fresh.{long-lent, fresh-is}
-use Rattle.working.proofs.Fresh.{answer-left}
+use Rattle.keeping.proofs.Fresh.{answer-left}
 use borrow.Author.Needs.{needs}
 use Rattle.working.proofs.answer_run.Statement.{statement}
 use Rattle.working.proofs.answer_run.Tie as tie

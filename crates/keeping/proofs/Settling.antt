@@ -19,16 +19,16 @@ use Rattle.records.specs.declared.Refusal.the-variants.{ShortBuffer, BookLength
 use Rattle.parentheses.specs.Padded.{padded}
 use Rattle.outcomes.specs.declared.Outcome.{Outcome}
 use Rattle.outcomes.specs.declared.Outcome.the-variants.{Accepted, Refused}
-use Rattle.working.specs.declared.Working.{Working}
-use Rattle.working.specs.declared.Settled.{Settled}
+use Rattle.keeping.specs.declared.Working.{Working}
+use Rattle.keeping.specs.declared.Settled.{Settled}
 use Rattle.outcomes.specs.Fresh.{freshCall}
 use Rattle.runs.specs.Standing.{standing, extended, without}
 use Rattle.outcomes.specs.One.{refuseIf, byOne}
-use Rattle.working.specs.Rows.{byArea, askOutcome, answerOf, startOutcome, addOutcome, withdrawOutcome}
-use Rattle.working.specs.Kept.{keptState, keptArea, image, Determined, Extended, Answered}
-use Rattle.working.specs.declared.Asked.{Asked}
+use Rattle.keeping.specs.Rows.{byArea, askOutcome, answerOf, startOutcome, addOutcome, withdrawOutcome}
+use Rattle.keeping.specs.Kept.{keptState, keptArea, image, Determined, Extended, Answered}
+use Rattle.keeping.specs.declared.Asked.{Asked}
 use Rattle.runs.proofs.Runs.{padded-front, padded-whole}
-use Rattle.working.proofs.Fresh.{over-full, extended-length}
+use Rattle.keeping.proofs.Fresh.{over-full, extended-length}
 
 -- ---- one row
 pub on : (b : Bool) (x : Refusal) (below : Outcome) → b ≡ true → refuseIf b x below ≡ Refused x 0

@@ -7,12 +7,12 @@ use Rattle.parentheses.specs.Padded.{padded}
 use Rattle.lists.specs.Front.{front}
 use Rattle.outcomes.specs.declared.Outcome.{Outcome}
 use Rattle.outcomes.specs.declared.Outcome.the-variants.{Accepted, Refused}
-use Rattle.working.specs.declared.Working.{Working}
-use Rattle.working.specs.declared.Settled.{Settled}
-use Rattle.working.specs.declared.Asked.{Asked}
+use Rattle.keeping.specs.declared.Working.{Working}
+use Rattle.keeping.specs.declared.Settled.{Settled}
+use Rattle.keeping.specs.declared.Asked.{Asked}
 use Rattle.outcomes.specs.Fresh.{freshCall}
 use Rattle.runs.specs.Standing.{standing, extended, without}
-use Rattle.working.specs.Rows.{startOutcome, addOutcome, withdrawOutcome, askOutcome, answerOf}
+use Rattle.keeping.specs.Rows.{startOutcome, addOutcome, withdrawOutcome, askOutcome, answerOf}
 
 -- acceptance keeps the new record count and the fresh call's piece count; a refusal leaves both
 unfoldable pub keptState : Working → ℕ → Outcome → Working

@@ -21,7 +21,7 @@ use Rattle.outcomes.specs.declared.Outcome.{Outcome}
 use Rattle.outcomes.specs.declared.Outcome.the-variants.{Accepted, Refused}
 use Rattle.outcomes.specs.Fresh.{freshCall}
 use Rattle.runs.specs.Standing.{standing, extended, without}
-use Rattle.working.specs.Rows.{answerOf}
+use Rattle.keeping.specs.Rows.{answerOf}
 
 -- the answer byte that the call leaves
 module _ (s c : List ℕ) (l : Lent) (six : length c ≡ 6) (clear : l .answers ≡ 0 ∷ []) where
