@@ -83,10 +83,11 @@ module _ (w : Working) (area run : List ℕ) where
   passed due e r area′ D = subst (λ (x : Outcome). Determined w area run x (r .outcome) (r .working) area′) (sym e) D
 
   -- the run was judged and its image is kept
-  pub judged : (laid : List ℕ) (m k : ℕ) → laid ≡ padded 0 49152 run → length run ≡ m → m / 6 ≡ k → (o : Outcome) → o ≡ freshCall (take m laid) [] → (r : Settled) (area′ : List ℕ)
+  pub judged : (laid : List ℕ) (n m k : ℕ) → laid ≡ padded 0 n run → n ≡ 49152 → length run ≡ m → m / 6 ≡ k → (o : Outcome) → o ≡ freshCall (take m laid) [] → (r : Settled) (area′ : List ℕ)
       → (r .outcome ≡ o) × ((r .working ≡ keptState w k o) × (area′ ≡ keptArea area laid o)) → Extended w area run r area′
   unfolding image
-  judged laid m k e l d o q r area′ (a, (b, c)) =
+  judged laid n m k f wide l d o q r area′ (a, (b, c)) =
+      let e : laid ≡ padded 0 49152 run = f ∙ ap (λ (j : ℕ). padded 0 j run) wide in
       let front : take m laid ≡ run = rw e (padded-front 49152 m run l) in
       let due : o ≡ freshCall run [] = q ∙ ap (λ (s : List ℕ). freshCall s []) front in
       let count : k ≡ records run = sym d ∙ ap (λ (n : ℕ). n / 6) (sym l) in

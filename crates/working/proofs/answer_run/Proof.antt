@@ -1,13 +1,7 @@
 -- `working::answer_run` meets its contract. Assumes nothing.
-use mathlib.Core.Path.{refl, _∙_, ap}
-use mathlib.Core.List.{[], _∷_}
-use native.Mathlib.Omega.{arith}
+use mathlib.Core.Path.{refl}
 use denote.Ref.{now}
-use Prim.Native.Nat.{ℕ}
-use lib.ListN.{getD, replicate, length-replicate}
-use Rattle.outcomes.specs.Lent.{Lent, lent}
-use Rattle.answers.proofs.Fresh.{long-lent, fresh-is}
-use Rattle.keeping.proofs.Fresh.{answer-left}
+use Rattle.working.proofs.Cleared.{on-cleared}
 use borrow.Author.Needs.{needs}
 use Rattle.working.proofs.answer_run.Statement.{statement}
 use Rattle.working.proofs.answer_run.Tie as tie
@@ -47,12 +41,9 @@ array-read-t21 c = search needs
 returns : tie.Need-returns
 returns c =
     let b = c .before .before .before .before .before in
-    let a = b .before .before .before .before .before .before .before .before .args in
-    let l : Lent = lent (replicate 2560 0) (replicate 1280 0) (replicate 8192 0) (replicate 2048 0) (0 ∷ []) in
-    let D = b .answer-claims .ensures .0 in (
-      D .0 ∙ fresh-is (now (a .run)) (now (a .claim)) l (long-lent (now (a .claim)) (replicate 2560 0) (replicate 1280 0) (replicate 8192 0) (replicate 2048 0) (0 ∷ []) (length-replicate {A = ℕ} 2560 0) (length-replicate {A = ℕ} 1280 0) (length-replicate {A = ℕ} 8192 0) (length-replicate {A = ℕ} 2048 0) (omega arith)),
-      ap (λ (x : Lent). getD (x .answers) 0 0) (D .1) ∙ answer-left (now (a .run)) (now (a .claim)) l (b .before .before .before .before .before .before .before .before .pre) refl (b .answer-claims .result),
-    )
+    let a = b .before .before .before .before .before .before .before .before in
+    let l = b .answer-claims .last .1 .1 in
+    on-cleared (now (a .args .run)) (now (a .args .claim)) (a .pre) (b .answer-claims .result) (l .0) (l .1 .0) (l .1 .1 .0) (l .1 .1 .1 .0) (l .1 .1 .1 .1 .0) (b .answer-claims .ensures .0)
 
 pub answer-run-spec : {M : Type 1} → statement M
 answer-run-spec =
