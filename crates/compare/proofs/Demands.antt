@@ -24,6 +24,10 @@ use Rattle.records.specs.declared.BookCheck.the-variants as book
 use Rattle.records.specs.declared.ClaimsCheck.{ClaimsCheck}
 use Rattle.records.specs.declared.ClaimsCheck.the-variants as claims
 use Rattle.records.proofs.Rows.{refused-positive}
+use Rattle.joint.specs.Joint.{pieces, laid, eitherMarked}
+use Rattle.joint.specs.Agreement.{agreement}
+use Rattle.joint.proofs.Joining.{joint-pieces}
+use Rattle.joint.proofs.Threes.{threes-length, threes-at}
 use Rattle.settling.proofs.Settling.{free-consistent}
 use Rattle.outcomes.specs.Call.{byRuns}
 use Rattle.outcomes.specs.Fresh.{freshCall}
@@ -36,14 +40,12 @@ use Rattle.answering.proofs.Counts.{own-count, counted-settleable, counted-unma
 use Rattle.outcomes.proofs.Counts.{runs-refused, derived, entailed}
 use Rattle.compare.specs.declared.Comparison.{Comparison}
 use Rattle.compare.specs.declared.Comparison.the-variants.{Compared, Refused}
-use Rattle.compare.specs.Joint.{pieces, laid, eitherMarked}
-use Rattle.compare.specs.Answers.{agreement, answerOf, bytesOf}
+use Rattle.compare.specs.Answers.{answerOf, bytesOf}
 use Rattle.compare.specs.Call.{byBook, byClaims, byRows, outcome, left, Determined}
 use Rattle.compare.specs.Outcome.{number, together}
 use Rattle.compare.specs.Outcome as numbers
 use Rattle.compare.specs.Demands.{Right, Answered, NoModel, Demanded}
-use Rattle.compare.proofs.Joining.{joint-pieces, laid-iff}
-use Rattle.compare.proofs.Threes.{threes-length, threes-at}
+use Rattle.compare.proofs.Joining.{laid-iff}
 use Rattle.compare.proofs.Rows.{fresh-runs, runs-clash, runs-free, behind, first-counted, second-counted, roomy}
 
 -- ---- a book that is accepted is free, whatever count it is judged with

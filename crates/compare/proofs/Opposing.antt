@@ -28,18 +28,20 @@ use Rattle.records.proofs.Keeps.{picked-among}
 use Rattle.records.proofs.Accepted.{accepted}
 use Rattle.records.proofs.Orders.{Found, found-before, found-behind, facts-found}
 use Rattle.records.proofs.Marks.{marked-append}
+use Rattle.joint.specs.Joint.{pieces, same, has, jointRun, laid}
+use Rattle.joint.specs.Agreement.{agreement, threes}
+use Rattle.joint.proofs.Joining.{joint-pieces}
+use Rattle.joint.proofs.Threes.{threes-at}
 use Rattle.outcomes.specs.Call as calls
 use Rattle.answering.specs.Claimed.{claimed, pickedFacts}
 use Rattle.outcomes.specs.Call.{byRuns}
 use Rattle.outcomes.specs.Fresh.{freshCall}
 use Rattle.outcomes.proofs.Counts.{claim-within}
 use Rattle.compare.specs.declared.Comparison.the-variants.{Compared}
-use Rattle.compare.specs.Joint.{pieces, same, has, jointRun, laid}
-use Rattle.compare.specs.Answers.{agreement, answerOf, threes, bytesOf}
+use Rattle.compare.specs.Answers.{answerOf, bytesOf}
 use Rattle.compare.specs.Call.{byBook, byClaims, byRows, outcome}
 use Rattle.compare.specs.Opposed.{NeverOpposed, MarksOppose}
-use Rattle.compare.proofs.Threes.{threes-at}
-use Rattle.compare.proofs.Joining.{joint-pieces, joint-consistent}
+use Rattle.compare.proofs.Joining.{joint-consistent}
 use Rattle.compare.proofs.Rows.{first-counted}
 use Rattle.compare.proofs.Demands.{Passed, Told, told, first-right, second-right}
 

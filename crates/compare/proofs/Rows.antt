@@ -1,15 +1,12 @@
 -- The outcome, row by row, and what it leaves. Assumes nothing.
-use Prim.Native.Nat.{ℕ, max, _+_, _-_, _*_, _<_, _≤_}
+use Prim.Native.Nat.{ℕ, max, _-_, _*_, _<_, _≤_}
 use mathlib.Core.Path.{_≡_, refl, sym, ap, ap₂, _∙_}
 use mathlib.Core.Bool.{Bool, true, false, not}
 use mathlib.Core.List.{List, [], _++_}
-use native.Mathlib.Nat.{zero-add}
-use native.Mathlib.Numerals.{add-one}
 use native.Mathlib.Omega.{arith}
 use borrow.Author.Tests.{lt-ltb, le-ltb}
 use lib.Dec.{leb}
-use lib.ListN.{length, getD, set, take}
-use lib.Seq.{take-length, paste, paste-suc, length-paste, take-paste}
+use lib.ListN.{length, getD}
 use Rattle.lists.specs.Front.{front}
 use Rattle.lists.proofs.Bools.{Known, is-true, is-false, known}
 use Rattle.lists.proofs.Tabs.{tab-at, tab-length}
@@ -28,6 +25,10 @@ use Rattle.records.specs.declared.BookCheck.the-variants as book
 use Rattle.records.specs.declared.ClaimsCheck.the-variants as claims
 use Rattle.records.proofs.Accepted.{accepted, accepted-within, accepted-positive, accepted-pieces}
 use Rattle.records.proofs.Marks.{accepted-whole-unmarked}
+use Rattle.joint.specs.Joint.{pieces, laid}
+use Rattle.joint.specs.Agreement.{threes}
+use Rattle.joint.proofs.Joining.{joint-pieces}
+use Rattle.joint.proofs.Threes.{threes-same}
 use Rattle.groups.specs.Index.{bookVisits}
 use Rattle.index.specs.Parts as parts
 use Rattle.outcomes.specs.Call as calls
@@ -42,12 +43,10 @@ use Rattle.outcomes.specs.declared.Outcome.the-variants as on
 use Rattle.outcomes.proofs.Buffers.{front-whole}
 use Rattle.compare.specs.declared.Comparison.{Comparison}
 use Rattle.compare.specs.declared.Comparison.the-variants.{Compared, Refused}
-use Rattle.compare.specs.Joint.{pieces, laid}
-use Rattle.compare.specs.Answers.{answerOf, threes, bytesOf}
+use Rattle.compare.specs.Answers.{answerOf, bytesOf}
 use Rattle.compare.specs.Call.{byBook, byClaims, byRows, outcome, left, Determined}
 use Rattle.compare.specs.Judging.{Answered, Judged}
-use Rattle.compare.proofs.Joining.{joint-pieces, laid-is}
-use Rattle.compare.proofs.Threes.{threes-same}
+use Rattle.compare.proofs.Joining.{laid-is}
 
 -- ---- one book
 
@@ -219,22 +218,6 @@ module _ (s t cs out : List ℕ) where
                 (threes-same _ _ (answerOf s (max a b) cs) (answerOf t (max a b) cs) (records cs) (answers-at s (max a b) cs) (answers-at t (max a b) cs))
                 ∙ ap (λ (k : ℕ). front (threes (answerOf s k cs) (answerOf t k cs) (records cs)) out) (joint-pieces s t a b first second),
           )
-
--- ---- the runs together
-
--- one byte more of a copy
-pub paste-more :
-    (d : List ℕ) (at : ℕ) (s run : List ℕ) (i : ℕ) → run ≡ paste d at s i → at + i < length d → i < length s → set run (at + i) (getD s i 0) ≡ paste d at s (i + 1)
-paste-more d at s run i e h l = ap (λ (r : List ℕ). set r (at + i) (getD s i 0)) e ∙ paste-suc d at s i 0 h l ∙ ap (paste d at s) (sym (add-one i))
-
-pub runs-join :
-    (s t run run′ run″ : List ℕ) → run′ ≡ paste run 0 s (length s) → run″ ≡ paste run′ (length s) t (length t) → length s + length t ≤ length run
-    → take (length s + length t) run″ ≡ s ++ t
-runs-join s t run run′ run″ e f l =
-    let long : length run′ ≡ length run = ap length e ∙ length-paste run 0 s (length s) (omega arith) (omega arith) in
-    ap (take (length s + length t)) f
-    ∙ take-paste run′ (length s) t (length t) (omega arith) (omega arith)
-    ∙ ap₂ _++_ (ap₂ (λ (k : ℕ) (r : List ℕ). take k r) (sym (zero-add (length s))) e ∙ take-paste run 0 s (length s) (omega arith) (omega arith) ∙ take-length s) (take-length t)
 
 -- ---- row 1
 

@@ -10,11 +10,11 @@ use Rattle.records.specs.Facts.{facts}
 use Rattle.records.specs.Marked.{marked}
 use Rattle.records.specs.Check.{bookCheck}
 use Rattle.records.specs.declared.BookCheck.the-variants as on
+use Rattle.joint.specs.Joint.{pieces, eitherMarked}
+use Rattle.joint.specs.Agreement.{agreement}
 use Rattle.answering.specs.Claimed.{claimed, pickedFacts}
 use Rattle.outcomes.specs.Demands.{Derived, Entailed}
 use Rattle.compare.specs.declared.Comparison.{Comparison}
-use Rattle.compare.specs.Joint.{pieces, eitherMarked}
-use Rattle.compare.specs.Answers.{agreement}
 use Rattle.compare.specs.Outcome.{number, book, together}
 
 -- a book's answer to claim i among n pieces: by derivations from the facts of the book that the claim picks and its own marks, and by the models of these

@@ -2,7 +2,6 @@
 use Prim.Native.Nat.{ℕ, max, _*_, _≤_}
 use mathlib.Core.Path.{_≡_}
 use mathlib.Core.List.{List, _++_}
-use lib.ListN.{length, take}
 use Rattle.records.specs.Record.{records}
 use Rattle.records.specs.Check.{bookCheck, claimsCheck}
 use Rattle.records.specs.declared.BookCheck.the-variants as book
@@ -16,15 +15,6 @@ use Rattle.outcomes.specs.declared.Outcome.{Outcome}
 use Rattle.outcomes.specs.declared.Outcome.the-variants as on
 use Rattle.compare.specs.declared.Comparison.{Comparison}
 use Rattle.compare.specs.Call.{byRows, left}
-
--- a run of two books, one behind the other, where both are as short as a book is
-pub record Together (s t run : List ℕ) : Type 0 where
-  pub are : length s ≤ 49152 → length t ≤ 49152 → run ≡ s ++ t
-
--- the first k bytes of a buffer are such a run
-pub record Joins (s t run : List ℕ) (k : ℕ) : Type 0 where
-  pub fits : k ≤ length run
-  pub front : Together s t (take k run)
 
 -- a run about n pieces that can be settled, and whose marks fit
 pub record Layable (run : List ℕ) (n : ℕ) : Type 0 where

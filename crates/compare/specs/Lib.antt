@@ -1,4 +1,3 @@
-pub mod Joint
 pub mod Answers
 pub mod Call
 pub mod Outcome

@@ -2,19 +2,17 @@
 ghost use mathlib.Core.Path.{_≡_};
 ghost use mathlib.Core.Bool.{not};
 ghost use mathlib.Core.List.{[]};
-ghost use Prim.Native.Nat.{max, _+_, _*_, _≤_};
-ghost use lib.ListN.{length, getD};
-ghost use lib.Seq.{paste};
-ghost use Rattle.lists.specs.Front.{front};
+ghost use Prim.Native.Nat.{_*_, _≤_};
+ghost use lib.ListN.{length};
 ghost use Rattle.rules.specs.Follows.{clash};
 ghost use Rattle.records.specs.Record.{records};
 ghost use Rattle.records.specs.Facts.{facts};
 ghost use Rattle.records.specs.Marked.{marked};
+ghost use Rattle.joint.specs.Together.{Together};
 ghost use Rattle.outcomes.specs.Fresh.{freshCall};
-ghost use Rattle.compare.specs.Answers.{agreement, threes};
 ghost use Rattle.compare.specs.Call.{byBook, Determined};
 ghost use Rattle.compare.specs.Demands.{Demanded};
-ghost use Rattle.compare.specs.Judging.{Together, Joins, Layable, Answerable, Answered, Sound, Ready, Judged};
+ghost use Rattle.compare.specs.Judging.{Layable, Answerable, Answered, Sound, Ready, Judged};
 use outcomes::Outcome;
 use records::BookCheck;
 use records::ClaimsCheck;
@@ -24,71 +22,6 @@ use records::Refusal;
 pub enum Comparison {
     Compared(bool),
     Refused(usize, Refusal, usize),
-}
-
-// 1 for the same answer, 2 where one alone is open, 3 for opposite ones.
-fn agreement_of(x: u8, y: u8) -> u8
-    ensures { λ r. ⌜ r ≡ agreement x y ⌝ }
-{
-    if x == y {
-        return 1;
-    }
-    if x == 3 {
-        return 2;
-    }
-    if y == 3 {
-        return 2;
-    }
-    3
-}
-
-// Three bytes for each claim.
-fn write_answers(ours: &[u8], theirs: &[u8], out: &mut [u8])
-    requires { ⌜ (length (now theirs) ≡ length (now ours)) × (3 * length (now ours) ≤ length (now out)) ⌝ }
-    ensures { λ _. ⌜ now (out .exit) ≡ front (threes (λ i. getD (now (ours .entry)) i 0) (λ i. getD (now (theirs .entry)) i 0) (length (now (ours .entry)))) (now (out .entry)) ⌝ }
-{
-    let n = ours.len();
-    let mut i: usize = 0;
-    while i < n {
-        let x = ours[i];
-        let y = theirs[i];
-        let at = 3 * i;
-        out[at] = x;
-        out[at + 1] = y;
-        out[at + 2] = agreement_of(x, y);
-        i += 1;
-    }
-}
-
-// Copies a run to place `at` on.
-fn copy(s: &[u8], at: usize, run: &mut [u8])
-    requires { ⌜ at + length (now s) ≤ length (now run) ⌝ }
-    ensures { λ _. ⌜ now (run .exit) ≡ paste (now (run .entry)) at (now (s .entry)) (length (now (s .entry))) ⌝ }
-{
-    let n = s.len();
-    let mut i: usize = 0;
-    while i < n {
-        run[at + i] = s[i];
-        i += 1;
-    }
-}
-
-// The second book behind the first, where both are as short as a book is, and how many bytes they have. A shared record stands twice, which says no more
-// than once.
-fn join(first: &[u8], second: &[u8], run: &mut [u8]) -> usize
-    requires { ⌜ length (now run) ≡ 98304 ⌝ }
-    ensures { λ r. ⌜ Joins (now (first .entry)) (now (second .entry)) (now (run .exit)) r ⌝ }
-{
-    if 49152 < first.len() {
-        return 0;
-    }
-    if 49152 < second.len() {
-        return 0;
-    }
-    let at = first.len();
-    copy(first, 0, run);
-    copy(second, at, run);
-    at + second.len()
 }
 
 // Whether the records of a run can be laid in ice, all its marks counting. The matrices are scratch.
@@ -139,12 +72,6 @@ fn answer_book(
     )
 }
 
-fn larger(x: usize, y: usize) -> usize
-    ensures { λ r. ⌜ r ≡ max x y ⌝ }
-{
-    if x < y { y } else { x }
-}
-
 // Both books and their answers among the pieces of the larger, for claims that fit these, then their records together, all in the same matrices. Each book's
 // answers are kept in a lent run, so that nothing is written where the second is refused.
 fn judge_both(
@@ -161,7 +88,7 @@ fn judge_both(
     requires { ⌜ Ready (now first) own (now second) count (now run) (now claims) (length (now out)) × (length (now ours) ≡ records (now claims)) × (length (now theirs) ≡ records (now claims)) ⌝ }
     ensures { λ r. ⌜ Judged (now (first .entry)) (now (second .entry)) (now (claims .entry)) (now (out .entry)) r (now (out .exit)) ⌝ }
 {
-    let n = larger(own, count);
+    let n = joint::larger(own, count);
     let mut e = [0u64; 65536];
     let mut d = [0u64; 65536];
     let mut t = [0u64; 65536];
@@ -174,7 +101,7 @@ fn judge_both(
         return Comparison::Refused(2, refusal, place);
     }
     let laid = can_be_laid(run, n, &mut e, &mut d, &mut t);
-    write_answers(ours, theirs, out);
+    joint::write_answers(ours, theirs, out);
     Comparison::Compared(laid)
 }
 
@@ -202,7 +129,7 @@ fn check_asked(
     requires { ⌜ Sound (now first) own (now second) count (now run) (now claims) (length (now out)) ⌝ }
     ensures { λ r. ⌜ Judged (now (first .entry)) (now (second .entry)) (now (claims .entry)) (now (out .entry)) r (now (out .exit)) ⌝ }
 {
-    let fit = checks::check_claims(claims, larger(own, count));
+    let fit = checks::check_claims(claims, joint::larger(own, count));
     match fit {
         ClaimsCheck::Refused(refusal, place) => {
             let rest = after(2, second, Comparison::Refused(0, refusal, place));
@@ -259,6 +186,6 @@ pub fn compare(first: &[u8], second: &[u8], claims: &[u8], out: &mut [u8]) -> Co
         return Comparison::Refused(0, Refusal::ShortBuffer, 0);
     }
     let mut run = [0u8; 98304];
-    let end = join(first, second, &mut run);
+    let end = joint::join(first, second, &mut run);
     check_books(first, second, &run[..end], claims, out)
 }

@@ -1,7 +1,7 @@
 -- `compare::check_books` meets its contract. Assumes nothing.
 use borrow.Author.Needs.{needs}
 use mathlib.Core.Path.{sym, _∙_}
-use Rattle.compare.proofs.Joining.{short-books}
+use Rattle.joint.proofs.Joining.{short-books}
 use Rattle.compare.proofs.Rows.{first-refused, second-refused}
 use Rattle.compare.proofs.check_books.Statement.{statement}
 use Rattle.compare.proofs.check_books.Tie as tie

@@ -1,14 +1,14 @@
--- `compare::write_answers` meets its contract. Assumes nothing.
+-- `joint::write_answers` meets its contract. Assumes nothing.
 use Prim.Native.Nat.{_-_, _≤_}
 use mathlib.Core.Path.{_≡_, refl}
 use native.Mathlib.Omega.{arith}
 use borrow.Author.Needs.{needs}
 use lib.ListN.{length, getD, length-set}
 use Rattle.lists.specs.Front.{front}
-use Rattle.compare.specs.Answers.{threes}
-use Rattle.compare.proofs.Threes.{threes-none, threes-more}
-use Rattle.compare.proofs.write_answers.Statement.{statement}
-use Rattle.compare.proofs.write_answers.Tie as tie
+use Rattle.joint.specs.Agreement.{threes}
+use Rattle.joint.proofs.Threes.{threes-none, threes-more}
+use Rattle.joint.proofs.write_answers.Statement.{statement}
+use Rattle.joint.proofs.write_answers.Tie as tie
 
 abbrev Inv-loop : tie.InvT-loop
 Inv-loop ours theirs out₀ n i₀ out i =

@@ -1,9 +1,9 @@
--- `compare::join` meets its contract. Assumes nothing.
+-- `joint::join` meets its contract. Assumes nothing.
 use borrow.Author.Needs.{needs}
 use native.Mathlib.Omega.{arith}
-use Rattle.compare.proofs.Rows.{runs-join}
-use Rattle.compare.proofs.join.Statement.{statement}
-use Rattle.compare.proofs.join.Tie as tie
+use Rattle.joint.proofs.Pasting.{runs-join}
+use Rattle.joint.proofs.join.Statement.{statement}
+use Rattle.joint.proofs.join.Tie as tie
 
 returns : tie.Need-returns
 returns c = record { fits = omega arith; front = record { are = λ l m. absurd (omega arith) } }

@@ -10,7 +10,7 @@ use lib.ListN.{length, getD, set, length-append, List·getD-append}
 use lib.Seq.{getD-append-add}
 use Rattle.lists.specs.Front.{front, placed}
 use Rattle.lists.proofs.Fronts.{front-none, front-length, placed-sets, placed-front}
-use Rattle.compare.specs.Answers.{agreement, threes}
+use Rattle.joint.specs.Agreement.{agreement, threes}
 
 module _ (f g : ℕ → ℕ) where
   pub threes-length : (n : ℕ) → length (threes f g n) ≡ 3 * n

@@ -1,13 +1,13 @@
--- `compare::copy` meets its contract. Assumes nothing.
+-- `joint::copy` meets its contract. Assumes nothing.
 use Prim.Native.Nat.{_-_, _≤_}
 use mathlib.Core.Path.{_≡_, refl}
 use native.Mathlib.Omega.{arith}
 use borrow.Author.Needs.{needs}
 use lib.ListN.{length, length-set}
 use lib.Seq.{paste, paste-zero}
-use Rattle.compare.proofs.Rows.{paste-more}
-use Rattle.compare.proofs.copy.Statement.{statement}
-use Rattle.compare.proofs.copy.Tie as tie
+use Rattle.joint.proofs.Pasting.{paste-more}
+use Rattle.joint.proofs.copy.Statement.{statement}
+use Rattle.joint.proofs.copy.Tie as tie
 
 abbrev Inv-loop : tie.InvT-loop
 Inv-loop s at run₀ n i₀ run i = (i ≤ length s) × (length run ≡ length run₀) × (run ≡ paste run₀ at s i)
