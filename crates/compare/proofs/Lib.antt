@@ -1,4 +1,5 @@
 pub mod Joining
 pub mod Rows
+pub mod Judges
 pub mod Demands
 pub mod Opposing

@@ -1,8 +1,6 @@
 -- `compare::judge_both` meets its contract. Assumes nothing.
 use mathlib.Core.Path.{sym, _∙_}
-use mathlib.Core.List.{[]}
-use Rattle.compare.proofs.Joining.{layable}
-use Rattle.compare.proofs.Rows.{first-counted, second-counted, first-clashed, second-clashed, both-judged}
+use Rattle.compare.proofs.Judges.{first-answerable, second-answerable, both-layable, first-refuses, second-refuses, both-answer}
 use Rattle.compare.proofs.judge_both.Statement.{statement}
 use Rattle.compare.proofs.judge_both.Tie as tie
 
@@ -10,9 +8,7 @@ larger-requires : tie.Need-larger-requires
 larger-requires c κs = tt
 
 answer-book-requires : tie.Need-answer-book-requires
-answer-book-requires c κs =
-    let P = c .before .before .before .before .before .before .before .before .before .before .before .before .pre .0 in
-    (rw (c .before .before .before .before .larger .ensures) (record { counted = first-counted _ _ _ [] (P .sound .first) (P .sound .second) (P .fit); fit = P .fit; rooms = c .before .before .before .before .before .before .before .before .before .before .before .before .pre .1 }))
+answer-book-requires c κs = first-answerable (c .before .before .before .before .before .before .before .before .before .before .before .before .pre .0) (c .before .before .before .before .larger .ensures) (c .before .before .before .before .before .before .before .before .before .before .before .before .pre .1)
 
 enum-known-one : tie.Need-enum-known-one
 enum-known-one c = c .match .keys1
@@ -21,17 +17,13 @@ same-length : tie.Need-same-length
 same-length c = c .before .before .before .before .before .answer-book .kept .1 .1 .1 .1 .1 .1 .0
 
 returns : tie.Need-returns
-returns c =
-    let P = c .before .before .before .before .before .before .before .before .before .before .before .before .before .before .before .before .before .before .pre .0 in
-    first-clashed _ _ _ _ (P .sound .first) (P .sound .second) (P .fit) (rw (c .before .before .before .before .before .before .before .before .before .before .larger .ensures) at (c .before .before .before .before .before .answer-book .ensures .outcome-is)) (c .before .one .given .1)
+returns c = first-refuses (c .before .before .before .before .before .before .before .before .before .before .before .before .before .before .before .before .before .before .pre .0) (c .before .before .before .before .before .before .before .before .before .before .larger .ensures) (c .before .before .before .before .before .answer-book .ensures) (c .before .one .given .1)
 
 enum-told : tie.Need-enum-told
 enum-told c = c .match .keys2
 
 answer-book-requires-2 : tie.Need-answer-book-requires-2
-answer-book-requires-2 c κs =
-    let P = c .before .before .before .before .before .before .before .before .before .before .before .before .before .before .before .before .before .before .before .before .before .pre .0 in
-    (rw (c .before .before .before .before .before .before .before .before .before .before .before .before .before .larger .ensures) (record { counted = second-counted _ _ _ [] (P .sound .first) (P .sound .second) (P .fit); fit = P .fit; rooms = c .before .before .before .before .before .before .before .before .before .before .before .before .before .before .before .before .before .before .before .before .before .pre .2 }))
+answer-book-requires-2 c κs = second-answerable (c .before .before .before .before .before .before .before .before .before .before .before .before .before .before .before .before .before .before .before .before .before .pre .0) (c .before .before .before .before .before .before .before .before .before .before .before .before .before .larger .ensures) (c .before .before .before .before .before .before .before .before .before .before .before .before .before .before .before .before .before .before .before .before .before .pre .2)
 
 enum-known-two : tie.Need-enum-known-two
 enum-known-two c = c .match2 .keys1
@@ -43,17 +35,13 @@ same-length-3 : tie.Need-same-length-3
 same-length-3 c = c .before .before .before .before .before .answer-book2 .kept .1 .1 .1 .1 .1 .1 .0
 
 returns-2 : tie.Need-returns-2
-returns-2 c =
-    let P = c .before .before .before .before .before .before .before .before .before .before .before .before .before .before .before .before .before .before .before .before .before .before .before .before .before .before .before .pre .0 in
-    second-clashed _ _ _ _ (P .sound .first) (P .sound .second) (P .fit) (rw (c .before .before .before .before .before .before .before .before .before .before .before .before .before .before .before .before .before .before .before .larger .ensures) at (c .before .before .before .before .before .before .before .before .before .before .before .before .before .before .answer-book .ensures .outcome-is)) (c .before .before .before .before .before .before .before .before .before .before .enum-told .given .1) (rw (c .before .before .before .before .before .before .before .before .before .before .before .before .before .before .before .before .before .before .before .larger .ensures) at (c .before .before .before .before .before .answer-book2 .ensures .outcome-is)) (c .before .two .given .1)
+returns-2 c = second-refuses (c .before .before .before .before .before .before .before .before .before .before .before .before .before .before .before .before .before .before .before .before .before .before .before .before .before .before .before .pre .0) (c .before .before .before .before .before .before .before .before .before .before .before .before .before .before .before .before .before .before .before .larger .ensures) (c .before .before .before .before .before .before .before .before .before .before .before .before .before .before .answer-book .ensures) (c .before .before .before .before .before .before .before .before .before .before .enum-told .given .1) (c .before .before .before .before .before .answer-book2 .ensures) (c .before .two .given .1)
 
 enum-told-2 : tie.Need-enum-told-2
 enum-told-2 c = c .match2 .keys2
 
 can-be-laid-requires : tie.Need-can-be-laid-requires
-can-be-laid-requires c κs =
-    let P = c .before .before .before .before .before .before .before .before .before .before .before .before .before .before .before .before .before .before .before .before .before .before .before .before .before .before .before .before .before .pre .0 in
-    (rw (c .before .before .before .before .before .before .before .before .before .before .before .before .before .before .before .before .before .before .before .before .before .larger .ensures, P .sound .joint) (layable _ _ _ _ (P .sound .first) (P .sound .second)))
+can-be-laid-requires c κs = both-layable (c .before .before .before .before .before .before .before .before .before .before .before .before .before .before .before .before .before .before .before .before .before .before .before .before .before .before .before .before .before .pre .0) (c .before .before .before .before .before .before .before .before .before .before .before .before .before .before .before .before .before .before .before .before .before .larger .ensures)
 
 write-answers-requires : tie.Need-write-answers-requires
 write-answers-requires c κs =
@@ -71,10 +59,7 @@ same-length-6 : tie.Need-same-length-6
 same-length-6 c = c .before .before .write-answers .kept .1 .1 .0
 
 returns-3 : tie.Need-returns-3
-returns-3 c =
-    let P = c .before .before .before .before .before .before .before .before .before .before .before .before .before .before .before .before .before .before .before .before .before .before .before .before .before .before .before .before .before .before .before .before .before .before .before .before .pre .0 in
-    both-judged _ _ _ _ (P .sound .first) (P .sound .second) (P .fit) _ _ _ _ (rw (c .before .before .before .before .before .before .before .before .before .before .before .before .before .before .before .before .before .before .before .before .before .before .before .before .before .before .before .before .larger .ensures) at (c .before .before .before .before .before .before .before .before .before .before .before .before .before .before .before .before .before .before .before .before .before .before .before .answer-book .ensures)) (rw (c .before .before .before .before .before .before .before .before .before .before .before .before .before .before .before .before .before .before .before .before .before .before .before .before .before .before .before .before .larger .ensures) at (c .before .before .before .before .before .before .before .before .before .before .before .before .before .before .answer-book2 .ensures)) (c .before .before .before .before .before .before .before .before .before .before .before .before .before .before .before .before .before .before .before .enum-told .given .1) (c .before .before .before .before .before .before .before .before .before .before .enum-told2 .given .1)
-    (rw (c .before .before .before .before .before .before .before .before .before .before .before .before .before .before .before .before .before .before .before .before .before .before .before .before .before .before .before .before .larger .ensures, P .sound .joint) at (c .before .before .before .before .before .before .can-be-laid .ensures)) (c .before .before .write-answers .ensures)
+returns-3 c = both-answer (c .before .before .before .before .before .before .before .before .before .before .before .before .before .before .before .before .before .before .before .before .before .before .before .before .before .before .before .before .before .before .before .before .before .before .before .before .pre .0) (c .before .before .before .before .before .before .before .before .before .before .before .before .before .before .before .before .before .before .before .before .before .before .before .before .before .before .before .before .larger .ensures) (c .before .before .before .before .before .before .before .before .before .before .before .before .before .before .before .before .before .before .before .before .before .before .before .answer-book .ensures) (c .before .before .before .before .before .before .before .before .before .before .before .before .before .before .before .before .before .before .before .enum-told .given .1) (c .before .before .before .before .before .before .before .before .before .before .before .before .before .before .answer-book2 .ensures) _ (c .before .before .before .before .before .before .before .before .before .before .enum-told2 .given .1) (c .before .before .before .before .before .before .can-be-laid .ensures) (c .before .before .write-answers .ensures)
 
 pub judge-both-spec : {M : Type 1} → statement M
 judge-both-spec =
