@@ -56,8 +56,7 @@ fn copy(s: &[u8], at: usize, run: &mut [u8])
 
 // The second book behind the first, where both are as short as a book is, and how many bytes they have. A shared record stands twice, which says no more
 // than once.
-pub fn join(first: &[u8], second: &[u8], run: &mut [u8]) -> usize
-    requires { ⌜ length (now run) ≡ 98304 ⌝ }
+pub fn join(first: &[u8], second: &[u8], run: &mut [u8; 98304]) -> usize
     ensures { λ r. ⌜ Joins (now (first .entry)) (now (second .entry)) (now (run .exit)) r ⌝ }
 {
     if 49152 < first.len() {

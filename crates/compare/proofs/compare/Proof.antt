@@ -1,8 +1,6 @@
 -- `compare::compare` meets its contract. Assumes nothing.
 use borrow.Author.Needs.{needs}
-use Prim.Native.Nat.{ℕ}
 use mathlib.Core.Path.{sym}
-use lib.ListN.{length-replicate}
 use lib.Seq.{length-take-le}
 use Rattle.compare.proofs.Rows.{short-refused, rows-determined}
 use Rattle.compare.proofs.Demands.{demanded}
@@ -17,27 +15,24 @@ returns c =
     let D = short-refused (c .before .before .before .before .before .args .first .now) (c .before .before .before .before .before .args .second .now) (c .before .before .before .before .before .args .claims .now) (c .before .before .before .before .before .args .out .now) (c .if1 .taken) in
     (D, demanded _ _ _ _ _ _ D)
 
-slice-aggregate-join : tie.Need-slice-aggregate-join
-slice-aggregate-join c = sym (length-replicate {A = ℕ} 98304 0)
-
 join-requires : tie.Need-join-requires
-join-requires c κs = length-replicate {A = ℕ} 98304 0
+join-requires c κs = tt
 
 array-share-prefix-run : tie.Need-array-share-prefix-run
-array-share-prefix-run c = c .before .join .ensures .fits
+array-share-prefix-run c = c .join .ensures .fits
 
 slice-aggregate-check-books : tie.Need-slice-aggregate-check-books
-slice-aggregate-check-books c = sym (length-take-le _ _ (c .before .before .join .ensures .fits))
+slice-aggregate-check-books c = sym (length-take-le _ _ (c .before .join .ensures .fits))
 
 check-books-requires : tie.Need-check-books-requires
-check-books-requires c κs = (c .before .before .before .join .ensures .front, c .before .before .before .before .before .if1 .left)
+check-books-requires c κs = (c .before .before .join .ensures .front, c .before .before .before .before .if1 .left)
 
 same-length : tie.Need-same-length
 same-length c = c .before .before .check-books .kept .1 .1 .1 .1 .0
 
 returns-2 : tie.Need-returns-2
 returns-2 c =
-    let D = rows-determined _ _ _ _ _ _ (c .before .before .before .before .before .before .before .before .if1 .left) (c .before .before .check-books .ensures) in
+    let D = rows-determined _ _ _ _ _ _ (c .before .before .before .before .before .before .before .if1 .left) (c .before .before .check-books .ensures) in
     (D, demanded _ _ _ _ _ _ D)
 
 pub compare-spec : {M : Type 1} → statement M
@@ -46,7 +41,6 @@ compare-spec =
     (tie.spec
     mul-if1
     returns
-    slice-aggregate-join
     join-requires
     array-share-prefix-run
     slice-aggregate-check-books

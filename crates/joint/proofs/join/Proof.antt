@@ -20,13 +20,10 @@ copy-requires-2 c κs = search needs
 add-result : tie.Need-add-result
 add-result c = search needs
 
-same-length : tie.Need-same-length
-same-length c = search needs
-
 returns-3 : tie.Need-returns-3
-returns-3 c = record { fits = search needs; front = record { are = λ l m. runs-join (c .before .before .before .before .before .before .before .before .before .before .before .before .before .args .first .now) (c .before .before .before .before .before .before .before .before .before .before .before .before .before .args .second .now) (c .before .before .before .before .before .before .before .before .before .before .before .before .before .args .run .now) _ _ (c .before .before .before .before .before .before .copy .ensures) (c .before .before .copy2 .ensures) (omega arith) } }
+returns-3 c = record { fits = search needs; front = record { are = λ l m. runs-join (c .before .before .before .before .before .before .before .before .args .first .now) (c .before .before .before .before .before .before .before .before .args .second .now) (c .before .before .before .before .before .before .before .before .args .run .now) _ _ (c .before .before .copy .ensures) (c .copy2 .ensures) (omega arith) } }
 
 pub join-spec : {M : Type 1} → statement M
 join-spec =
     tie.close
-    (tie.spec returns returns-2 copy-requires copy-requires-2 add-result same-length returns-3)
+    (tie.spec returns returns-2 copy-requires copy-requires-2 add-result returns-3)
