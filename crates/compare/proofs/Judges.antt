@@ -1,22 +1,48 @@
 -- The steps of two books that are judged, among n pieces, the count of the larger. Assumes nothing.
-use Prim.Native.Nat.{ℕ, max}
-use mathlib.Core.Path.{_≡_}
+use Prim.Native.Nat.{ℕ, max, _*_, _≤_}
+use mathlib.Core.Path.{_≡_, sym, ap, _∙_}
 use mathlib.Core.Bool.{Bool, not}
 use mathlib.Core.List.{List, []}
-use lib.ListN.{length, getD}
+use native.Mathlib.Omega.{arith}
+use lib.ListN.{length, getD, take, replicate, length-replicate}
+use lib.Seq.{length-take-le}
 use Rattle.lists.specs.Front.{front}
 use Rattle.rules.specs.Follows.{clash}
 use Rattle.records.specs.Record.{records}
 use Rattle.records.specs.Facts.{facts}
 use Rattle.records.specs.Marked.{marked}
+use Rattle.records.specs.Check.{claimsCheck}
 use Rattle.records.specs.declared.Refusal.{Refusal}
+use Rattle.records.specs.declared.ClaimsCheck.{ClaimsCheck}
+use Rattle.records.specs.declared.ClaimsCheck.the-variants as claims
+use Rattle.records.proofs.Accepted.{accepted-claims}
 use Rattle.joint.specs.Agreement.{threes}
 use Rattle.outcomes.specs.declared.Outcome.{Outcome}
 use Rattle.outcomes.specs.declared.Outcome.the-variants as on
 use Rattle.compare.specs.declared.Comparison.the-variants.{Compared, Refused}
-use Rattle.compare.specs.Judging.{Layable, Answerable, Answered, Ready, Judged}
+use Rattle.compare.specs.Judging.{Layable, Answerable, Answered, Sound, Ready, Judged}
 use Rattle.compare.proofs.Joining.{layable}
 use Rattle.compare.proofs.Rows.{first-counted, second-counted, first-clashed, second-clashed, both-judged}
+
+-- ---- claims that fit
+
+module _ (cs : List ℕ) (n : ℕ) {r : ClaimsCheck} (e : r ≡ claimsCheck n cs) (q : r ≡ claims.Accepted) where
+  -- an answer to each has room
+  pub asked-fit : records cs ≤ length (replicate {A = ℕ} 4096 0)
+  asked-fit = omega (arith, accepted-claims n cs (sym e ∙ q) .few, length-replicate {A = ℕ} 4096 0)
+
+  pub asked-long : length (take (records cs) (replicate {A = ℕ} 4096 0)) ≡ records cs
+  asked-long = length-take-le (records cs) (replicate {A = ℕ} 4096 0) asked-fit
+
+  pub asked-ready : {s t run : List ℕ} {a b room : ℕ} → n ≡ max a b → Sound s a t b run cs room → Ready s a t b run cs room
+  asked-ready l S = record { sound = S; fit = ap (λ (k : ℕ). claimsCheck k cs) (sym l) ∙ sym e ∙ q }
+
+-- ---- the books
+
+-- two runs of answers, and room for what is written of them
+pub answers-room :
+    {s t run cs : List ℕ} {a b room i j k l : ℕ} → Ready s a t b run cs room → i ≡ j → j ≡ records cs → k ≡ l → l ≡ records cs → (k ≡ i) × (3 * i ≤ room)
+answers-room R p q r h = (r ∙ h ∙ sym (p ∙ q), rw (p ∙ q) (R .sound .rooms))
 
 module _ {s t run cs : List ℕ} {a b n room : ℕ} (R : Ready s a t b run cs room) (e : n ≡ max a b) where
   pub first-answerable : {k : ℕ} → k ≡ records cs → Answerable s n cs k

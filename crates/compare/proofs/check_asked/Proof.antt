@@ -1,17 +1,9 @@
 -- `compare::check_asked` meets its contract. Assumes nothing.
-use Prim.Native.Nat.{ℕ, _≤_}
-use native.Mathlib.Omega.{arith}
 use mathlib.Core.Path.{sym, _∙_}
-use lib.ListN.{length, replicate, length-replicate}
-use lib.Seq.{length-take-le}
-use Rattle.records.proofs.Accepted.{accepted-claims}
 use Rattle.compare.proofs.Rows.{asked-refused}
+use Rattle.compare.proofs.Judges.{asked-fit, asked-long, asked-ready}
 use Rattle.compare.proofs.check_asked.Statement.{statement}
 use Rattle.compare.proofs.check_asked.Tie as tie
-
--- an answer to each claim has room
-asked-fit : {a : ℕ} → a ≤ 4096 → a ≤ length (replicate {A = ℕ} 4096 0)
-asked-fit p = omega (arith, length-replicate {A = ℕ} 4096 0)
 
 larger-requires : tie.Need-larger-requires
 larger-requires c κs = tt
@@ -32,20 +24,19 @@ enum-told : tie.Need-enum-told
 enum-told c = c .match .keys2
 
 array-borrow-prefix-ours : tie.Need-array-borrow-prefix-ours
-array-borrow-prefix-ours c = asked-fit (accepted-claims _ _ (sym (c .before .before .check-claims .ensures) ∙ c .enum-told .given .1) .few)
+array-borrow-prefix-ours c = asked-fit _ _ (c .before .before .check-claims .ensures) (c .enum-told .given .1)
 
 slice-aggregate-judge-both : tie.Need-slice-aggregate-judge-both
-slice-aggregate-judge-both c = sym (length-take-le _ _ (asked-fit (accepted-claims _ _ (sym (c .before .before .before .check-claims .ensures) ∙ c .before .enum-told .given .1) .few)))
+slice-aggregate-judge-both c = sym (asked-long _ _ (c .before .before .before .check-claims .ensures) (c .before .enum-told .given .1))
 
 array-borrow-prefix-theirs : tie.Need-array-borrow-prefix-theirs
-array-borrow-prefix-theirs c = asked-fit (accepted-claims _ _ (sym (c .before .before .before .check-claims .ensures) ∙ c .before .enum-told .given .1) .few)
+array-borrow-prefix-theirs c = asked-fit _ _ (c .before .before .before .check-claims .ensures) (c .before .enum-told .given .1)
 
 slice-aggregate-judge-both-2 : tie.Need-slice-aggregate-judge-both-2
-slice-aggregate-judge-both-2 c = sym (length-take-le _ _ (asked-fit (accepted-claims _ _ (sym (c .before .before .before .before .check-claims .ensures) ∙ c .before .before .enum-told .given .1) .few)))
+slice-aggregate-judge-both-2 c = sym (asked-long _ _ (c .before .before .before .before .check-claims .ensures) (c .before .before .enum-told .given .1))
 
 judge-both-requires : tie.Need-judge-both-requires
-judge-both-requires c κs =
-    (record { sound = c .before .before .before .before .before .before .before .before .before .before .before .before .pre; fit = rw (c .before .before .before .before .before .before .larger .ensures) at (sym (c .before .before .before .before .before .check-claims .ensures) ∙ c .before .before .before .enum-told .given .1) }, length-take-le _ _ (asked-fit (accepted-claims _ _ (sym (c .before .before .before .before .before .check-claims .ensures) ∙ c .before .before .before .enum-told .given .1) .few)), length-take-le _ _ (asked-fit (accepted-claims _ _ (sym (c .before .before .before .before .before .check-claims .ensures) ∙ c .before .before .before .enum-told .given .1) .few)))
+judge-both-requires c κs = (asked-ready _ _ (c .before .before .before .before .before .check-claims .ensures) (c .before .before .before .enum-told .given .1) (c .before .before .before .before .before .before .larger .ensures) (c .before .before .before .before .before .before .before .before .before .before .before .before .pre), asked-long _ _ (c .before .before .before .before .before .check-claims .ensures) (c .before .before .before .enum-told .given .1), asked-long _ _ (c .before .before .before .before .before .check-claims .ensures) (c .before .before .before .enum-told .given .1))
 
 returns : tie.Need-returns
 returns c =

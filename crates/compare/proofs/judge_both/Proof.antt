@@ -1,6 +1,5 @@
 -- `compare::judge_both` meets its contract. Assumes nothing.
-use mathlib.Core.Path.{sym, _∙_}
-use Rattle.compare.proofs.Judges.{first-answerable, second-answerable, both-layable, first-refuses, second-refuses, both-answer}
+use Rattle.compare.proofs.Judges.{answers-room, first-answerable, second-answerable, both-layable, first-refuses, second-refuses, both-answer}
 use Rattle.compare.proofs.judge_both.Statement.{statement}
 use Rattle.compare.proofs.judge_both.Tie as tie
 
@@ -44,10 +43,7 @@ can-be-laid-requires : tie.Need-can-be-laid-requires
 can-be-laid-requires c κs = both-layable (c .before .before .before .before .before .before .before .before .before .before .before .before .before .before .before .before .before .before .before .before .before .before .before .before .before .before .before .before .before .pre .0) (c .before .before .before .before .before .before .before .before .before .before .before .before .before .before .before .before .before .before .before .before .before .larger .ensures)
 
 write-answers-requires : tie.Need-write-answers-requires
-write-answers-requires c κs =
-    let P = c .before .before .before .before .before .before .before .before .before .before .before .before .before .before .before .before .before .before .before .before .before .before .before .before .before .before .before .before .before .before .before .before .before .pre in
-    let o = c .before .before .before .before .before .before .before .before .before .before .before .before .before .before .before .before .before .before .before .before .answer-book .kept .1 .1 .1 .1 .1 .1 .0 ∙ P .1 in
-    (c .before .before .before .before .before .before .before .before .before .before .before .answer-book2 .kept .1 .1 .1 .1 .1 .1 .0 ∙ P .2 ∙ sym o, rw o (P .0 .sound .rooms))
+write-answers-requires c κs = answers-room (c .before .before .before .before .before .before .before .before .before .before .before .before .before .before .before .before .before .before .before .before .before .before .before .before .before .before .before .before .before .before .before .before .before .pre .0) (c .before .before .before .before .before .before .before .before .before .before .before .before .before .before .before .before .before .before .before .before .answer-book .kept .1 .1 .1 .1 .1 .1 .0) (c .before .before .before .before .before .before .before .before .before .before .before .before .before .before .before .before .before .before .before .before .before .before .before .before .before .before .before .before .before .before .before .before .before .pre .1) (c .before .before .before .before .before .before .before .before .before .before .before .answer-book2 .kept .1 .1 .1 .1 .1 .1 .0) (c .before .before .before .before .before .before .before .before .before .before .before .before .before .before .before .before .before .before .before .before .before .before .before .before .before .before .before .before .before .before .before .before .before .pre .2)
 
 same-length-4 : tie.Need-same-length-4
 same-length-4 c = c .before .before .before .before .before .before .before .before .before .before .before .before .before .before .before .before .before .before .before .before .before .before .before .answer-book .kept .1 .1 .1 .1 .1 .1 .0
