@@ -36,6 +36,9 @@ module _ (f g : ℕ → ℕ) where
 
   -- ---- the loop
 
+  pub threes-long : (l : List ℕ) (n : ℕ) → 3 * n ≤ length l → length (front (threes f g n) l) ≡ length l
+  threes-long l n h = front-length (threes f g n) l (omega (arith, threes-length n))
+
   pub threes-none : (l : List ℕ) → l ≡ front (threes f g 0) l
   unfolding threes
   threes-none l = sym (front-none l)

@@ -1,12 +1,12 @@
 -- `joint::write_answers` meets its contract. Assumes nothing.
 use Prim.Native.Nat.{_-_, _≤_}
-use mathlib.Core.Path.{_≡_, refl}
+use mathlib.Core.Path.{_≡_, refl, ap, _∙_}
 use native.Mathlib.Omega.{arith}
 use borrow.Author.Needs.{needs}
 use lib.ListN.{length, getD, length-set}
 use Rattle.lists.specs.Front.{front}
 use Rattle.joint.specs.Agreement.{threes}
-use Rattle.joint.proofs.Threes.{threes-none, threes-more}
+use Rattle.joint.proofs.Threes.{threes-long, threes-none, threes-more}
 use Rattle.joint.proofs.write_answers.Statement.{statement}
 use Rattle.joint.proofs.write_answers.Tie as tie
 
@@ -54,7 +54,9 @@ loop-less : tie.Need-loop-less Inv-loop μ-loop
 loop-less c = search needs
 
 loop-again : tie.Need-loop-again Inv-loop μ-loop
-loop-again c = (search needs, simp length-set (search needs), threes-more _ _ _ _ _ _ _ _ (omega (arith, c .before .before .before .before .before .before .before .before .pre .1)) (c .before .before .before .before .loop .inv .2) refl refl (c .agreement-of .ensures))
+loop-again c =
+    let more = threes-more _ _ _ _ _ _ _ _ (omega (arith, c .before .before .before .before .before .before .before .before .pre .1)) (c .before .before .before .before .loop .inv .2) refl refl (c .agreement-of .ensures) in
+    (search needs, ap length more ∙ threes-long _ _ _ _ (omega (arith, c .before .before .before .before .before .before .before .before .pre .1)), more)
 
 same-length : tie.Need-same-length Inv-loop μ-loop
 same-length c = search needs
