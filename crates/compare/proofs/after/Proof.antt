@@ -1,17 +1,16 @@
 -- `compare::after` meets its contract. Assumes nothing.
-use borrow.Author.Needs.{needs}
 use Rattle.compare.proofs.Rows.{after-refused, after-accepted}
 use Rattle.compare.proofs.after.Statement.{statement}
 use Rattle.compare.proofs.after.Tie as tie
 
 judge-run-requires : tie.Need-judge-run-requires
-judge-run-requires c κs = search needs
+judge-run-requires c κs = tt
 
 enum-known-outcome : tie.Need-enum-known-outcome
-enum-known-outcome c = search needs
+enum-known-outcome c = c .match .keys1
 
 enum-told : tie.Need-enum-told
-enum-told c = search needs
+enum-told c = c .match .keys2
 
 returns : tie.Need-returns
 returns c = after-refused _ _ _ (c .before .before .before .judge-run .ensures) (c .before .outcome .given .1)
