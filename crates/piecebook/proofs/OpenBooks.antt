@@ -41,6 +41,6 @@ answered w was asked n r area c before wide told D =
       told = subst (λ (x : ℕ). Replied (asked .outcome) x r) wide told;
     }
 
-pub began : (state area state′ area′ : List ℕ) (r : PiecebookWorkingResult) (o o′ : Outcome) (begun : Working) → o ≡ o′ → on.Started area o begun area′ → Replied o′ 0 r → state′ ≡ begunCounts state begun o′ → Started state area r state′ area′
+pub began : (state area state′ area′ : List ℕ) (r : PiecebookWorkingResult) (o o′ : Outcome) (begun : Working) → o ≡ o′ → on.Started area o begun area′ → Replied o 0 r → state′ ≡ begunCounts state begun o′ → Started state area r state′ area′
 began state area state′ area′ r o o′ begun is D told counts =
-    record { outcome = o′; begun = begun; called = subst (λ (x : Outcome). on.Started area x begun area′) is D; told = told; counts = counts }
+    record { outcome = o′; begun = begun; called = subst (λ (x : Outcome). on.Started area x begun area′) is D; told = subst (λ (x : Outcome). Replied x 0 r) is told; counts = counts }

@@ -186,13 +186,11 @@ pub extern "C" fn piecebook_start(state: &mut [usize; 2], area: &mut [u8]) -> Pi
     let settled = working::start(area);
     let begun = settled.working;
     let outcome = settled.outcome;
-    match outcome {
-        Outcome::Refused(refusal, place) => told(Outcome::Refused(refusal, place), 0),
-        Outcome::Accepted(pieces, nodes, shadows) => {
-            *state = [begun.records, begun.pieces];
-            told(Outcome::Accepted(pieces, nodes, shadows), 0)
-        }
-    }
+    let Outcome::Accepted(_, _, _) = outcome else {
+        return told(outcome, 0);
+    };
+    *state = [begun.records, begun.pieces];
+    told(outcome, 0)
 }
 
 #[no_mangle]

@@ -9,40 +9,40 @@ use Rattle.piecebook.proofs.piecebook_start.Tie as tie
 start-requires : tie.Need-start-requires
 start-requires c κs = search needs
 
-enum-known-outcome : tie.Need-enum-known-outcome
-enum-known-outcome c = search needs
+enum-told : tie.Need-enum-told
+enum-told c = c .match .keys1
+
+enum-told-2 : tie.Need-enum-told-2
+enum-told-2 c = c .match .keys2
 
 told-requires : tie.Need-told-requires
 told-requires c κs = search needs
 
-enum-known-outcome-2 : tie.Need-enum-known-outcome-2
-enum-known-outcome-2 c = search needs
+same-length : tie.Need-same-length
+same-length c = c .before .before .before .before .before .before .start .kept .0
+
+returns : tie.Need-returns
+returns c = began _ _ _ _ _ _ _ _ (c .before .enum-told2 .given .1) (c .before .before .before .before .before .before .start .ensures) (c .told .ensures) refl
 
 told-requires-2 : tie.Need-told-requires-2
 told-requires-2 c κs = search needs
 
-same-length : tie.Need-same-length
-same-length c = search needs
-
-returns : tie.Need-returns
-returns c = began _ _ _ _ _ _ _ _ (c .before .before .outcome .given .1) (c .before .before .before .before .before .before .before .start .ensures) (c .told .ensures) refl
-
 same-length-2 : tie.Need-same-length-2
-same-length-2 c = search needs
+same-length-2 c = c .before .before .before .before .before .before .before .start .kept .0
 
 returns-2 : tie.Need-returns-2
-returns-2 c = began _ _ _ _ _ _ _ _ (c .before .before .before .outcome2 .given .1) (c .before .before .before .before .before .before .before .before .start .ensures) (c .told2 .ensures) refl
+returns-2 c = began _ _ _ _ _ _ _ _ (c .before .before .enum-told .given .1) (c .before .before .before .before .before .before .before .start .ensures) (c .told2 .ensures) refl
 
 pub piecebook-start-spec : {M : Type 1} → statement M
 piecebook-start-spec =
     tie.close
     (tie.spec
     start-requires
-    enum-known-outcome
+    enum-told
+    enum-told-2
     told-requires
-    enum-known-outcome-2
-    told-requires-2
     same-length
     returns
+    told-requires-2
     same-length-2
     returns-2)
