@@ -10,7 +10,7 @@ converted-of-requires : tie.Need-converted-of-requires
 converted-of-requires c κs = search needs
 
 same-length : tie.Need-same-length
-same-length c = search needs
+same-length c = c .before .before .before .convert .kept .1 .0
 
 returns : tie.Need-returns
 returns c = passed _ _ _ _ _ (c .before .before .before .convert .ensures) (c .converted-of .ensures)

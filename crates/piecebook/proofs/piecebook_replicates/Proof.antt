@@ -11,7 +11,7 @@ told-requires : tie.Need-told-requires
 told-requires c κs = search needs
 
 same-length : tie.Need-same-length
-same-length c = search needs
+same-length c = c .before .before .before .before .replicates .kept .1 .1 .1 .0
 
 returns : tie.Need-returns
 returns c = replicated _ _ _ _ _ _ _ (c .before .before .before .before .replicates .ensures) (c .told .ensures)

@@ -15,7 +15,7 @@ worked-requires : tie.Need-worked-requires
 worked-requires c κs = search needs
 
 same-length : tie.Need-same-length
-same-length c = search needs
+same-length c = c .before .before .before .withdraw-from .kept .1 .0
 
 returns : tie.Need-returns
 returns c = withdrawn _ _ _ _ _ _ (c .before .before .before .before .before .state-of .ensures) (c .worked .ensures .0) (c .worked .ensures .1) _ _ _ (c .before .before .before .withdraw-from .ensures)

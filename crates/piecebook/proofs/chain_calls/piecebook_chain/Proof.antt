@@ -12,7 +12,7 @@ chained-requires : tie.Need-chained-requires
 chained-requires c κs = search needs
 
 same-length : tie.Need-same-length
-same-length c = search needs
+same-length c = c .before .before .before .write-chain .kept .1 .1 .0
 
 returns : tie.Need-returns
 returns c = chained-all _ _ _ _ _ _ (c .before .before .before .write-chain .ensures) (c .chained .ensures)

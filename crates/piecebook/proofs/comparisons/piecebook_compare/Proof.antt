@@ -11,7 +11,7 @@ reported-of-requires : tie.Need-reported-of-requires
 reported-of-requires c κs = search needs
 
 same-length : tie.Need-same-length
-same-length c = search needs
+same-length c = c .before .before .before .compare .kept .1 .1 .1 .0
 
 returns : tie.Need-returns
 returns c =
