@@ -1,4 +1,4 @@
--- Which rule numbers ask for premises, and what the others come to. Assumes nothing.
+-- Which rule numbers ask for premises and for which, and what the others come to. Assumes nothing.
 use Prim.Native.Nat.{ℕ, zero, suc}
 use mathlib.Core.Path.{_≡_, refl}
 use mathlib.Core.Bool.{Bool, true, false, _&&_}
@@ -6,10 +6,39 @@ use mathlib.Core.List.{List}
 use lib.Dec.{ltb}
 use Rattle.steps.specs.Citing.{Cited}
 use Rattle.steps.specs.declared.Step.{Step}
+use Rattle.steps.specs.Step.{showing}
 use Rattle.steps.specs.Rule.{table, rule}
 use Rattle.steps.specs.Justified.{premised, keeps}
 
 module _ (s p q : Step) where
+  module _ (r g h k : ℕ) where
+    abbrev Follows : Bool
+    Follows = premised s p q (rule r g h k)
+
+    pub asked-a : r ≡ 1 → (showing s 1 g k && (showing p 1 g h && showing q 1 h k)) ≡ Follows
+    unfolding premised rule table
+    asked-a e = rw e refl
+
+    pub asked-b : r ≡ 2 → (showing s 2 g k && (showing p 1 g h && showing q 2 h k)) ≡ Follows
+    unfolding premised rule table
+    asked-b e = rw e refl
+
+    pub asked-a′ : r ≡ 5 → (showing s 4 h k && (showing p 1 g h && showing q 4 g k)) ≡ Follows
+    unfolding premised rule table
+    asked-a′ e = rw e refl
+
+    pub asked-b′ : r ≡ 6 → (showing s 4 g h && (showing p 4 g k && showing q 1 h k)) ≡ Follows
+    unfolding premised rule table
+    asked-b′ e = rw e refl
+
+    pub asked-c′ : r ≡ 7 → (showing s 3 g k && (showing p 1 h k && showing q 3 g h)) ≡ Follows
+    unfolding premised rule table
+    asked-c′ e = rw e refl
+
+    pub asked-d′ : r ≡ 8 → (showing s 4 g k && (showing p 3 g h && showing q 2 k h)) ≡ Follows
+    unfolding premised rule table
+    asked-d′ e = rw e refl
+
   pub unpremised :
       (r : ℕ) → (r ≡ 1 → ⊥) → (r ≡ 2 → ⊥) → (r ≡ 5 → ⊥) → (r ≡ 6 → ⊥) → (r ≡ 7 → ⊥) → (r ≡ 8 → ⊥) → (g h k : ℕ) → premised s p q (rule r g h k) ≡ false
   unfolding premised rule table

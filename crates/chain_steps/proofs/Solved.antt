@@ -2,7 +2,7 @@
 use Prim.Native.Nat.{ℕ}
 use mathlib.Core.Path.{_≡_, refl, sym, ap, _∙_}
 use mathlib.Core.Logic.{_⊎_, inl, inr}
-use mathlib.Core.Bool.{Bool, true, false, _&&_, false≢true}
+use mathlib.Core.Bool.{Bool, true, false, false≢true}
 use mathlib.Core.List.{List·Memᴰ, List·Memᴰ·head, List·Memᴰ·tail}
 use lib.Dec.{eqb}
 use borrow.Author.Tests.{eqb-true, eqb-false}
@@ -95,21 +95,21 @@ module _ (s p q : Step) where
     abbrev Search : Bool
     Search = some (named s p q) (λ g h k. premised s p q (rule r g h k))
 
-    pub solved-a : r ≡ 1 → (showing s 1 (s .a) (s .b) && (showing p 1 (s .a) (p .b) && showing q 1 (p .b) (s .b))) ≡ Search
+    pub solved-a : r ≡ 1 → tried r (s .a) (p .b) (s .b) ≡ Search
     unfolding rule table premised
     solved-a e =
         rw e
         (solved (named s p q) (tried 1) (s .a) (p .b) (s .b) s-a p-b s-b
         (λ g h k t. let w = three (PART g h) (PART h k) (PART g k) t in let u = exact s 1 g k refl (w .0) in (u .0, exact p 1 g h refl (w .1) .1, u .1)))
 
-    pub solved-a′ : r ≡ 5 → (showing s 4 (s .a) (s .b) && (showing p 1 (p .a) (s .a) && showing q 4 (p .a) (s .b))) ≡ Search
+    pub solved-a′ : r ≡ 5 → tried r (p .a) (s .a) (s .b) ≡ Search
     unfolding rule table premised
     solved-a′ e =
         rw e
         (solved (named s p q) (tried 5) (p .a) (s .a) (s .b) p-a s-a s-b
         (λ g h k t. let w = three (PART g h) (NOTPART g k) (NOTPART h k) t in let u = exact s 4 h k refl (w .0) in (exact p 1 g h refl (w .1) .0, u .0, u .1)))
 
-    pub solved-b′ : r ≡ 6 → (showing s 4 (s .a) (s .b) && (showing p 4 (s .a) (p .b) && showing q 1 (s .b) (p .b))) ≡ Search
+    pub solved-b′ : r ≡ 6 → tried r (s .a) (s .b) (p .b) ≡ Search
     unfolding rule table premised
     solved-b′ e =
         rw e
@@ -118,21 +118,21 @@ module _ (s p q : Step) where
 
     -- where a premise is unordered, one piece is the other one of it
     module _ (m : ℕ) where
-      pub solved-b : r ≡ 2 → m ≡ other (q .a) (q .b) (p .b) → (showing s 2 (p .a) m && (showing p 1 (p .a) (p .b) && showing q 2 (p .b) m)) ≡ Search
+      pub solved-b : r ≡ 2 → m ≡ other (q .a) (q .b) (p .b) → tried r (p .a) (p .b) m ≡ Search
       unfolding rule table premised
       solved-b e o =
           rw (e, o)
           (solved (named s p q) (tried 2) (p .a) (p .b) (other (q .a) (q .b) (p .b)) p-a p-b (other-q (p .b))
           (λ g h k t. let w = three (PART g h) (APART h k) (APART g k) t in let u = exact p 1 g h refl (w .1) in (u .0, u .1, ap (other (q .a) (q .b)) (u .1) ∙ other-last q 2 h k (w .2))))
 
-      pub solved-c′ : r ≡ 7 → m ≡ other (q .a) (q .b) (p .a) → (showing s 3 m (p .b) && (showing p 1 (p .a) (p .b) && showing q 3 m (p .a))) ≡ Search
+      pub solved-c′ : r ≡ 7 → m ≡ other (q .a) (q .b) (p .a) → tried r m (p .a) (p .b) ≡ Search
       unfolding rule table premised
       solved-c′ e o =
           rw (e, o)
           (solved (named s p q) (tried 7) (other (q .a) (q .b) (p .a)) (p .a) (p .b) (other-q (p .a)) p-a p-b
           (λ g h k t. let w = three (PART h k) (MEETS g h) (MEETS g k) t in let u = exact p 1 h k refl (w .1) in (ap (other (q .a) (q .b)) (u .0) ∙ other-start q 3 g h (w .2), u .0, u .1)))
 
-      pub solved-d′ : r ≡ 8 → m ≡ other (p .a) (p .b) (s .a) → (showing s 4 (s .a) (s .b) && (showing p 3 (s .a) m && showing q 2 (s .b) m)) ≡ Search
+      pub solved-d′ : r ≡ 8 → m ≡ other (p .a) (p .b) (s .a) → tried r (s .a) m (s .b) ≡ Search
       unfolding rule table premised
       solved-d′ e o =
           rw (e, o)

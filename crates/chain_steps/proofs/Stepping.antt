@@ -195,19 +195,11 @@ module _ (n : ℕ) (es : List Cited) (c : List ℕ) (i : ℕ) (s : Step) (e : s 
       abbrev Cites : ℕ → Bool
       Cites g = marksPiece g (getD es (s .first) none)
 
-      module _ (r : s .rule ≡ 10) where
-        pub void-second-d : (s .second ≡ 0 → ⊥) → false ≡ Ok
-        void-second-d z = (simp (ne-eqb (s .second) 0 z)) ∙ by-d es i s _ _ (s .rule) r ∙ searched
+      pub void-d : s .rule ≡ 10 → (eqb (s .second) 0 && (showing s 2 (s .a) (s .b) && (Cites (s .a) || Cites (s .b)))) ≡ Ok
+      void-d r = by-d es i s _ _ (s .rule) r ∙ searched
 
-        pub void-d : s .second ≡ 0 → (showing s 2 (s .a) (s .b) && (Cites (s .a) || Cites (s .b))) ≡ Ok
-        void-d z = (simp (eq-eqb (s .second) 0 z)) ∙ by-d es i s _ _ (s .rule) r ∙ searched
-
-      module _ (r : s .rule ≡ 11) where
-        pub void-second-e : (s .second ≡ 0 → ⊥) → false ≡ Ok
-        void-second-e z = (simp (ne-eqb (s .second) 0 z)) ∙ by-e es i s _ _ (s .rule) r ∙ searched
-
-        pub void-e : s .second ≡ 0 → (showing s 1 (s .a) (s .b) && Cites (s .a)) ≡ Ok
-        void-e z = (simp (eq-eqb (s .second) 0 z)) ∙ by-e es i s _ _ (s .rule) r ∙ searched
+      pub void-e : s .rule ≡ 11 → (eqb (s .second) 0 && (showing s 1 (s .a) (s .b) && Cites (s .a))) ≡ Ok
+      void-e r = by-e es i s _ _ (s .rule) r ∙ searched
 
       module _ (x : s .rule ≡ 0 → ⊥) (y : s .rule ≡ 3 → ⊥) (z : s .rule ≡ 4 → ⊥) (w : s .rule ≡ 9 → ⊥) (u : s .rule ≡ 10 → ⊥) (v : s .rule ≡ 11 → ⊥) where
         pub first-late : i ≤ s .first → false ≡ Ok

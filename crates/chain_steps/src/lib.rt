@@ -42,10 +42,13 @@ fn marks_piece(book: &[u8], i: usize, g: usize) -> bool
     r.a == g
 }
 
-// Whether the step shows that two pieces are apart, of which it cites a mark of one.
+// Whether the step shows that two pieces are apart, and cites a mark of one of them and nothing else.
 fn void_apart(book: &[u8], s: Step) -> bool
-    ensures { λ r. ⌜ ((claim : of.Record) → r ≡ (showing s 2 (s .a) (s .b) && (marksPiece (s .a) (getD (citing claim (now (book .entry))) (s .first) none) || marksPiece (s .b) (getD (citing claim (now (book .entry))) (s .first) none)))) ⌝ }
+    ensures { λ r. ⌜ ((claim : of.Record) → r ≡ (eqb (s .second) 0 && (showing s 2 (s .a) (s .b) && (marksPiece (s .a) (getD (citing claim (now (book .entry))) (s .first) none) || marksPiece (s .b) (getD (citing claim (now (book .entry))) (s .first) none))))) ⌝ }
 {
+    if s.second != 0 {
+        return false;
+    }
     if !steps::shows(s, APART, s.a, s.b) {
         return false;
     }
@@ -55,10 +58,13 @@ fn void_apart(book: &[u8], s: Step) -> bool
     marks_piece(book, s.first, s.b)
 }
 
-// Whether the step shows that a piece is part of another, and cites its mark.
+// Whether the step shows that a piece is part of another, and cites its mark and nothing else.
 fn void_part(book: &[u8], s: Step) -> bool
-    ensures { λ r. ⌜ ((claim : of.Record) → r ≡ (showing s 1 (s .a) (s .b) && marksPiece (s .a) (getD (citing claim (now (book .entry))) (s .first) none))) ⌝ }
+    ensures { λ r. ⌜ ((claim : of.Record) → r ≡ (eqb (s .second) 0 && (showing s 1 (s .a) (s .b) && marksPiece (s .a) (getD (citing claim (now (book .entry))) (s .first) none)))) ⌝ }
 {
+    if s.second != 0 {
+        return false;
+    }
     if !steps::shows(s, PART, s.a, s.b) {
         return false;
     }
@@ -89,10 +95,13 @@ fn other(x: usize, y: usize, z: usize) -> usize
 }
 
 // A fact: its kind and its pieces.
-struct Shown(u8, usize, usize);
+struct Fact(u8, usize, usize);
+
+// Two premises, and what they show.
+struct Form(Fact, Fact, Fact);
 
 // Whether p and q show the premises x and y, and s shows f.
-fn follows(p: Step, x: Shown, q: Step, y: Shown, s: Step, f: Shown) -> bool
+fn follows(p: Step, x: Fact, q: Step, y: Fact, s: Step, f: Fact) -> bool
     ensures { λ r. ⌜ r ≡ (showing s (f .0) (f .1) (f .2) && (showing p (x .0) (x .1) (x .2) && showing q (y .0) (y .1) (y .2))) ⌝ }
 {
     if !steps::shows(s, f.0, f.1, f.2) {
@@ -104,90 +113,35 @@ fn follows(p: Step, x: Shown, q: Step, y: Shown, s: Step, f: Shown) -> bool
     steps::shows(q, y.0, y.1, y.2)
 }
 
+// Whether the step follows from the premises p and q by its rule about g, h and k.
+fn by_rule(s: Step, p: Step, q: Step, g: usize, h: usize, k: usize) -> bool
+    ensures { λ r. ⌜ r ≡ premised s p q (rule (s .rule) g h k) ⌝ }
+{
+    let number = s.rule;
+    let form = match number {
+        1 => Form(Fact(PART, g, h), Fact(PART, h, k), Fact(PART, g, k)),
+        2 => Form(Fact(PART, g, h), Fact(APART, h, k), Fact(APART, g, k)),
+        5 => Form(Fact(PART, g, h), Fact(NOTPART, g, k), Fact(NOTPART, h, k)),
+        6 => Form(Fact(NOTPART, g, k), Fact(PART, h, k), Fact(NOTPART, g, h)),
+        7 => Form(Fact(PART, h, k), Fact(MEETS, g, h), Fact(MEETS, g, k)),
+        8 => Form(Fact(MEETS, g, h), Fact(APART, k, h), Fact(NOTPART, g, k)),
+        _ => return false,
+    };
+    follows(p, form.0, q, form.1, s, form.2)
+}
+
 // Whether the step follows by its rule from the premises p and q. Where the rule holds of any g, h, k, it is of these.
 fn by_premises(s: Step, p: Step, q: Step) -> bool
     ensures { λ r. ⌜ r ≡ some (named s p q) (λ g h k. premised s p q (rule (s .rule) g h k)) ⌝ }
 {
     let number = s.rule;
     match number {
-        1 => {
-            let g = s.a;
-            let h = p.b;
-            let k = s.b;
-            follows(
-                p,
-                Shown(PART, g, h),
-                q,
-                Shown(PART, h, k),
-                s,
-                Shown(PART, g, k),
-            )
-        }
-        2 => {
-            let g = p.a;
-            let h = p.b;
-            let k = other(q.a, q.b, h);
-            follows(
-                p,
-                Shown(PART, g, h),
-                q,
-                Shown(APART, h, k),
-                s,
-                Shown(APART, g, k),
-            )
-        }
-        5 => {
-            let g = p.a;
-            let h = s.a;
-            let k = s.b;
-            follows(
-                p,
-                Shown(PART, g, h),
-                q,
-                Shown(NOTPART, g, k),
-                s,
-                Shown(NOTPART, h, k),
-            )
-        }
-        6 => {
-            let g = s.a;
-            let h = s.b;
-            let k = p.b;
-            follows(
-                p,
-                Shown(NOTPART, g, k),
-                q,
-                Shown(PART, h, k),
-                s,
-                Shown(NOTPART, g, h),
-            )
-        }
-        7 => {
-            let h = p.a;
-            let k = p.b;
-            let g = other(q.a, q.b, h);
-            follows(
-                p,
-                Shown(PART, h, k),
-                q,
-                Shown(MEETS, g, h),
-                s,
-                Shown(MEETS, g, k),
-            )
-        }
-        8 => {
-            let g = s.a;
-            let k = s.b;
-            let h = other(p.a, p.b, g);
-            follows(
-                p,
-                Shown(MEETS, g, h),
-                q,
-                Shown(APART, k, h),
-                s,
-                Shown(NOTPART, g, k),
-            )
-        }
+        1 => by_rule(s, p, q, s.a, p.b, s.b),
+        2 => by_rule(s, p, q, p.a, p.b, other(q.a, q.b, p.b)),
+        5 => by_rule(s, p, q, p.a, s.a, s.b),
+        6 => by_rule(s, p, q, s.a, s.b, p.b),
+        7 => by_rule(s, p, q, other(q.a, q.b, p.a), p.a, p.b),
+        8 => by_rule(s, p, q, s.a, other(p.a, p.b, s.a), s.b),
         _ => false,
     }
 }
@@ -220,18 +174,8 @@ fn step_ok(book: &[u8], n: usize, voids: &[u64], claim: Record, c: &[u8], i: usi
             }
             shows_freely(s, MEETS, s.a, s.a)
         }
-        10 => {
-            if s.second != 0 {
-                return false;
-            }
-            void_apart(book, s)
-        }
-        11 => {
-            if s.second != 0 {
-                return false;
-            }
-            void_part(book, s)
-        }
+        10 => void_apart(book, s),
+        11 => void_part(book, s),
         _ => {
             if i <= s.first {
                 return false;

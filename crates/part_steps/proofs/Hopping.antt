@@ -15,6 +15,7 @@ use Rattle.steps.specs.Justified.{cites, justified}
 use Rattle.part_steps.specs.Hops.{Hop, recorded, crowned, hopBy, hopStep}
 use Rattle.chain_steps.proofs.Showing.{straight, ends-show}
 use Rattle.chain_steps.proofs.Stepping.{Search, by-record, by-c, by-f, by-two}
+use Rattle.chain_steps.proofs.Asked.{asked-a}
 use Rattle.chain_steps.proofs.Solved.{exact, solved-a}
 
 pub justify : (n : ℕ) (es : List Cited) (i : ℕ) (s p q : Step) → s .a < n → s .b < n → Search es i s p q (s .rule) ≡ true → justified n es i s p q ≡ true
@@ -60,7 +61,7 @@ module _ (n : ℕ) (es : List Cited) (i : ℕ) (p q : Step) where
       let v : showing q 1 (p .b) y ≡ true = ap (λ (z : ℕ). showing q 1 z y) e ∙ b in
       justify n es i s p q l m
       (sym (by-two es i s p q 1 (eqb-false 1 0 refl) (eqb-false 1 3 refl) (eqb-false 1 4 refl) (eqb-false 1 9 refl) (eqb-false 1 10 refl) (eqb-false 1 11 refl) f t)
-      ∙ sym (solved-a s p q 1 refl) ∙ both-and (as-stated 1 g y first second) (both-and u v))
+      ∙ sym (asked-a s p q 1 g (p .b) y refl ∙ solved-a s p q 1 refl) ∙ both-and (as-stated 1 g y first second) (both-and u v))
 
 -- the numbers of a step fit
 abbrev pub Fitting : Step → Type 0

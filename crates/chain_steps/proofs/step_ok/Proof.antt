@@ -1,7 +1,7 @@
 -- `chain_steps::step_ok` meets its contract. Assumes nothing.
-use mathlib.Core.Path.{sym, ap, _∙_}
+use mathlib.Core.Path.{_∙_}
 use Rattle.steps.proofs.Citings.{marks-read}
-use Rattle.chain_steps.proofs.Stepping.{outside-a, outside-b, stored-second, stored-cites, free-c, free-f, marked-e′, free-e′, void-second-d, void-d, void-second-e, void-e, first-late, second-late, two-premises}
+use Rattle.chain_steps.proofs.Stepping.{outside-a, outside-b, stored-second, stored-cites, free-c, free-f, marked-e′, free-e′, void-d, void-e, first-late, second-late, two-premises}
 use native.Mathlib.Omega.{arith}
 use borrow.Author.Needs.{needs}
 use Rattle.chain_steps.proofs.step_ok.Statement.{statement}
@@ -37,23 +37,17 @@ returns-4 c = marked-e′ _ _ _ _ _ (c .before .before .before .before .before .
 shows-freely-requires-3 : tie.Need-shows-freely-requires-3
 shows-freely-requires-3 c κs = search needs
 
-returns-5 : tie.Need-returns-5
-returns-5 c = void-second-d _ _ _ _ _ (c .before .before .before .before .before .before .before .step-at .ensures) (c .before .before .before .before .before .if1 .left) (c .before .before .before .if2 .left) (c .before .before .match .keys5) (c .if5 .taken)
-
 void-apart-requires : tie.Need-void-apart-requires
 void-apart-requires c κs = search needs
-
-returns-6 : tie.Need-returns-6
-returns-6 c = void-second-e _ _ _ _ _ (c .before .before .before .before .before .before .before .step-at .ensures) (c .before .before .before .before .before .if1 .left) (c .before .before .before .if2 .left) (c .before .before .match .keys6) (c .if6 .taken)
 
 void-part-requires : tie.Need-void-part-requires
 void-part-requires c κs = search needs
 
-returns-7 : tie.Need-returns-7
-returns-7 c = let r = c .before .before .match .rest in first-late _ _ _ _ _ (c .before .before .before .before .before .before .before .step-at .ensures) (c .before .before .before .before .before .if1 .left) (c .before .before .before .if2 .left) (r .0 .0 .0 .0 .0 .1) (r .0 .0 .0 .0 .1) (r .0 .0 .0 .1) (r .0 .0 .1) (r .0 .1) (r .1) (c .if7 .taken)
+returns-5 : tie.Need-returns-5
+returns-5 c = let r = c .before .before .match .rest in first-late _ _ _ _ _ (c .before .before .before .before .before .before .before .step-at .ensures) (c .before .before .before .before .before .if1 .left) (c .before .before .before .if2 .left) (r .0 .0 .0 .0 .0 .1) (r .0 .0 .0 .0 .1) (r .0 .0 .0 .1) (r .0 .0 .1) (r .0 .1) (r .1) (c .if5 .taken)
 
-returns-8 : tie.Need-returns-8
-returns-8 c = let r = c .before .before .before .before .match .rest in second-late _ _ _ _ _ (c .before .before .before .before .before .before .before .before .before .step-at .ensures) (c .before .before .before .before .before .before .before .if1 .left) (c .before .before .before .before .before .if2 .left) (r .0 .0 .0 .0 .0 .1) (r .0 .0 .0 .0 .1) (r .0 .0 .0 .1) (r .0 .0 .1) (r .0 .1) (r .1) (c .before .before .if7 .left) (c .if8 .taken)
+returns-6 : tie.Need-returns-6
+returns-6 c = let r = c .before .before .before .before .match .rest in second-late _ _ _ _ _ (c .before .before .before .before .before .before .before .before .before .step-at .ensures) (c .before .before .before .before .before .before .before .if1 .left) (c .before .before .before .before .before .if2 .left) (r .0 .0 .0 .0 .0 .1) (r .0 .0 .0 .0 .1) (r .0 .0 .0 .1) (r .0 .0 .1) (r .0 .1) (r .1) (c .before .before .if5 .left) (c .if6 .taken)
 
 step-at-requires-2 : tie.Need-step-at-requires-2
 step-at-requires-2 c κs = search needs
@@ -64,26 +58,26 @@ step-at-requires-3 c κs = search needs
 by-premises-requires : tie.Need-by-premises-requires
 by-premises-requires c κs = search needs
 
+returns-7 : tie.Need-returns-7
+returns-7 c = c .cites .ensures ∙ stored-cites _ _ _ _ _ (c .before .before .before .before .before .before .before .before .step-at .ensures) (c .before .before .before .before .before .before .if1 .left) (c .before .before .before .before .if2 .left) (c .before .before .before .match .keys1) (c .before .if3 .left)
+
+returns-8 : tie.Need-returns-8
+returns-8 c = c .shows-freely .ensures ∙ free-c _ _ _ _ _ (c .before .before .before .before .before .before .step-at .ensures) (c .before .before .before .before .if1 .left) (c .before .before .if2 .left) (c .before .match .keys2)
+
 returns-9 : tie.Need-returns-9
-returns-9 c = c .cites .ensures ∙ stored-cites _ _ _ _ _ (c .before .before .before .before .before .before .before .before .step-at .ensures) (c .before .before .before .before .before .before .if1 .left) (c .before .before .before .before .if2 .left) (c .before .before .before .match .keys1) (c .before .if3 .left)
+returns-9 c = c .shows-freely2 .ensures ∙ free-f _ _ _ _ _ (c .before .before .before .before .before .before .step-at .ensures) (c .before .before .before .before .if1 .left) (c .before .before .if2 .left) (c .before .match .keys3)
 
 returns-10 : tie.Need-returns-10
-returns-10 c = c .shows-freely .ensures ∙ free-c _ _ _ _ _ (c .before .before .before .before .before .before .step-at .ensures) (c .before .before .before .before .if1 .left) (c .before .before .if2 .left) (c .before .match .keys2)
+returns-10 c = c .shows-freely3 .ensures ∙ free-e′ _ _ _ _ _ (c .before .before .before .before .before .before .before .before .step-at .ensures) (c .before .before .before .before .before .before .if1 .left) (c .before .before .before .before .if2 .left) (c .before .before .before .match .keys4) (marks-read _ _ _ (c .before .before .before .before .before .before .before .before .before .before .before .before .pre .1 .1) _ _ (c .before .before .has .ensures) ∙ c .before .if4 .left)
 
 returns-11 : tie.Need-returns-11
-returns-11 c = c .shows-freely2 .ensures ∙ free-f _ _ _ _ _ (c .before .before .before .before .before .before .step-at .ensures) (c .before .before .before .before .if1 .left) (c .before .before .if2 .left) (c .before .match .keys3)
+returns-11 c = c .void-apart .ensures _ ∙ void-d _ _ _ _ _ (c .before .before .before .before .before .before .step-at .ensures) (c .before .before .before .before .if1 .left) (c .before .before .if2 .left) (c .before .match .keys5)
 
 returns-12 : tie.Need-returns-12
-returns-12 c = c .shows-freely3 .ensures ∙ free-e′ _ _ _ _ _ (c .before .before .before .before .before .before .before .before .step-at .ensures) (c .before .before .before .before .before .before .if1 .left) (c .before .before .before .before .if2 .left) (c .before .before .before .match .keys4) (marks-read _ _ _ (c .before .before .before .before .before .before .before .before .before .before .before .before .pre .1 .1) _ _ (c .before .before .has .ensures) ∙ c .before .if4 .left)
+returns-12 c = c .void-part .ensures _ ∙ void-e _ _ _ _ _ (c .before .before .before .before .before .before .step-at .ensures) (c .before .before .before .before .if1 .left) (c .before .before .if2 .left) (c .before .match .keys6)
 
 returns-13 : tie.Need-returns-13
-returns-13 c = c .void-apart .ensures _ ∙ void-d _ _ _ _ _ (c .before .before .before .before .before .before .before .before .step-at .ensures) (c .before .before .before .before .before .before .if1 .left) (c .before .before .before .before .if2 .left) (c .before .before .before .match .keys5) (c .before .if5 .left)
-
-returns-14 : tie.Need-returns-14
-returns-14 c = c .void-part .ensures _ ∙ void-e _ _ _ _ _ (c .before .before .before .before .before .before .before .before .step-at .ensures) (c .before .before .before .before .before .before .if1 .left) (c .before .before .before .before .if2 .left) (c .before .before .before .match .keys6) (c .before .if6 .left)
-
-returns-15 : tie.Need-returns-15
-returns-15 c = let r = c .before .before .before .before .before .before .before .match .rest in c .by-premises .ensures ∙ two-premises _ _ _ _ _ (c .before .before .before .before .before .before .before .before .before .before .before .before .step-at .ensures) (c .before .before .before .before .before .before .before .before .before .before .if1 .left) (c .before .before .before .before .before .before .before .before .if2 .left) (r .0 .0 .0 .0 .0 .1) (r .0 .0 .0 .0 .1) (r .0 .0 .0 .1) (r .0 .0 .1) (r .0 .1) (r .1) (c .before .before .before .before .before .if7 .left) (c .before .before .before .if8 .left) _ _ (c .before .before .step-at2 .ensures) (c .before .step-at3 .ensures)
+returns-13 c = let r = c .before .before .before .before .before .before .before .match .rest in c .by-premises .ensures ∙ two-premises _ _ _ _ _ (c .before .before .before .before .before .before .before .before .before .before .before .before .step-at .ensures) (c .before .before .before .before .before .before .before .before .before .before .if1 .left) (c .before .before .before .before .before .before .before .before .if2 .left) (r .0 .0 .0 .0 .0 .1) (r .0 .0 .0 .0 .1) (r .0 .0 .0 .1) (r .0 .0 .1) (r .0 .1) (r .1) (c .before .before .before .before .before .if5 .left) (c .before .before .before .if6 .left) _ _ (c .before .before .step-at2 .ensures) (c .before .step-at3 .ensures)
 
 pub step-ok-spec : {M : Type 1} → statement M
 step-ok-spec =
@@ -99,19 +93,17 @@ step-ok-spec =
     has-requires
     returns-4
     shows-freely-requires-3
-    returns-5
     void-apart-requires
-    returns-6
     void-part-requires
-    returns-7
-    returns-8
+    returns-5
+    returns-6
     step-at-requires-2
     step-at-requires-3
     by-premises-requires
+    returns-7
+    returns-8
     returns-9
     returns-10
     returns-11
     returns-12
-    returns-13
-    returns-14
-    returns-15)
+    returns-13)
