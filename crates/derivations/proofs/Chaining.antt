@@ -139,9 +139,9 @@ module _ {n : ℕ} {claim : Record} {s voids e d t : List ℕ} (G : Ground n cla
         }
 
     pub met-none :
-        {z : Step} (x i : ℕ) → Found (λ x. not (voidOf voids x) && (bitOf d a x && bitOf d b x)) n x → n ≤ x
-        → Found (λ j. serving Meets claim d t a b (recordAt s j)) (records s) i → records s ≤ i → Met n claim s a b (record { found = false; step = z; x = 0; y = 0 })
-    met-none x i X l F k = record { yes = λ q. absurd (false≢true q); no = λ q. meets-none G la lb (X .none l) (F .none k) }
+        {w : Meeting} → w .found ≡ false → (x i : ℕ) → Found (λ x. not (voidOf voids x) && (bitOf d a x && bitOf d b x)) n x → n ≤ x
+        → Found (λ j. serving Meets claim d t a b (recordAt s j)) (records s) i → records s ≤ i → Met n claim s a b w
+    met-none e x i X l F k = record { yes = λ q. absurd (false≢true (sym e ∙ q)); no = λ q. meets-none G la lb (X .none l) (F .none k) }
 
 -- ---- by the number of a kind
 

@@ -1,6 +1,6 @@
 // The searches for what a chain begins with: a record that leads to the fact, a mark, a common piece.
 ghost use mathlib.Core.Path.{_≡_};
-ghost use mathlib.Core.Bool.{true, not, _&&_};
+ghost use mathlib.Core.Bool.{true, false, not, _&&_};
 ghost use Prim.Native.Nat.{_+_, _<_, _≤_};
 ghost use lib.ListN.{length};
 ghost use Rattle.relation.specs.Matrix.{bitOf};
@@ -202,6 +202,46 @@ fn find_common(n: usize, voids: &[u64], d: &[u64], a: usize, b: usize) -> usize
     x
 }
 
+// A common piece meets itself, which cites nothing.
+fn meeting_in(g: usize) -> Meeting
+    ensures { λ r. ⌜ r ≡ (record { found = true; step = record { rule = 9; kind = 3; a = g; b = g; first = 0; second = 0 }; x = g; y = g }) ⌝ }
+{
+    let itself = Step {
+        rule: 9,
+        kind: 3,
+        a: g,
+        b: g,
+        first: 0,
+        second: 0,
+    };
+    Meeting {
+        found: true,
+        step: itself,
+        x: g,
+        y: g,
+    }
+}
+
+// What is not found has no step that is read.
+fn no_meeting() -> Meeting
+    ensures { λ r. ⌜ r .found ≡ false ⌝ }
+{
+    let nothing = Step {
+        rule: 0,
+        kind: 0,
+        a: 0,
+        b: 0,
+        first: 0,
+        second: 0,
+    };
+    Meeting {
+        found: false,
+        step: nothing,
+        x: 0,
+        y: 0,
+    }
+}
+
 // Whether a and b meet: in a common piece that is not marked, or by a stored MEETS.
 pub fn find_meeting(
     n: usize,
@@ -219,37 +259,11 @@ pub fn find_meeting(
 {
     let g = find_common(n, voids, d, a, b);
     if g < n {
-        let itself = Step {
-            rule: 9,
-            kind: 3,
-            a: g,
-            b: g,
-            first: 0,
-            second: 0,
-        };
-        return Meeting {
-            found: true,
-            step: itself,
-            x: g,
-            y: g,
-        };
+        return meeting_in(g);
     }
     let i = find_record(Aim::Meets, claim, book, d, t, a, b);
     if book.len() / 6 <= i {
-        let nothing = Step {
-            rule: 0,
-            kind: 0,
-            a: 0,
-            b: 0,
-            first: 0,
-            second: 0,
-        };
-        return Meeting {
-            found: false,
-            step: nothing,
-            x: 0,
-            y: 0,
-        };
+        return no_meeting();
     }
     let w = cite_record(Aim::Meets, n, claim, book, voids, e, d, t, a, b, i);
     let step = w.step;
