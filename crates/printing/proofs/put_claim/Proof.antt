@@ -1,8 +1,7 @@
 -- `printing::put_claim` meets its contract: five fields, one behind the other. Assumes nothing.
 use native.Mathlib.Omega.{arith}
-use borrow.Author.Needs.{needs}
 use Rattle.printing.specs.Session.{claimLine}
-use Rattle.printing.proofs.Puts.{chain}
+use Rattle.printing.proofs.Puts.{kept, chain}
 use Rattle.printing.proofs.Lengths.{claim-length}
 use Rattle.printing.proofs.put_claim.Statement.{statement}
 use Rattle.printing.proofs.put_claim.Tie as tie
@@ -22,9 +21,6 @@ put-number-requires-3 c κs = let s = c .before .before .before .before .before 
 put-answer-requires : tie.Need-put-answer-requires
 put-answer-requires c κs = let s = c .before .before .before .before .before .before .before .before .before .before .before .before .before .before .before .before .before .before .args in record { fits = omega (arith, claim-length (s .i) (s .claim) (s .answer)) }
 
-same-length : tie.Need-same-length
-same-length c = search needs
-
 returns : tie.Need-returns
 unfolding claimLine
 returns c =
@@ -34,6 +30,9 @@ returns c =
     let b = d .before .before .before .before in
     let a = b .before .before .before .before in
     chain (a .put-number .ensures) (chain (b .put-kind .ensures) (chain (d .put-number2 .ensures) (chain (e .put-number3 .ensures) (f .put-answer .ensures))))
+
+same-length : tie.Need-same-length
+same-length c = kept (returns c)
 
 pub put-claim-spec : {M : Type 1} → statement M
 put-claim-spec =

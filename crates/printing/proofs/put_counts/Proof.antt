@@ -2,7 +2,7 @@
 use native.Mathlib.Omega.{arith}
 use borrow.Author.Needs.{needs}
 use Rattle.printing.specs.Session.{countsLine}
-use Rattle.printing.proofs.Puts.{chain}
+use Rattle.printing.proofs.Puts.{kept, chain}
 use Rattle.printing.proofs.Lengths.{counts-length}
 use Rattle.printing.proofs.put_counts.Statement.{statement}
 use Rattle.printing.proofs.put_counts.Tie as tie
@@ -34,9 +34,6 @@ put-requires-3 c κs = let s = c .before .before .before .before .before .before
 put-number-requires-3 : tie.Need-put-number-requires-3
 put-number-requires-3 c κs = let s = c .before .before .before .before .before .before .before .before .before .before .before .before .before .before .before .before .before .before .before .before .before .before .before .before .before .args in record { fits = omega (arith, counts-length (s .pieces) (s .nodes) (s .shadows)) }
 
-same-length : tie.Need-same-length
-same-length c = search needs
-
 returns : tie.Need-returns
 unfolding countsLine
 returns c =
@@ -47,6 +44,9 @@ returns c =
     let b = d .before .before .before .before .before in
     let a = b .before .before .before .before in
     chain (a .put .ensures) (chain (b .put-number .ensures) (chain (d .put2 .ensures) (chain (e .put-number2 .ensures) (chain (f .put3 .ensures) (g .put-number3 .ensures)))))
+
+same-length : tie.Need-same-length
+same-length c = kept (returns c)
 
 pub put-counts-spec : {M : Type 1} → statement M
 put-counts-spec =

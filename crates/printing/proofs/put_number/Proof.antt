@@ -2,7 +2,7 @@
 use mathlib.Core.Path.{sym}
 use native.Mathlib.Omega.{arith}
 use borrow.Author.Needs.{needs}
-use Rattle.printing.proofs.Puts.{ahead, behind, chain, one, fits-as, put-as}
+use Rattle.printing.proofs.Puts.{kept, ahead, behind, chain, one, fits-as, put-as}
 use Rattle.printing.proofs.Decimals.{spelled-out}
 use Rattle.printing.proofs.put_number.Statement.{statement}
 use Rattle.printing.proofs.put_number.Tie as tie
@@ -31,9 +31,6 @@ slice-write-page c =
 add-result : tie.Need-add-result
 add-result c = search needs
 
-same-length : tie.Need-same-length
-same-length c = search needs
-
 returns : tie.Need-returns
 returns c =
     let p = c .before .before in
@@ -41,6 +38,9 @@ returns c =
     let written = put-as (sym (spelled-out _ _ _ (d .decimal .ensures .1 .0) (d .decimal .ensures .1 .1))) (p .put .ensures) in
     let room = behind written (d .before .before .before .pre) in
     chain written (one _ (omega arith))
+
+same-length : tie.Need-same-length
+same-length c = kept (returns c)
 
 pub put-number-spec : {M : Type 1} → statement M
 put-number-spec =

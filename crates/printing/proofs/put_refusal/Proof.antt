@@ -2,7 +2,7 @@
 use native.Mathlib.Omega.{arith}
 use borrow.Author.Needs.{needs}
 use Rattle.printing.specs.Session.{refusalLine}
-use Rattle.printing.proofs.Puts.{chain}
+use Rattle.printing.proofs.Puts.{kept, chain}
 use Rattle.printing.proofs.Lengths.{refusal-length}
 use Rattle.printing.proofs.put_refusal.Statement.{statement}
 use Rattle.printing.proofs.put_refusal.Tie as tie
@@ -19,9 +19,6 @@ put-number-requires c κs = let s = c .before .before .before .before .before .b
 put-number-requires-2 : tie.Need-put-number-requires-2
 put-number-requires-2 c κs = let s = c .before .before .before .before .before .before .before .before .before .before .before .args in record { fits = omega (arith, refusal-length (s .number) (s .place)) }
 
-same-length : tie.Need-same-length
-same-length c = search needs
-
 returns : tie.Need-returns
 unfolding refusalLine
 returns c =
@@ -29,6 +26,9 @@ returns c =
     let b = d .before .before .before .before in
     let a = b .before .before .before .before in
     chain (a .put .ensures) (chain (b .put-number .ensures) (d .put-number2 .ensures))
+
+same-length : tie.Need-same-length
+same-length c = kept (returns c)
 
 pub put-refusal-spec : {M : Type 1} → statement M
 put-refusal-spec =
