@@ -1,13 +1,14 @@
 -- What the whole call promises, row by row. Assumes nothing.
 use Prim.Native.Nat.{ℕ}
 use mathlib.Core.Path.{_≡_, refl, sym, ap, ap₂, subst, _∙_}
-use mathlib.Core.Bool.{Bool, true, false, _||_, false≢true}
+use mathlib.Core.Bool.{true, false}
 use mathlib.Core.List.{List, [], _∷_}
 use native.Mathlib.Omega.{arith}
 use borrow.Author.Tests.{ltb-false, ne-eqb}
 use lib.Dec.{ltb}
 use lib.ListN.{length}
 use lib.Seq.{length-take-le}
+use Rattle.lists.proofs.Bools.{or-neither}
 use Rattle.records.specs.Record.{records}
 use Rattle.records.specs.Refusal.{refusalNumber}
 use Rattle.records.specs.Check.{bookCheck, claimsCheck}
@@ -35,17 +36,13 @@ Promised s cs l r l′ =
     Determined s cs l r l′
     × (Demand2 s cs (l′ .answers) (number r) × (Demand3 s cs l (l′ .answers) (number r) × (Contradicted s (number r) (place r) × Fitting s (number r) (nodeCount r))))
 
-neither : (a b : Bool) → (a || b) ≡ false → (a ≡ false) × (b ≡ false)
-neither true b e = absurd (false≢true (sym e))
-neither false b e = (refl, e)
-
 pub long : (cs : List ℕ) (l : Lent) → shortLent cs l ≡ false → Long cs l
 unfolding shortLent
 long cs l e =
-    let a = neither (ltb (length (l .parens)) 2560) _ e in
-    let b = neither (ltb (length (l .marks)) 1280) _ (a .1) in
-    let c = neither (ltb (length (l .shadows)) 8192) _ (b .1) in
-    let d = neither (ltb (length (l .places)) 2048) _ (c .1) in
+    let a = or-neither (ltb (length (l .parens)) 2560) _ e in
+    let b = or-neither (ltb (length (l .marks)) 1280) _ (a .1) in
+    let c = or-neither (ltb (length (l .shadows)) 8192) _ (b .1) in
+    let d = or-neither (ltb (length (l .places)) 2048) _ (c .1) in
     record { parens = ltb-false _ _ (a .0); marks = ltb-false _ _ (b .0); shadows = ltb-false _ _ (c .0); places = ltb-false _ _ (d .0); answers = ltb-false _ _ (d .1) }
 
 module _ (s cs : List ℕ) (l : Lent) where

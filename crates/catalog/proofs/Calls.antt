@@ -1,13 +1,13 @@
 -- What a catalog comes to and leaves, row by row. Assumes nothing.
 use Prim.Native.Nat.{ℕ, _≤_, _<_}
 use mathlib.Core.Path.{_≡_, refl, sym, ap, ap₂, subst, _∙_}
-use mathlib.Core.Bool.{Bool, true, false, not, _&&_, _||_, false≢true, and-false}
+use mathlib.Core.Bool.{Bool, true, false, not, _&&_, and-false}
 use mathlib.Core.List.{List, [], _++_}
 use native.Mathlib.Omega.{arith}
 use borrow.Author.Tests.{ltb-false, ne-eqb, le-leb, lt-leb, leb-true, leb-false}
 use lib.Dec.{ltb, leb}
 use lib.ListN.{length, take, drop}
-use Rattle.lists.proofs.Bools.{and-both}
+use Rattle.lists.proofs.Bools.{and-both, or-neither}
 use Rattle.records.specs.Record.{records}
 use Rattle.records.specs.Refusal.{refusalNumber, scan}
 use Rattle.records.specs.Check.{bookCheck, claimsCheck}
@@ -86,6 +86,9 @@ high-kind k h = rw (lt-leb k 3 h) (and-false (leb 1 k))
 pub fit-kind : (k : ℕ) → 1 ≤ k → k ≤ 3 → (leb 1 k && leb k 3) ≡ true
 fit-kind k h h′ = rw (le-leb 1 k h, le-leb k 3 h′)
 
+pub asked-by : (k g n : ℕ) → (leb 1 k && leb k 3) ≡ true → leb n g ≡ false → Asked n k g
+asked-by k g n e f = let w = and-both (leb 1 k) (leb k 3) e in record { least = leb-true _ _ (w .0); most = leb-true _ _ (w .1); piece = leb-false _ _ f }
+
 module _ (k g n : ℕ) where
   pub kind-refused : (leb 1 k && leb k 3) ≡ false → book.Refused ClaimFormat 0 ≡ asked k g (book.Accepted n)
   unfolding asked refusedIf
@@ -107,10 +110,7 @@ passed-asked s k g {n} = pick (bookCheck s) refl
     rows : (m : ℕ) (a b : Bool) → (leb 1 k && leb k 3) ≡ a → leb m g ≡ b → refusedIf (not a) ClaimFormat (refusedIf b ClaimPiece (book.Accepted m)) ≡ book.Accepted n → (m ≡ n) × Asked m k g
     rows m false b p q e = let z : _≡_ {A = ℕ} 0 1 = cc in absurd (omega arith)
     rows m true true p q e = let z : _≡_ {A = ℕ} 0 1 = cc in absurd (omega arith)
-    rows m true false p q e =
-        let w = and-both (leb 1 k) (leb k 3) p in
-        let x : m ≡ n = cc in
-        (x, record { least = leb-true _ _ (w .0); most = leb-true _ _ (w .1); piece = leb-false _ _ q })
+    rows m true false p q e = let x : m ≡ n = cc in (x, asked-by k g m p q)
 
     pick : (b : BookCheck) → bookCheck s ≡ b → asked k g b ≡ book.Accepted n → (bookCheck s ≡ book.Accepted n) × Asked n k g
     pick (book.Refused r i) e q = let z : _≡_ {A = ℕ} 0 1 = cc in absurd (omega arith)
@@ -119,10 +119,6 @@ passed-asked s k g {n} = pick (bookCheck s) refl
         (e ∙ ap book.Accepted (w .0), subst (λ (x : ℕ). Asked x k g) (w .0) (w .1))
 
 -- ---- the whole call
-
-neither : (a b : Bool) → (a || b) ≡ false → (a ≡ false) × (b ≡ false)
-neither true b e = absurd (false≢true (sym e))
-neither false b e = (refl, e)
 
 abbrev indexOutcome : Listing → Outcome
 indexOutcome (listing.Written c) = Accepted (c .pieces) (c .nodes) (c .shadows)
@@ -158,9 +154,9 @@ module _ (s : List ℕ) (k g : ℕ) (l : Lent) where
       pub roomy : Roomy (length (l .list)) (length (l .meets)) (length (l .apart)) (length (l .notpart))
       unfolding shortCatalog
       roomy =
-          let a = neither (ltb (length (l .list)) 2048) _ fit in
-          let b = neither (ltb (length (l .meets)) 16384) _ (a .1) in
-          let c = neither (ltb (length (l .apart)) 16384) _ (b .1) in
+          let a = or-neither (ltb (length (l .list)) 2048) _ fit in
+          let b = or-neither (ltb (length (l .meets)) 16384) _ (a .1) in
+          let c = or-neither (ltb (length (l .apart)) 16384) _ (b .1) in
           record { list-long = ltb-false _ _ (a .0); meets-long = ltb-false _ _ (b .0); apart-long = ltb-false _ _ (c .0); notpart-long = ltb-false _ _ (c .1) }
 
       module _ {n : ℕ} (sound : bookCheck s ≡ book.Accepted n) where

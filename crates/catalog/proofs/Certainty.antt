@@ -5,10 +5,10 @@ use mathlib.Core.Logic.{_↔_}
 use mathlib.Core.Bool.{Bool, true, false, not, _&&_}
 use mathlib.Core.List.{List, [], List·Memᴰ}
 use native.Mathlib.Omega.{arith}
-use borrow.Author.Tests.{leb-true, leb-false}
+use borrow.Author.Tests.{leb-false}
 use lib.Dec.{leb}
 use lib.ListN.{length, getD}
-use Rattle.lists.proofs.Bools.{Known, is-true, is-false, known, and-both, not-is-false}
+use Rattle.lists.proofs.Bools.{Known, is-true, is-false, known, not-is-false}
 use Rattle.lists.proofs.Members.{at-member, member-at}
 use Rattle.rules.specs.Fact.{Fact, factOf}
 use Rattle.rules.specs.Follows.{follows, clash}
@@ -33,6 +33,7 @@ use Rattle.catalog.specs.Call.{listOf, refuseIf, byIndex, byAsked, byBoo
 use Rattle.catalog.specs.Certain.{Certain, AllCertain}
 use Rattle.catalog.specs.Filling.{Asked}
 use Rattle.catalog.specs.declared.Listing.{Listing}
+use Rattle.catalog.proofs.Calls.{asked-by}
 use Rattle.certain.proofs.Telling.{claim-within}
 use Rattle.lists.proofs.Passed.{passing-at, passing-back, passing-less, passing-rises}
 
@@ -63,8 +64,7 @@ module _ (s : List ℕ) (k g : ℕ) where
   books (book.Accepted n) q e =
       let a = passes _ _ _ e in
       let c = passes _ _ _ (a .1) in
-      let b = and-both (leb 1 k) (leb k 3) (not-is-false _ (a .0)) in
-      (n, record { sound = q; asked = record { least = leb-true _ _ (b .0); most = leb-true _ _ (b .1); piece = leb-false _ _ (c .0) }; free = runs n q (c .1) })
+      (n, record { sound = q; asked = asked-by k g n (not-is-false _ (a .0)) (c .0); free = runs n q (c .1) })
 
   rows : (l : Lent) → number (outcome s k g l) ≡ 0 → (n : ℕ) × Sound s k g n
   unfolding outcome

@@ -8,6 +8,7 @@ use native.Mathlib.Decide.{ℕ-discrete, decLt}
 use native.Mathlib.Omega.{arith}
 use borrow.Author.Tests.{eqb-true, eqb-false, eq-eqb, ne-eqb}
 use lib.Dec.{eqb}
+use Rattle.lists.proofs.Bools.{or-neither}
 use Rattle.lists.specs.Tally.{tally}
 use Rattle.components.specs.Search as on
 use Rattle.components.specs.Search.{State, Free}
@@ -39,10 +40,6 @@ module _ (n none : ℕ) (wide : n ≤ none) (edge : ℕ → ℕ → Bool) (Way :
 
   both-false : (a b : Bool) → a ≡ false → b ≡ false → (a || b) ≡ false
   both-false a b e f = rw (e, f)
-
-  neither : (a b : Bool) → (a || b) ≡ false → (a ≡ false) × (b ≡ false)
-  neither true b e = absurd (true≢false e)
-  neither false b e = (refl, e)
 
   -- ---- a piece is put at the end of the path, as a group of its own
 
@@ -183,10 +180,10 @@ module _ (n none : ℕ) (wide : n ≤ none) (edge : ℕ → ℕ → Bool) (Way :
     }
       where
         px : S′ .pos x ≡ S .pos x
-        px = T .pos-other x (eqb-false x v (neither (gray x) (eqb x v) c .1))
+        px = T .pos-other x (eqb-false x v (or-neither (gray x) (eqb x v) c .1))
 
         Q : Settled S x y
-        Q = G .settled x a (omega (arith, px)) (neither (gray x) (eqb x v) c .0) y d e
+        Q = G .settled x a (omega (arith, px)) (or-neither (gray x) (eqb x v) c .0) y d e
 
         py : S′ .pos y ≡ S .pos y
         py = T .pos-other y (other y (Q .seen))

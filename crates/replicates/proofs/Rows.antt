@@ -1,7 +1,7 @@
 -- Rows 20 and 21: what each comes to, and what is known where they let a part pass. Assumes nothing.
 use Prim.Native.Nat.{ℕ, _+_, _-_, _%_, _<_, _≤_}
 use mathlib.Core.Path.{_≡_, refl, sym, ap, _∙_}
-use mathlib.Core.Bool.{Bool, true, false, not, _||_, false≢true}
+use mathlib.Core.Bool.{Bool, true, false, not, false≢true}
 use mathlib.Core.List.{List}
 use native.Mathlib.Numerals.{add-one}
 use native.Mathlib.Omega.{arith}
@@ -9,7 +9,7 @@ use borrow.Author.Tests.{lt-ltb, le-ltb, le-leb, lt-leb, ltb-false, leb-true, le
 use lib.Dec.{eqb, ltb, leb}
 use lib.ListN.{length, getD}
 use Rattle.lists.specs.Any.{anyBelow}
-use Rattle.lists.proofs.Bools.{left-or, right-or, Known, is-true, is-false, known, not-true, not-is-false}
+use Rattle.lists.proofs.Bools.{left-or, right-or, Known, is-true, is-false, known, not-true, not-is-false, or-neither}
 use Rattle.lists.proofs.Anys.{below-find, below-hit}
 use Rattle.records.specs.Refusal.{row, judge, scan}
 use Rattle.records.proofs.Scans.{scan-pass, scan-stop, scan-end, all-pass, judged, all-fit}
@@ -107,10 +107,6 @@ module _ (n nodes shadows : ℕ) (log : List ℕ) where
     row-passes : (b : Bool) (r : Refusal) (f : Finding) → row b r f ≡ Fit → (b ≡ false) × (f ≡ Fit)
     row-passes true r f e = let z : _≡_ {A = ℕ} 0 1 = cc in absurd (omega arith)
     row-passes false r f e = (refl, e)
-
-    or-neither : (a b : Bool) → (a || b) ≡ false → (a ≡ false) × (b ≡ false)
-    or-neither true b e = absurd (false≢true (sym e))
-    or-neither false b e = (refl, e)
 
     pub passes : {a b c : ℕ} → byPart w log (Accepted n nodes shadows) ≡ Accepted a b c → Fits n w log × (Accepted n nodes shadows ≡ Accepted a b c)
     unfolding byPart

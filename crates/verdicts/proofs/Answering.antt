@@ -9,7 +9,7 @@ use native.Mathlib.Omega.{arith}
 use borrow.Author.Tests.{eq-eqb, ne-eqb}
 use lib.Dec.{eqb}
 use Rattle.lists.specs.Any.{anyBelow}
-use Rattle.lists.proofs.Bools.{left-or}
+use Rattle.lists.proofs.Bools.{left-or, or-neither}
 use Rattle.lists.proofs.Anys.{below-hit}
 use Rattle.relation.specs.Matrix.{bitOf, common}
 use Rattle.rules.specs.Fact.{Fact, PART, APART, MEETS, NOTPART, factOf, left, right, opposite, Within, AllWithin}
@@ -97,16 +97,12 @@ module _ (void : ℕ → Bool) (k a b : ℕ) (r : Bool) where
   tells-notpart x y z is = is ∙ sym (ap (byMarks void) (notpart-of k a b x y z))
 
 -- of two pieces not marked the marks tell nothing; of others, a fact or its opposite
-neither : (x y : Bool) → (x || y) ≡ false → (x ≡ false) × (y ≡ false)
-neither true y e = absurd (false≢true (sym e))
-neither false y e = (refl, e)
-
 marks-silent : (void : ℕ → Bool) (f : Fact) → (void (left f) || void (right f)) ≡ false → byMarks void f ≡ false
 unfolding byMarks
-marks-silent void (PART a b) e = neither (void a) (void b) e .0
+marks-silent void (PART a b) e = or-neither (void a) (void b) e .0
 marks-silent void (APART a b) e = e
 marks-silent void (MEETS a b) e = refl
-marks-silent void (NOTPART a b) e = let h = neither (void a) (void b) e in rw (h .0, h .1)
+marks-silent void (NOTPART a b) e = let h = or-neither (void a) (void b) e in rw (h .0, h .1)
 
 marks-decide : (void : ℕ → Bool) (f : Fact) → (void (left f) || void (right f)) ≡ true → byMarks void f ≡ false → byMarks void (opposite f) ≡ true
 unfolding byMarks
