@@ -1,35 +1,23 @@
-/* The same calls in plain C: the yardstick of bench/whole.c, and a second implementation for tests/reference to be tried on. */
+/* The calls of plain.c beside the library's in one program: bench/run compiles plain.c with these names. */
 #ifndef PLAIN_H
 #define PLAIN_H
 
 #include "../include/piecebook.h"
 
-piecebook_result plain_answer(const uint8_t *book, size_t book_length, const uint8_t *claims, size_t claims_length,
-                              uint8_t *parentheses, size_t parentheses_length, uint8_t *marks, size_t marks_length,
-                              uint16_t *shadows, size_t shadows_length, uint16_t *places, size_t places_length,
-                              uint8_t *answers, size_t answers_length);
-
-piecebook_result plain_index(const uint8_t *book, size_t book_length,
-                             uint8_t *parentheses, size_t parentheses_length, uint8_t *marks, size_t marks_length,
-                             uint16_t *shadows, size_t shadows_length, uint16_t *places, size_t places_length);
-
-piecebook_converted plain_convert(const uint8_t *book, size_t book_length, uint8_t *out, size_t out_length);
-
-piecebook_catalog_result plain_catalog(const uint8_t *book, size_t book_length, size_t kind, size_t piece,
-                                       uint8_t *parentheses, size_t parentheses_length, uint8_t *marks, size_t marks_length,
-                                       uint16_t *shadows, size_t shadows_length, uint16_t *places, size_t places_length,
-                                       uint16_t *list, size_t list_length, uint16_t *meets, size_t meets_length,
-                                       uint16_t *apart, size_t apart_length, uint16_t *notpart, size_t notpart_length);
-
-size_t plain_fact_between(const uint16_t *area, size_t area_length, size_t count, size_t unordered,
-                          size_t row_from, size_t row_to, size_t column_from, size_t column_to);
-
-piecebook_range plain_subtree(const uint8_t *parentheses, size_t parentheses_length, const uint16_t *places, size_t places_length, size_t piece);
-
-piecebook_replicates_result plain_replicates(const uint8_t *book, size_t book_length, piecebook_window window,
-                                             const uint8_t *log, size_t log_length, uint8_t *out, size_t out_length);
-
-piecebook_comparison plain_compare(const uint8_t *first, size_t first_length, const uint8_t *second, size_t second_length,
-                                   const uint8_t *claims, size_t claims_length, uint8_t *out, size_t out_length);
+extern __typeof__(piecebook_answer_with) plain_answer_with;
+extern __typeof__(piecebook_index_with) plain_index_with;
+extern __typeof__(piecebook_grid_with) plain_grid_with;
+extern __typeof__(piecebook_start_with) plain_start_with;
+extern __typeof__(piecebook_add_with) plain_add_with;
+extern __typeof__(piecebook_withdraw_with) plain_withdraw_with;
+extern __typeof__(piecebook_ask_with) plain_ask_with;
+extern __typeof__(piecebook_convert_with) plain_convert_with;
+extern __typeof__(piecebook_catalog_with) plain_catalog_with;
+extern __typeof__(piecebook_fact_between) plain_fact_between;
+extern __typeof__(piecebook_subtree) plain_subtree;
+extern __typeof__(piecebook_replicates_with) plain_replicates_with;
+extern __typeof__(piecebook_compare_with) plain_compare_with;
+extern __typeof__(piecebook_chain_check_with) plain_chain_check_with;
+extern __typeof__(piecebook_clash_check_with) plain_clash_check_with;
 
 #endif

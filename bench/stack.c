@@ -1,5 +1,5 @@
-/* The peak stack of the calls: the smallest stack of a thread on which it comes to its end, found by halving. Each try is a process of its
-   own, since one that is too small ends it. What a thread needs for a call that does nothing is taken off. */
+/* The peak stack of each call on the deepest books, as a table in Markdown: the smallest stack of a thread on which the call comes to its end, found by halving. Each try is a process of
+   its own, since one that is too small ends it. What a thread needs for a call that does nothing is taken off. */
 #define _DEFAULT_SOURCE
 #include "books.h"
 #include "../include/piecebook.h"
@@ -12,66 +12,45 @@
 #include <sys/wait.h>
 #include <unistd.h>
 
-enum { PAGE = 4096, MOST = 16 << 20 };
+enum { PAGE = 4096, MOST = 16 << 20, PIECES = 2048, RECORDS = 8192 };
 
+static piecebook_workspace workspace;
 static sample s;
-static uint8_t parentheses[PIECEBOOK_PARENTHESES], marks[PIECEBOOK_MARKS], answers[4096];
-static uint16_t shadows[PIECEBOOK_SHADOWS], places[PIECEBOOK_PLACES];
+static uint8_t parentheses[PIECEBOOK_PARENTHESES], marks[PIECEBOOK_MARKS], answers[4096], out[8192 * 6], log_bytes[2 * 32768], counts[2 * 32768];
+static uint8_t area[PIECEBOOK_AREA], steps[PIECEBOOK_STEP_BYTES];
+static uint16_t shadows[PIECEBOOK_SHADOWS], places[PIECEBOOK_PLACES], list[PIECEBOOK_LIST], areas[3][PIECEBOOK_PAIRS];
+static piecebook_working state = {RECORDS, PIECES};
+/* A restricted claim, for which the cutting sheets are settled too. */
+static const uint8_t claim[6] = {PART, 1, 2046 & 255, 2046 >> 8, 1, 0};
+
+#define BOOK s.book, s.records * 6
+#define PARTS parentheses, sizeof parentheses, marks, sizeof marks, shadows, PIECEBOOK_SHADOWS, places, PIECEBOOK_PLACES
+#define LISTS list, PIECEBOOK_LIST, areas[0], PIECEBOOK_PAIRS, areas[1], PIECEBOOK_PAIRS, areas[2], PIECEBOOK_PAIRS
+#define CALL_AS(name, call, ...)                                                                                                                           \
+    static void *name(void *unused)                                                                                                                        \
+    {                                                                                                                                                      \
+        piecebook_##call(&workspace, __VA_ARGS__);                                                                                                         \
+        return unused;                                                                                                                                     \
+    }
+#define CALL(name, ...) CALL_AS(name, name, __VA_ARGS__)
+
+CALL(answer, BOOK, s.asked, s.claims * 6, PARTS, answers, sizeof answers)
+CALL_AS(index_alone, index, BOOK, PARTS)
+CALL(grid, BOOK)
+CALL_AS(add_last, add, &(piecebook_working){RECORDS - 1, PIECES}, area, sizeof area, s.book + 6 * (RECORDS - 1), 6)
+CALL(withdraw, &state, area, sizeof area, 0)
+CALL(ask, &state, area, sizeof area, claim, 6)
+CALL(convert, BOOK, out, sizeof out)
+CALL(catalog, BOOK, APART, 2000, PARTS, LISTS)
+CALL(replicates, BOOK, (piecebook_window){{0}, 0}, log_bytes, sizeof log_bytes, counts, sizeof counts)
+CALL(compare, BOOK, BOOK, s.asked, s.claims * 6, out, sizeof out)
+CALL(chain, BOOK, claim, sizeof claim, steps, sizeof steps)
+CALL(chain_check, BOOK, claim, sizeof claim, steps, sizeof steps)
+CALL(clash, BOOK, steps, sizeof steps)
+CALL(clash_check, BOOK, steps, sizeof steps)
 
 static void *nothing(void *unused)
 {
-    return unused;
-}
-
-static void *whole(void *unused)
-{
-    piecebook_answer(s.book, s.records * 6, s.asked, s.claims * 6, parentheses, sizeof parentheses, marks, sizeof marks, shadows,
-                     PIECEBOOK_SHADOWS, places, PIECEBOOK_PLACES, answers, sizeof answers);
-    return unused;
-}
-
-static void *conversion(void *unused)
-{
-    static uint8_t out[8192 * 6];
-    piecebook_convert(s.book, s.records * 6, out, sizeof out);
-    return unused;
-}
-
-static void *catalog(void *unused)
-{
-    static uint16_t list[PIECEBOOK_LIST], areas[3][PIECEBOOK_PAIRS];
-    piecebook_catalog(s.book, s.records * 6, APART, 2000, parentheses, sizeof parentheses, marks, sizeof marks, shadows, PIECEBOOK_SHADOWS, places,
-                      PIECEBOOK_PLACES, list, PIECEBOOK_LIST, areas[0], PIECEBOOK_PAIRS, areas[1], PIECEBOOK_PAIRS, areas[2], PIECEBOOK_PAIRS);
-    return unused;
-}
-
-static void *replicates(void *unused)
-{
-    static uint8_t log[2 * 32768], out[2 * 32768];
-    piecebook_replicates(s.book, s.records * 6, (piecebook_window){{0}, 0}, log, sizeof log, out, sizeof out);
-    return unused;
-}
-
-static void *comparison(void *unused)
-{
-    static uint8_t out[3 * 4096];
-    piecebook_compare(s.book, s.records * 6, s.book, s.records * 6, s.asked, s.claims * 6, out, sizeof out);
-    return unused;
-}
-
-/* A restricted claim, for which the cutting sheets are settled too. */
-static uint8_t steps[PIECEBOOK_STEP_BYTES];
-static const uint8_t claim[6] = {PART, 1, 2047 & 255, 2047 >> 8, 1, 0};
-
-static void *chain(void *unused)
-{
-    piecebook_chain(s.book, s.records * 6, claim, sizeof claim, steps, sizeof steps);
-    return unused;
-}
-
-static void *chain_check(void *unused)
-{
-    piecebook_chain_check(s.book, s.records * 6, claim, sizeof claim, steps, sizeof steps);
     return unused;
 }
 
@@ -126,57 +105,53 @@ static size_t smallest(void *f(void *))
     return large;
 }
 
-static void measure(const char *name, void *f(void *))
+/* A book of a shape in any order, with every second claim restricted, and a chain to check, behind a claim or behind 14. */
+static void make(enum shape shape, int clashing)
 {
-    static size_t least;
-    if (least == 0)
-        least = smallest(nothing);
-    printf("stack %s: %zu KiB\n", name, (smallest(f) - least) >> 10);
-    fflush(stdout);
+    make_sample(&s, shape, PIECES, RECORDS, 4096);
+    if (clashing)
+        contradict_late(&s);
+    else
+        shuffle(&s);
+    restrict_half(&s);
+    memcpy(area, s.book, sizeof area);
+    piecebook_chain(&workspace, BOOK, claim, sizeof claim, steps, sizeof steps);
+    piecebook_clash(&workspace, BOOK, steps, sizeof steps);
 }
 
 int main(void)
 {
-    make_sample(&s, DEEP, 2048, 8192, 4096);
-    shuffle(&s);
-    measure("deep", whole);
-    restrict_half(&s);
-    measure("deep, half restricted", whole);
-    make_sample(&s, LADDER, 2048, 8192, 4096);
-    shuffle(&s);
-    measure("ladder", whole);
-    restrict_half(&s);
-    measure("ladder, half restricted", whole);
-    make_sample(&s, WORST, 2048, 8192, 4096);
-    shuffle(&s);
-    measure("chain in the worst order", whole);
-    restrict_half(&s);
-    measure("chain in the worst order, half restricted", whole);
-    make_sample(&s, ROUND, 2048, 8192, 4096);
-    shuffle(&s);
-    measure("a circle of all but 0", whole);
-    restrict_half(&s);
-    measure("a circle of all but 0, half restricted", whole);
-    make_sample(&s, DEEP, 2048, 8192, 4096);
-    contradict_late(&s);
-    measure("deep, contradictory", whole);
-    make_sample(&s, DEEP, 2048, 8192, 0);
-    shuffle(&s);
-    measure("deep, catalog", catalog);
-    measure("deep, a log", replicates);
-    measure("deep, a chain", chain);
-    measure("deep, a chain checked", chain_check);
-    make_sample(&s, ROUND, 2048, 8192, 0);
-    shuffle(&s);
-    measure("a circle of all but 0, a chain", chain);
-    measure("a circle of all but 0, a chain checked", chain_check);
-    make_sample(&s, DEEP, 2048, 8192, 4096);
-    shuffle(&s);
-    restrict_half(&s);
-    measure("deep, two books, half restricted", comparison);
-    make_sample(&s, DEEP, 2048, 8192, 0);
-    shuffle(&s);
-    put_on_trays(&s, 2048);
-    measure("deep, converted", conversion);
+    static const struct {
+        const char *name;
+        enum shape shape;
+        int clashing;
+    } books[] = {{"line", DEEP, 0}, {"ladder", LADDER, 0}, {"line in the worst order", WORST, 0}, {"circles of two", COUPLES, 0}, {"one circle", ROUND, 0},
+                 {"line, refused by 14", DEEP, 1}};
+    static const struct {
+        const char *name;
+        void *(*call)(void *);
+    } calls[] = {{"answer", answer},   {"index", index_alone},           {"grid", grid},       {"add", add_last},   {"withdraw", withdraw}, {"ask", ask},
+                 {"convert", convert}, {"catalog", catalog},       {"replicates", replicates}, {"compare", compare}, {"chain", chain},       {"chain_check", chain_check},
+                 {"clash", clash},     {"clash_check", clash_check}};
+    enum { BOOKS = sizeof books / sizeof *books, CALLS = sizeof calls / sizeof *calls };
+    static size_t kib[CALLS][BOOKS];
+    size_t least = smallest(nothing);
+    for (unsigned b = 0; b < BOOKS; b++) {
+        make(books[b].shape, books[b].clashing);
+        for (unsigned c = 0; c < CALLS; c++)
+            kib[c][b] = (smallest(calls[c].call) - least) >> 10;
+    }
+    printf("| stack, KiB |");
+    for (unsigned b = 0; b < BOOKS; b++)
+        printf(" %s |", books[b].name);
+    printf("\n|---|");
+    for (unsigned b = 0; b < BOOKS; b++)
+        printf("---|");
+    for (unsigned c = 0; c < CALLS; c++) {
+        printf("\n| %s |", calls[c].name);
+        for (unsigned b = 0; b < BOOKS; b++)
+            printf(" %zu |", kib[c][b]);
+    }
+    printf("\n");
     return 0;
 }

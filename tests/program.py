@@ -1,11 +1,14 @@
 #!/usr/bin/env python3
-"""Runs the question program as a user does, in a directory of its own each time, and compares every byte that it writes with document 01's words.
+"""Runs the question program as a user does, in a directory of its own each time, and compares every byte that it writes with document 01's words. On standard error it
+writes nothing, but where its page cannot be written whole.
 
     program.py [BINARY]     target/bin/query where none is given; the last line is 'N passed, M failed'
 
 Small books are judged here by the rules one after another; large ones are made so that their answers are known beforehand; document 01's edges are those of edges.py.
 """
 import pathlib
+import resource
+import signal
 import subprocess
 import sys
 import tempfile
@@ -201,35 +204,58 @@ def slow(writer, data):
     writer.close()
 
 
-def start(binary, room, book, stdin, stdout):
+def put_book(room, book):
     if book == DIRECTORY:
         (room / "book.rec").mkdir()
     elif book is not None:
         (room / "book.rec").write_bytes(book)
-    return subprocess.Popen([binary], cwd=room, stdin=stdin, stdout=stdout, stderr=subprocess.DEVNULL)
 
 
 def printed(binary, book, claims, write=lambda writer, data: (writer.write(data), writer.close())):
-    with tempfile.TemporaryDirectory() as name:
+    """What it writes on standard output and on standard error."""
+    with tempfile.TemporaryDirectory() as name, tempfile.TemporaryFile() as errors:
         room = pathlib.Path(name)
-        with start(binary, room, book, subprocess.PIPE, subprocess.PIPE) as program:
+        put_book(room, book)
+        with subprocess.Popen([binary], cwd=room, stdin=subprocess.PIPE, stdout=subprocess.PIPE, stderr=errors) as program:
             try:
                 write(program.stdin, claims)
             except BrokenPipeError:
                 pass  # it reads no more than it needs
             text = program.stdout.read()
             program.wait(60)
-            return text
+        errors.seek(0)
+        return text, errors.read()
 
 
-def ends_without_output(binary, book, claims):
-    """With standard output closed the program comes to its end."""
+def limited():
+    """Files of at most 100 bytes; a write beyond them fails, and does not end the program."""
+    signal.signal(signal.SIGXFSZ, signal.SIG_IGN)
+    resource.setrlimit(resource.RLIMIT_FSIZE, (100, 100))
+
+
+def told(binary, redirection, book, claims, prepare=None):
+    """Runs it in a shell with standard output led elsewhere: whether it comes to its end, what it writes on standard error, and what the file 'page' has then."""
     with tempfile.TemporaryDirectory() as name:
         room = pathlib.Path(name)
         (room / "claims").write_bytes(claims)
-        (room / "book.rec").write_bytes(book)
-        command = '"$0" < claims >&-'
-        return subprocess.run(["sh", "-c", command, binary], cwd=room, timeout=60, check=False).returncode >= 0
+        put_book(room, book)
+        command = f'"$0" < claims {redirection}'
+        run = subprocess.run(["sh", "-c", command, binary], cwd=room, timeout=60, check=False, stderr=subprocess.PIPE, preexec_fn=prepare)
+        page = room / "page"
+        return run.returncode >= 0, run.stderr, page.read_bytes() if page.exists() else b""
+
+
+def unwritten(session, asked):
+    """Where the page goes, what is told of it, what of it is written, and the book and the claims."""
+    full, many = run_of(FULL), run_of(many_claims(4096))
+    no_space, bad, too_large = (f"standard output: {words}\n".encode() for words in ("No space left on device", "Bad file descriptor", "File too large"))
+    yield "a full device", "> /dev/full", None, no_space, b"", session, asked
+    yield "a long page to a full device", "> /dev/full", None, no_space, b"", full, many
+    yield "a refusal to a full device", "> /dev/full", None, no_space, b"", session[:-1], asked
+    yield "a closed standard output", ">&-", None, bad, b"", session, asked
+    yield "closed standard output and error", ">&- 2>&-", None, b"", b"", session, asked
+    yield "a part of the page", "> page", limited, too_large, page(SESSION, CLAIMS).encode()[:100], session, asked
+    yield "the whole page", "> page", None, b"", page(SESSION, CLAIMS).encode(), session, asked
 
 
 def main():
@@ -242,12 +268,14 @@ def main():
         print(f"{'ok  ' if good else 'FAIL'} {name}" + ("" if good else f": {text[:200]!r}"))
 
     for name, book, claims, expected in cases():
-        text = printed(binary, book, claims)
-        count(name, text == expected.encode(), text)
+        text, errors = printed(binary, book, claims)
+        count(name, text == expected.encode() and errors == b"", text + errors)
     session, asked = run_of(SESSION), run_of(CLAIMS)
-    text = printed(binary, session, asked, slow)
-    count("claims from a slow pipe", text == page(SESSION, CLAIMS).encode(), text)
-    count("a closed standard output", ends_without_output(binary, session, asked))
+    text, errors = printed(binary, session, asked, slow)
+    count("claims from a slow pipe", text == page(SESSION, CLAIMS).encode() and errors == b"", text + errors)
+    for name, redirection, prepare, words, written, book, claims in unwritten(session, asked):
+        ended, errors, text = told(binary, redirection, book, claims, prepare)
+        count(name, ended and errors == words and text == written, errors + text)
     print(f"{passed} passed, {failed} failed")
     return 0 if failed == 0 else 1
 

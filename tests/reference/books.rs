@@ -218,7 +218,11 @@ fn free_pairs(random: &mut Random, shape: Shape, pieces: usize, dense: usize, na
             let count = 1 + random.below(1 + pieces / 20);
             [shuffled(random, &[Tree, Flat, Dense]), some_rings(random, count)].concat()
         }
-        Couples => names.chunks(2).flat_map(ring).chain(names.chunks(2).zip(names.chunks(2).skip(1)).map(|(above, two)| (two[0], above[0]))).collect(),
+        Couples => names
+            .chunks(2)
+            .flat_map(ring)
+            .chain(names.chunks(2).zip(names.chunks(2).skip(1)).map(|(above, two)| (two[0], above[0])))
+            .collect(),
         Long => {
             let (circle, others) = names.split_at(if random.one_in(2) { names.len() } else { names.len() - names.len() / 4 });
             let more: Vec<Pair> = others.iter().map(|&other| (other, random.pick(names))).collect();
@@ -370,7 +374,14 @@ pub fn sound(random: &mut Random, plan: Plan) -> Vec<Bytes> {
         let (part, container) = if pairs.is_empty() { (a, 0) } else { random.pick(&pairs) };
         tries += 1;
         let b = if tries > 8 * plan.records { random.below(plan.pieces) } else { 0 };
-        let next = random.pick(&[(MEETS, a, a), (MEETS, a, b), (MEETS, b, a), (NOTPART, 0, a), (MEETS, part, container), (MEETS, container, part)]);
+        let next = random.pick(&[
+            (MEETS, a, a),
+            (MEETS, a, b),
+            (MEETS, b, a),
+            (NOTPART, 0, a),
+            (MEETS, part, container),
+            (MEETS, container, part),
+        ]);
         if keeps(&sets, next.0, next.1, next.2) && seen.insert(record(next.0, next.1, next.2)) {
             book.push(record(next.0, next.1, next.2));
         }
@@ -419,7 +430,8 @@ pub fn add_trays(random: &mut Random, book: &mut Vec<Bytes>, pieces: usize, tray
     let last = (pieces + random.pick(&[0, 0, 1, 3])).min(2048);
     for _ in 0..trays {
         let b = random.pick(&[0, 1, 2047, 2048, 65535]);
-        let next = of(random.pick(&[SHEET, SCANNER]), record(TRAY, random.below(last), if random.one_in(2) { b } else { random.below(65536) }));
+        let next =
+            of(random.pick(&[SHEET, SCANNER]), record(TRAY, random.below(last), if random.one_in(2) { b } else { random.below(65536) }));
         if book.len() < 8192 && seen.insert(next) {
             book.insert(random.below(book.len() + 1), next);
         }
@@ -463,7 +475,8 @@ pub fn named_claims(random: &mut Random, book: &[Bytes], count: usize) -> Vec<By
 /// All four claims about every two pieces, on all facts and on cutting sheets only.
 pub fn all_claims(pieces: usize) -> Vec<Bytes> {
     let kinds = [PART, APART, MEETS, NOTPART];
-    let plain: Vec<Bytes> = kinds.iter().flat_map(|&kind| (0..pieces).flat_map(move |a| (0..pieces).map(move |b| record(kind, a, b)))).collect();
+    let plain: Vec<Bytes> =
+        kinds.iter().flat_map(|&kind| (0..pieces).flat_map(move |a| (0..pieces).map(move |b| record(kind, a, b)))).collect();
     [SHEET, SCANNER].iter().flat_map(|&origin| plain.iter().map(move |&claim| of(origin, claim))).collect()
 }
 

@@ -2,9 +2,14 @@
 //! need only be answered.
 
 use crate::books::{of, record, Random, APART, MEETS, NOTPART, PART, SCANNER, VOID};
+use crate::buffers::{Buffer, Lent, LEAST};
+use crate::jobs::seed;
 use crate::piecebook::{self, Areas, Cataloged, Parts, Range, LIST, PAIRS};
 use crate::reference::{catalog, ExpectedCatalog, Lengths, Lists, AREAS};
-use crate::{Buffer, Lent};
+use crate::tally::Tally;
+use crate::workspaces::lend;
+use std::collections::BTreeMap;
+use std::time::Instant;
 
 /// The list and the areas of MEETS, APART and NOTPART.
 #[derive(Clone)]
@@ -43,15 +48,11 @@ pub fn ask_soundly(random: &mut Random, book: Vec<u8>, pieces: usize, kind: usiz
 }
 
 fn call(lent: &mut Lent, lists: &mut Written, case: &Case) -> Cataloged {
-    let mut index = Parts {
-        parentheses: lent.parentheses.lend(),
-        marks: lent.marks.lend(),
-        shadows: lent.shadows.lend(),
-        places: lent.places.lend(),
-    };
+    let mut index =
+        Parts { parentheses: lent.parentheses.lend(), marks: lent.marks.lend(), shadows: lent.shadows.lend(), places: lent.places.lend() };
     let [meets, apart, notpart] = &mut lists.areas;
     let mut areas = Areas { list: lists.list.lend(), meets: meets.lend(), apart: apart.lend(), notpart: notpart.lend() };
-    piecebook::catalog(&case.book, case.kind, case.piece, &mut index, &mut areas)
+    lend(&[&case.book], |workspace| piecebook::catalog(workspace, &case.book, case.kind, case.piece, &mut index, &mut areas))
 }
 
 /// A range of places: an arbitrary one, a short one, one place, none, or all.
@@ -95,7 +96,14 @@ fn between(stored: &[(usize, usize)], unordered: bool, rows: Range, columns: Ran
 }
 
 /// Asks about ranges, those of subtrees among them; `yes` counts the answers.
-fn questions(random: &mut Random, lent: &mut Lent, lists: &mut Written, outcome: Cataloged, wanted: &Lists, yes: &mut [usize; 2]) -> Option<String> {
+fn questions(
+    random: &mut Random,
+    lent: &mut Lent,
+    lists: &mut Written,
+    outcome: Cataloged,
+    wanted: &Lists,
+    yes: &mut [usize; 2],
+) -> Option<String> {
     let counts = [outcome.meets, outcome.apart, outcome.notpart];
     for number in 0..60 {
         let i = number % 3;
@@ -149,7 +157,10 @@ pub fn compare(random: &mut Random, case: &Case, yes: &mut [usize; 2]) -> (Catal
     let expected = catalog(&case.book, case.kind, case.piece, case.lengths, case.list, case.areas);
     let ExpectedCatalog { outcome, change, lists: wanted, doubt } = expected;
     let mut lent = Lent::new(random, case.lengths);
-    let mut lists = Written { list: Buffer::new(random, case.list, |x| x as u16), areas: case.areas.map(|length| Buffer::new(random, length, |x| x as u16)) };
+    let mut lists = Written {
+        list: Buffer::new(random, case.list, |x| x as u16),
+        areas: case.areas.map(|length| Buffer::new(random, length, |x| x as u16)),
+    };
     let (mut lent_after, mut lists_after) = (lent.clone(), lists.clone());
     lent_after.apply(&change);
     if let Some(wanted) = &wanted {
@@ -179,12 +190,21 @@ pub fn compare(random: &mut Random, case: &Case, yes: &mut [usize; 2]) -> (Catal
 }
 
 /// Catalogs of one book with the lists that they must give, and the numbers of index and areas.
-fn by_hand(random: &mut Random, book: &[u8], counts: Cataloged, areas: [[u16; 3]; 3], lists: &[(usize, usize, Vec<u16>)]) -> Option<String> {
-    let lengths = crate::LEAST;
+fn by_hand(
+    random: &mut Random,
+    book: &[u8],
+    counts: Cataloged,
+    areas: [[u16; 3]; 3],
+    lists: &[(usize, usize, Vec<u16>)],
+) -> Option<String> {
+    let lengths = LEAST;
     for (kind, piece, wanted) in lists {
         let case = Case { book: book.to_vec(), kind: *kind, piece: *piece, lengths, list: LIST, areas: [PAIRS; 3] };
         let mut lent = Lent::new(random, lengths);
-        let mut lists = Written { list: Buffer::new(random, LIST, |x| x as u16), areas: [PAIRS; 3].map(|length| Buffer::new(random, length, |x| x as u16)) };
+        let mut lists = Written {
+            list: Buffer::new(random, LIST, |x| x as u16),
+            areas: [PAIRS; 3].map(|length| Buffer::new(random, length, |x| x as u16)),
+        };
         let got = call(&mut lent, &mut lists, &case);
         let written = lists.areas.iter_mut().zip(areas).all(|(area, numbers)| area.lend()[..3] == numbers);
         if got != (Cataloged { listed: wanted.len(), ..counts }) || lists.list.lend()[..wanted.len()] != wanted[..] || !written {
@@ -239,4 +259,34 @@ pub fn circle(random: &mut Random) -> Option<String> {
         (3, 4, vec![0, 4]),
     ];
     by_hand(random, &book, counts, [[1, 2, 0], [1, 3, 0], [1, 2, 0]], &lists).map(|wrong| format!("catalog of a circle, {wrong}"))
+}
+
+/// Catalogs of random books, and range questions on what they leave.
+pub fn stage(tally: &mut Tally, name: &str, count: usize, make: impl Fn(&mut Random, usize) -> Case) {
+    let start = Instant::now();
+    let failed = tally.failed;
+    let mut random = seed(name);
+    let (mut numbers, mut yes) = (BTreeMap::new(), [0; 2]);
+    for number in 0..count {
+        let case = make(&mut random, number);
+        let (outcome, wrong) = compare(&mut random, &case, &mut yes);
+        *numbers.entry(outcome.number).or_insert(0) += 1;
+        tally.catalog_numbers[outcome.number] += 1;
+        tally.catalog_seen.note(&case.book, outcome.number);
+        tally.count(wrong.map(|wrong| {
+            let bytes = if case.book.len() <= 600 { format!("{:?}", case.book) } else { format!("{} bytes", case.book.len()) };
+            format!("{name}, book {number}: {wrong}; book {bytes}, kind {}, piece {}", case.kind, case.piece)
+        }));
+    }
+    let accepted = numbers.remove(&0).unwrap_or(0);
+    let refused: Vec<String> = numbers.iter().map(|(number, count)| format!("{number}: {count}")).collect();
+    let line = format!(
+        "{name}: {count} books, {accepted} accepted, refused {{{}}}; range questions {} yes, {} no; {} failed; {:.1} s",
+        refused.join(", "),
+        yes[1],
+        yes[0],
+        tally.failed - failed,
+        start.elapsed().as_secs_f64()
+    );
+    tally.say(line);
 }

@@ -2,11 +2,15 @@
 //! 02 alone; then bytes of good chains are damaged, and the two checks must agree on each.
 
 use crate::books::*;
-use crate::piecebook::{chain, chain_check, Chained, Outcome};
+use crate::buffers::{Buffer, LEAST};
+use crate::cases::{damaged, middle, small_contradictory, small_sound};
+use crate::edges::many;
+use crate::piecebook::{self, Chained, Outcome};
 use crate::reference::{judge, Change, Edition, Lengths, Seen};
-use crate::{damaged, many, middle, small_contradictory, small_sound, Buffer, LEAST};
-
-const ROOM: usize = 164_000;
+use crate::steps::{damage, follow, number, repeated, Step, ROOM};
+use crate::tally::Tally;
+use crate::workspaces::lend;
+use std::time::Instant;
 
 /// What must occur: numbers, answers, rule numbers in chains that the library writes, damaged chains that pass and that do not, and circles.
 #[derive(Default)]
@@ -21,84 +25,16 @@ pub struct Met {
     pub told: Vec<String>,
 }
 
-fn number(bytes: &[u8], at: usize) -> usize {
-    usize::from(bytes[at]) + 256 * usize::from(bytes[at + 1])
-}
-
-/// A step as document 02 has it.
-#[derive(Clone, Copy)]
-struct Step {
-    rule: u8,
-    kind: u8,
-    a: usize,
-    b: usize,
-    first: usize,
-    second: usize,
-}
-
-impl Step {
-    fn read(bytes: &[u8]) -> Step {
-        Step { rule: bytes[0], kind: bytes[1], a: number(bytes, 2), b: number(bytes, 4), first: number(bytes, 6), second: number(bytes, 8) }
-    }
-
-    /// Unordered kinds either way round.
-    fn shows(&self, kind: u8, a: usize, b: usize) -> bool {
-        self.kind == kind && ((self.a, self.b) == (a, b) || ((kind == APART || kind == MEETS) && (self.a, self.b) == (b, a)))
-    }
-}
-
-/// Document 02's check on a book and a claim that are accepted, for a book of so many pieces.
-fn passes(book: &[u8], pieces: usize, claim: &[u8], chain: &[u8]) -> bool {
-    if chain.is_empty() || chain.len() % 10 != 0 || chain.len() > ROOM {
-        return false;
-    }
-    let records: Vec<&[u8]> = book.chunks(6).collect();
-    let void: Vec<bool> = (0..pieces).map(|piece| records.iter().any(|r| r[0] == VOID && number(r, 2) == piece)).collect();
-    let steps: Vec<Step> = chain.chunks(10).map(Step::read).collect();
-    let holds = |i: usize, s: &Step| -> bool {
-        if !(1..=4).contains(&s.kind) || s.a >= pieces || s.b >= pieces {
-            return false;
-        }
-        let marks = |piece: usize| records.get(s.first).is_some_and(|r| r[0] == VOID && number(r, 2) == piece);
-        match s.rule {
-            0 => {
-                s.second == 0
-                    && records.get(s.first).is_some_and(|r| (1..=4).contains(&r[0]) && (claim[1] == 0 || r[1] == 0) && s.shows(r[0], number(r, 2), number(r, 4)))
-            }
-            3 => (s.first, s.second) == (0, 0) && s.kind == PART && s.a == s.b,
-            4 => (s.first, s.second) == (0, 0) && s.kind == PART && s.b == 0,
-            9 => (s.first, s.second) == (0, 0) && s.kind == MEETS && s.a == s.b && !void[s.a],
-            10 => s.second == 0 && s.kind == APART && (marks(s.a) || marks(s.b)),
-            11 => s.second == 0 && s.kind == PART && marks(s.a),
-            1 | 2 | 5..=8 => {
-                if s.first >= i || s.second >= i {
-                    return false;
-                }
-                let (p, q) = (&steps[s.first], &steps[s.second]);
-                // the rule at every g, h, k that the steps name
-                let named = [s.a, s.b, p.a, p.b, q.a, q.b];
-                named.iter().any(|&g| {
-                    named.iter().any(|&h| {
-                        named.iter().any(|&k| {
-                            let (x, y, z) = match s.rule {
-                                1 => ((PART, g, h), (PART, h, k), (PART, g, k)),
-                                2 => ((PART, g, h), (APART, h, k), (APART, g, k)),
-                                5 => ((PART, g, h), (NOTPART, g, k), (NOTPART, h, k)),
-                                6 => ((NOTPART, g, k), (PART, h, k), (NOTPART, g, h)),
-                                7 => ((PART, h, k), (MEETS, g, h), (MEETS, g, k)),
-                                _ => ((MEETS, g, h), (APART, k, h), (NOTPART, g, k)),
-                            };
-                            p.shows(x.0, x.1, x.2) && q.shows(y.0, y.1, y.2) && s.shows(z.0, z.1, z.2)
-                        })
-                    })
-                })
-            }
-            _ => false,
-        }
-    };
-    let last = &steps[steps.len() - 1];
+/// Document 02's check on a book of so many pieces and a claim that are accepted.
+pub fn passes(book: &[u8], pieces: usize, claim: &[u8], chain: &[u8]) -> bool {
     let (kind, a, b) = (claim[0], number(claim, 2), number(claim, 4));
-    steps.iter().enumerate().all(|(i, s)| holds(i, s)) && (last.shows(kind, a, b) || last.shows(5 - kind, a, b))
+    let last = follow(book, pieces, chain, |_, r| claim[1] == 0 || r[1] == 0);
+    last.is_some_and(|last| last.shows(kind, a, b) || last.shows(5 - kind, a, b))
+}
+
+/// The library's check.
+fn chain_check(book: &[u8], claim: &[u8], steps: &[u8]) -> usize {
+    lend(&[book], |workspace| piecebook::chain_check(workspace, book, claim, steps))
 }
 
 /// What the book comes to without claims.
@@ -132,7 +68,7 @@ fn ask(random: &mut Random, book: &[u8], alone: Outcome, claim: &[u8], room: usi
     let mut steps = Buffer::new(random, room, |x| x as u8);
     let mut after = steps.clone();
     let before = (book.to_vec(), claim.to_vec());
-    let got = chain(book, claim, steps.lend());
+    let got = lend(&[book], |workspace| piecebook::chain(workspace, book, claim, steps.lend()));
     met.numbers[number] += 1;
     met.answers[answer] += 1;
     let wanted = Chained { number, place, answer, steps: got.steps };
@@ -151,6 +87,9 @@ fn ask(random: &mut Random, book: &[u8], alone: Outcome, claim: &[u8], room: usi
         if !passes(book, pieces, claim, &written) {
             return Err(format!("a written chain does not pass the reference's check: {written:?}"));
         }
+        if let Some(twice) = repeated(&written) {
+            return Err(format!("{twice}: claim {claim:?}, chain {written:?}"));
+        }
         let last = Step::read(&written[written.len() - 10..]);
         let kind = if answer == 1 { claim[0] } else { 5 - claim[0] };
         if !last.shows(kind, usize::from(claim[2]) + 256 * usize::from(claim[3]), usize::from(claim[4]) + 256 * usize::from(claim[5])) {
@@ -163,37 +102,6 @@ fn ask(random: &mut Random, book: &[u8], alone: Outcome, claim: &[u8], room: usi
     written.chunks(10).for_each(|s| met.rules[usize::from(s[0])] += 1);
     met.longest = met.longest.max(got.steps);
     Ok((answer, written))
-}
-
-/// A good chain with a few bytes changed, a step cut out or put in twice, or two exchanged.
-fn damage(random: &mut Random, chain: &[u8]) -> Vec<u8> {
-    let mut bytes = chain.to_vec();
-    let steps = bytes.len() / 10;
-    match random.below(8) {
-        0 => {
-            bytes.truncate(random.below(bytes.len() + 1));
-        }
-        1 => {
-            let at = 10 * random.below(steps);
-            bytes.drain(at..at + 10);
-        }
-        2 => {
-            let at = 10 * random.below(steps);
-            let copy = bytes[at..at + 10].to_vec();
-            bytes.splice(at..at, copy);
-        }
-        3 => {
-            let (i, j) = (random.below(steps), random.below(steps));
-            (0..10).for_each(|k| bytes.swap(10 * i + k, 10 * j + k));
-        }
-        _ => {
-            for _ in 0..1 + random.below(2) {
-                let at = random.below(bytes.len());
-                bytes[at] = if random.one_in(2) { random.below(13) as u8 } else { random.next() as u8 };
-            }
-        }
-    }
-    bytes
 }
 
 fn some_book(random: &mut Random, number: usize) -> Vec<u8> {
@@ -214,7 +122,9 @@ fn claims_of(random: &mut Random, pieces: usize, refused: bool) -> Vec<Bytes> {
     if pieces <= 5 && !refused {
         return all_claims(pieces);
     }
-    (0..if refused { 3 } else { 40 }).map(|_| of(random.below(2) as u8, record(random.range(1, 5) as u8, random.below(pieces), random.below(pieces)))).collect()
+    (0..if refused { 3 } else { 40 })
+        .map(|_| of(random.below(2) as u8, record(random.range(1, 5) as u8, random.below(pieces), random.below(pieces))))
+        .collect()
 }
 
 /// All claims of one book, and damaged chains; what went wrong, if anything.
@@ -262,7 +172,11 @@ fn long(random: &mut Random, name: &str, records: &[Bytes], asked: &[(Bytes, usi
         };
         let other = record(MEETS, 0, 0);
         let refused = [&book[..], &record(VOID, 0, 0)[..]].concat();
-        if !chain.is_empty() && (chain_check(&book, &other, &chain) != 0 || chain_check(&refused, claim, &chain) != 0 || chain_check(&book, &claim[..5], &chain) != 0) {
+        if !chain.is_empty()
+            && (chain_check(&book, &other, &chain) != 0
+                || chain_check(&refused, claim, &chain) != 0
+                || chain_check(&book, &claim[..5], &chain) != 0)
+        {
             return Some(format!("{name}, claim {claim:?}: its chain passes for another claim, a refused book or no claim"));
         }
     }
@@ -314,10 +228,68 @@ pub fn session(random: &mut Random, met: &mut Met) -> Option<String> {
         if answer != wanted {
             return Some(format!("session, claim {i} has answer {answer}"));
         }
-        let told = |s: &Step| format!("{} {} {} by {}", s.a, NAMES[usize::from(s.kind)], s.b, ["record", "a", "b", "c", "f", "a'", "b'", "c'", "d'", "e'", "d", "e"][usize::from(s.rule)]);
+        let told = |s: &Step| {
+            format!(
+                "{} {} {} by {}",
+                s.a,
+                NAMES[usize::from(s.kind)],
+                s.b,
+                ["record", "a", "b", "c", "f", "a'", "b'", "c'", "d'", "e'", "d", "e"][usize::from(s.rule)]
+            )
+        };
         let steps: Vec<String> = chain.chunks(10).map(|s| told(&Step::read(s))).collect();
         let name = ["", "FOLLOWS", "DENIED", "OPEN"][answer];
-        met.told.push(format!("chain {i} {} {} {} {name}: {}", NAMES[usize::from(claim[0])], number(claim, 2), number(claim, 4), if steps.is_empty() { "no steps".into() } else { steps.join(", ") }));
+        met.told.push(format!(
+            "chain {i} {} {} {} {name}: {}",
+            NAMES[usize::from(claim[0])],
+            number(claim, 2),
+            number(claim, 4),
+            if steps.is_empty() { "no steps".into() } else { steps.join(", ") }
+        ));
     }
     None
+}
+
+/// Chains, those that the library writes and damaged ones.
+pub fn stage(tally: &mut Tally, count: usize) {
+    let start = Instant::now();
+    let failed = tally.failed;
+    let mut random = Random(2);
+    let mut met = Met::default();
+    for number in 0..count {
+        let wrong = play(&mut random, number, &mut met);
+        tally.count(wrong.map(|wrong| format!("chains, book {number}: {wrong}")));
+    }
+    let wrong = session(&mut random, &mut met);
+    tally.lines.append(&mut met.told);
+    tally.count(wrong.map(|wrong| format!("chains, {wrong}")));
+    for long in [deep, round] {
+        let wrong = long(&mut random, &mut met);
+        tally.count(wrong.map(|wrong| format!("chains, {wrong}")));
+    }
+    tally.occurred("chains", &met.numbers, &[0, 3, 4, 5, 6, 7, 9, 10, 12, 13, 14, 15, 19]);
+    tally.circles_occurred("chains", &met.seen);
+    for (rule, count) in met.rules.iter().enumerate() {
+        tally.count((*count == 0).then(|| format!("rule {rule} was never cited")));
+    }
+    for (what, count) in [
+        ("claim FOLLOWS", met.answers[1]),
+        ("claim is DENIED", met.answers[2]),
+        ("claim is OPEN", met.answers[3]),
+        ("damaged chain fails", met.damaged[0]),
+        ("damaged chain passes", met.damaged[1]),
+    ] {
+        tally.count((count == 0).then(|| format!("no {what}")));
+    }
+    let all: usize = met.numbers.iter().sum();
+    let line = format!(
+        "chains: {count} books, {all} claims, {} chains, the longest of {} steps; {} damaged ones, of which {} pass; {} failed; {:.1} s",
+        met.answers[1] + met.answers[2],
+        met.longest,
+        met.damaged[0] + met.damaged[1],
+        met.damaged[1],
+        tally.failed - failed,
+        start.elapsed().as_secs_f64()
+    );
+    tally.say(line);
 }

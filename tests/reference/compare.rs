@@ -1,11 +1,16 @@
 //! Pairs of books against document 02's words for R-12: each book by itself among the pieces of the larger, and the records of both as one list.
 
 use crate::books::*;
-use crate::piecebook::{compare, Compared, OPEN};
+use crate::buffers::Buffer;
+use crate::cases::{damaged, small_contradictory, small_plan, small_sound};
+use crate::edges::many;
+use crate::piecebook::{self, Compared, OPEN};
 use crate::reference::{answer, contradiction, read_book, read_claims, Book, Edition, Refusal, Seen};
 use crate::rules::Fact;
-use crate::{damaged, many, small_contradictory, small_plan, small_sound, Buffer};
+use crate::tally::Tally;
+use crate::workspaces::lend;
 use std::collections::HashSet;
+use std::time::Instant;
 
 /// What must occur: numbers by the book that they are of, the third byte by whether the books can be laid together and mark the same pieces, and circles in a book and
 /// in the records of both.
@@ -98,7 +103,9 @@ impl Pair {
         let mut after = out.clone();
         after.write(&bytes);
         let before = (self.first.clone(), self.second.clone(), self.claims.clone());
-        let got = compare(&self.first, &self.second, &self.claims, out.lend());
+        let got = lend(&[&self.first, &self.second], |workspace| {
+            piecebook::compare(workspace, &self.first, &self.second, &self.claims, out.lend())
+        });
         if let Some(doubt) = doubt {
             return Some(format!("the reference is in doubt: {doubt}"));
         }
@@ -269,4 +276,51 @@ pub fn edges(random: &mut Random, met: &mut Met) -> Option<String> {
         let pair = Pair { first: first.to_vec(), second: second.to_vec(), claims: claims.to_vec(), room };
         pair.send(random, met).map(|wrong| format!("edge {i}: {wrong}"))
     })
+}
+
+/// Pairs of books.
+pub fn stage(tally: &mut Tally, count: usize, times: usize) {
+    let start = Instant::now();
+    let failed = tally.failed;
+    let mut random = Random(12);
+    let mut met = Met::default();
+    let wrong = edges(&mut random, &mut met);
+    tally.count(wrong.map(|wrong| format!("two books, {wrong}")));
+    for number in 0..count {
+        let wrong = play(&mut random, number, &mut met);
+        tally.count(wrong.map(|wrong| format!("two books, pair {number}, {wrong}")));
+    }
+    for (shapes, sizes) in
+        [(&RISING[..], &[200, 200, 1365, 2048][..]), (&FREE[..], &[60, 200, 200]), (&[Shape::Couples, Shape::Entwined], &[2048])]
+    {
+        for &shape in shapes {
+            for pieces in sizes.repeat(times) {
+                let wrong = play_large(&mut random, shape, pieces, &mut met);
+                tally.count(wrong.map(|wrong| format!("two books, {wrong}")));
+            }
+        }
+    }
+    for (book, numbers) in [(0, &[0, 1, 10, 11, 12, 13][..]), (1, &[3, 4, 5, 6, 7, 9, 14, 19]), (2, &[3, 4, 5, 6, 7, 9, 14, 19])] {
+        let given = met.numbers[book];
+        tally.occurred(&format!("two books, {book}"), &given, numbers);
+    }
+    tally.circles_occurred("two books", &met.seen);
+    tally.circles_occurred("records of two books", &met.joined);
+    for (kind, thirds) in met.third.iter().enumerate() {
+        for third in 1..4 {
+            // laid together and marked alike, no claim is opposed
+            let missing = (thirds[third] == 0) != (kind == 3 && third == 3);
+            tally.count(missing.then(|| format!("third byte {third}, kind {kind}: {} times", thirds[third])));
+        }
+    }
+    for which in 0..3 {
+        tally.count((met.larger[which] == 0).then(|| format!("which is larger: {which} never occurred")));
+    }
+    let line = format!(
+        "two books: {count} pairs, {} accepted; {} failed; {:.1} s",
+        met.numbers[0][0],
+        tally.failed - failed,
+        start.elapsed().as_secs_f64()
+    );
+    tally.say(line);
 }

@@ -3,6 +3,9 @@
 use crate::books::*;
 use crate::piecebook::{Working, WorkingOutcome, AREA, MARKS, PARENTHESES, PLACES, SHADOWS};
 use crate::reference::{judge, Change, Edition, Lengths, Seen};
+use crate::tally::Tally;
+use crate::workspaces::lend;
+use std::time::Instant;
 
 enum Operation {
     Start,
@@ -122,12 +125,12 @@ pub fn play(random: &mut Random, day: usize, met: &mut Met) -> Option<String> {
         let length = if short { random.below(AREA) } else { area.len() };
         let (wanted, state_left, area_left) = expected(state, &area[..length], &next);
         let lent = &mut area[..length];
-        let got = match &next {
-            Operation::Start => state.start(lent),
-            Operation::Add(record) => state.add(lent, record),
-            Operation::Withdraw(at) => state.withdraw(lent, *at),
-            Operation::Ask(claim) => state.ask(lent, claim),
-        };
+        let got = lend(&[&records.concat()], |workspace| match &next {
+            Operation::Start => state.start(workspace, lent),
+            Operation::Add(record) => state.add(workspace, lent, record),
+            Operation::Withdraw(at) => state.withdraw(workspace, lent, *at),
+            Operation::Ask(claim) => state.ask(workspace, lent, claim),
+        });
         if got != wanted || state != state_left || area[..length] != area_left[..] {
             return Some(format!("operation {number}: {got:?}, not {wanted:?}; counts {state:?}, not {state_left:?}"));
         }
@@ -147,4 +150,25 @@ pub fn play(random: &mut Random, day: usize, met: &mut Met) -> Option<String> {
         next = early.pop().map_or_else(|| operation(random, &records, &claims, state.records), |record| Operation::Add(record.to_vec()));
     }
     None
+}
+
+/// Days of a working book.
+pub fn stage(tally: &mut Tally, count: usize) {
+    let start = Instant::now();
+    let failed = tally.failed;
+    let mut random = Random(9);
+    let mut met = Met::default();
+    for day in 0..count {
+        let wrong = play(&mut random, day, &mut met);
+        tally.count(wrong.map(|wrong| format!("day {day}, {wrong}")));
+    }
+    tally.occurred("working books", &met.numbers, &[0, 1, 3, 4, 5, 6, 7, 9, 10, 12, 13, 14, 18, 19]);
+    tally.circles_occurred("working books", &met.seen);
+    let line = format!(
+        "working books: {count} days, {} circles; {} failed; {:.1} s",
+        met.seen.circles(),
+        tally.failed - failed,
+        start.elapsed().as_secs_f64()
+    );
+    tally.say(line);
 }

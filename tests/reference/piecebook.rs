@@ -1,6 +1,44 @@
 //! The piece book from Rust: safe calls over `include/piecebook.h`. Link with libpiecebook.a.
 //!
-//! The slices give the C interface all that it asks for: a length with each pointer, and lent buffers that do not overlap.
+//! The slices give the C interface all that it asks for: a length with each pointer, and lent buffers that do not overlap. What is left to the caller is 1 MiB of stack.
+
+/// The numbers of a matrix.
+pub const MATRIX: usize = 65536;
+
+/// What the calls work in: six matrices, on the heap. What it holds does not matter to a call, and is free after it; it serves any number of calls, one at a time.
+pub struct Workspace {
+    numbers: Vec<u64>,
+    gap: usize,
+}
+
+impl Workspace {
+    pub fn new() -> Workspace {
+        Workspace::with_gaps(0)
+    }
+
+    /// The same with so many numbers before each matrix and behind the last, which no call reads or writes.
+    pub fn with_gaps(gap: usize) -> Workspace {
+        // never an array on the stack
+        Workspace { numbers: vec![0; 6 * (gap + MATRIX) + gap], gap }
+    }
+
+    /// All its numbers: six times a gap and a matrix, and a gap.
+    pub fn numbers(&mut self) -> &mut [u64] {
+        &mut self.numbers
+    }
+
+    /// The six matrices; each leads to `MATRIX` numbers, and no two overlap.
+    fn matrices(&mut self) -> [*mut u64; 6] {
+        let mut rest = self.numbers.chunks_exact_mut(self.gap + MATRIX);
+        [(); 6].map(|()| rest.next().expect("six of them")[self.gap..].as_mut_ptr())
+    }
+}
+
+impl Default for Workspace {
+    fn default() -> Workspace {
+        Workspace::new()
+    }
+}
 
 /// What a call returns. `number` is 0 for an accepted book, or the number of the refusal, whose record or claim is `place`; the counts are 0
 /// for a refusal. Pieces that lie in each other through a circle of records have one node.
@@ -44,10 +82,11 @@ pub struct Parts<'a> {
 }
 
 /// Answers the claims, one byte each at the front of `answers`, and writes the index.
-pub fn answer(book: &[u8], claims: &[u8], index: &mut Parts, answers: &mut [u8]) -> Outcome {
-    // SAFETY: each pointer comes with the length of its slice, and exclusive slices do not overlap.
+pub fn answer(workspace: &mut Workspace, book: &[u8], claims: &[u8], index: &mut Parts, answers: &mut [u8]) -> Outcome {
+    let [e, d, t, u, p, q] = workspace.matrices();
+    // SAFETY: each pointer comes with the length of its slice, exclusive slices do not overlap, and the matrices are the workspace's own.
     unsafe {
-        piecebook_answer(
+        piecebook_answer_with(
             book.as_ptr(),
             book.len(),
             claims.as_ptr(),
@@ -62,15 +101,22 @@ pub fn answer(book: &[u8], claims: &[u8], index: &mut Parts, answers: &mut [u8])
             index.places.len(),
             answers.as_mut_ptr(),
             answers.len(),
+            e,
+            d,
+            t,
+            u,
+            p,
+            q,
         )
     }
 }
 
 /// Writes the index alone.
-pub fn index(book: &[u8], index: &mut Parts) -> Outcome {
+pub fn index(workspace: &mut Workspace, book: &[u8], index: &mut Parts) -> Outcome {
+    let [e, d, t, u, p, q] = workspace.matrices();
     // SAFETY: as above.
     unsafe {
-        piecebook_index(
+        piecebook_index_with(
             book.as_ptr(),
             book.len(),
             index.parentheses.as_mut_ptr(),
@@ -81,14 +127,21 @@ pub fn index(book: &[u8], index: &mut Parts) -> Outcome {
             index.shadows.len(),
             index.places.as_mut_ptr(),
             index.places.len(),
+            e,
+            d,
+            t,
+            u,
+            p,
+            q,
         )
     }
 }
 
 /// Writes a book of the former edition without its TRAY records to the front of `out`.
-pub fn convert(book: &[u8], out: &mut [u8]) -> Converted {
+pub fn convert(workspace: &mut Workspace, book: &[u8], out: &mut [u8]) -> Converted {
+    let [e, d, t, ..] = workspace.matrices();
     // SAFETY: as above.
-    unsafe { piecebook_convert(book.as_ptr(), book.len(), out.as_mut_ptr(), out.len()) }
+    unsafe { piecebook_convert_with(book.as_ptr(), book.len(), out.as_mut_ptr(), out.len(), e, d, t) }
 }
 
 /// Four grids of bits, one for each kind of claim; `number` and `place` as for an index, or 16 for more than 64 pieces.
@@ -104,9 +157,10 @@ pub struct Grids {
 }
 
 /// The grids of a book of at most 64 pieces.
-pub fn grid(book: &[u8]) -> Grids {
+pub fn grid(workspace: &mut Workspace, book: &[u8]) -> Grids {
+    let [e, d, t, u, p, q] = workspace.matrices();
     // SAFETY: as above.
-    unsafe { piecebook_grid(book.as_ptr(), book.len()) }
+    unsafe { piecebook_grid_with(book.as_ptr(), book.len(), e, d, t, u, p, q) }
 }
 
 /// The least length of a working book's record area.
@@ -131,27 +185,31 @@ pub struct WorkingOutcome {
 
 impl Working {
     /// Begins with no records.
-    pub fn start(&mut self, area: &mut [u8]) -> WorkingOutcome {
+    pub fn start(&mut self, workspace: &mut Workspace, area: &mut [u8]) -> WorkingOutcome {
+        let [e, d, t, u, p, q] = workspace.matrices();
         // SAFETY: as above.
-        unsafe { piecebook_start(self, area.as_mut_ptr(), area.len()) }
+        unsafe { piecebook_start_with(self, area.as_mut_ptr(), area.len(), e, d, t, u, p, q) }
     }
 
     /// Adds a record.
-    pub fn add(&mut self, area: &mut [u8], record: &[u8]) -> WorkingOutcome {
+    pub fn add(&mut self, workspace: &mut Workspace, area: &mut [u8], record: &[u8]) -> WorkingOutcome {
+        let [e, d, t, u, p, q] = workspace.matrices();
         // SAFETY: as above.
-        unsafe { piecebook_add(self, area.as_mut_ptr(), area.len(), record.as_ptr(), record.len()) }
+        unsafe { piecebook_add_with(self, area.as_mut_ptr(), area.len(), record.as_ptr(), record.len(), e, d, t, u, p, q) }
     }
 
     /// Withdraws a record by its number.
-    pub fn withdraw(&mut self, area: &mut [u8], number: usize) -> WorkingOutcome {
+    pub fn withdraw(&mut self, workspace: &mut Workspace, area: &mut [u8], number: usize) -> WorkingOutcome {
+        let [e, d, t, u, p, q] = workspace.matrices();
         // SAFETY: as above.
-        unsafe { piecebook_withdraw(self, area.as_mut_ptr(), area.len(), number) }
+        unsafe { piecebook_withdraw_with(self, area.as_mut_ptr(), area.len(), number, e, d, t, u, p, q) }
     }
 
     /// Answers one claim.
-    pub fn ask(&mut self, area: &[u8], claim: &[u8]) -> WorkingOutcome {
+    pub fn ask(&mut self, workspace: &mut Workspace, area: &[u8], claim: &[u8]) -> WorkingOutcome {
+        let [e, d, t, u, p, q] = workspace.matrices();
         // SAFETY: as above.
-        unsafe { piecebook_ask(self, area.as_ptr(), area.len(), claim.as_ptr(), claim.len()) }
+        unsafe { piecebook_ask_with(self, area.as_ptr(), area.len(), claim.as_ptr(), claim.len(), e, d, t, u, p, q) }
     }
 }
 
@@ -191,10 +249,11 @@ pub struct Range {
 }
 
 /// Lists the pieces that certainly are PART of a piece (kind 1), APART from it (2) or MEET it (3), and writes the index and the areas.
-pub fn catalog(book: &[u8], kind: usize, piece: usize, index: &mut Parts, areas: &mut Areas) -> Cataloged {
+pub fn catalog(workspace: &mut Workspace, book: &[u8], kind: usize, piece: usize, index: &mut Parts, areas: &mut Areas) -> Cataloged {
+    let [e, d, t, ..] = workspace.matrices();
     // SAFETY: as above.
     unsafe {
-        piecebook_catalog(
+        piecebook_catalog_with(
             book.as_ptr(),
             book.len(),
             kind,
@@ -215,6 +274,9 @@ pub fn catalog(book: &[u8], kind: usize, piece: usize, index: &mut Parts, areas:
             areas.apart.len(),
             areas.notpart.as_mut_ptr(),
             areas.notpart.len(),
+            e,
+            d,
+            t,
         )
     }
 }
@@ -253,9 +315,12 @@ pub struct Replicated {
 }
 
 /// Writes two bytes for each entry of a part of the log: how many of the up to 31 before it are certainly APART from it, and whether every two are.
-pub fn replicates(book: &[u8], window: Window, log: &[u8], out: &mut [u8]) -> Replicated {
+pub fn replicates(workspace: &mut Workspace, book: &[u8], window: Window, log: &[u8], out: &mut [u8]) -> Replicated {
+    let [e, d, t, u, ..] = workspace.matrices();
     // SAFETY: as above.
-    unsafe { piecebook_replicates(book.as_ptr(), book.len(), window, log.as_ptr(), log.len(), out.as_mut_ptr(), out.len()) }
+    unsafe {
+        piecebook_replicates_with(book.as_ptr(), book.len(), window, log.as_ptr(), log.len(), out.as_mut_ptr(), out.len(), e, d, t, u)
+    }
 }
 
 /// What two books come to: `book` is 1 or 2 for a refusal of theirs, and `together` 1 where their records can be laid in ice together.
@@ -269,15 +334,31 @@ pub struct Compared {
 }
 
 /// Writes three bytes for each claim: both answers, then 1 SAME, 2 ONE OPEN or 3 OPPOSED.
-pub fn compare(first: &[u8], second: &[u8], claims: &[u8], out: &mut [u8]) -> Compared {
+pub fn compare(workspace: &mut Workspace, first: &[u8], second: &[u8], claims: &[u8], out: &mut [u8]) -> Compared {
+    let [e, d, t, u, p, q] = workspace.matrices();
     // SAFETY: as above.
     unsafe {
-        piecebook_compare(first.as_ptr(), first.len(), second.as_ptr(), second.len(), claims.as_ptr(), claims.len(), out.as_mut_ptr(), out.len())
+        piecebook_compare_with(
+            first.as_ptr(),
+            first.len(),
+            second.as_ptr(),
+            second.len(),
+            claims.as_ptr(),
+            claims.len(),
+            out.as_mut_ptr(),
+            out.len(),
+            e,
+            d,
+            t,
+            u,
+            p,
+            q,
+        )
     }
 }
 
 extern "C" {
-    fn piecebook_compare(
+    fn piecebook_compare_with(
         first: *const u8,
         first_length: usize,
         second: *const u8,
@@ -286,6 +367,12 @@ extern "C" {
         claims_length: usize,
         out: *mut u8,
         out_length: usize,
+        e: *mut u64,
+        d: *mut u64,
+        t: *mut u64,
+        u: *mut u64,
+        p: *mut u64,
+        q: *mut u64,
     ) -> Compared;
 }
 
@@ -300,23 +387,93 @@ pub struct Chained {
 }
 
 /// Writes the chain behind the answer to one claim, ten bytes a step.
-pub fn chain(book: &[u8], claim: &[u8], steps: &mut [u8]) -> Chained {
+pub fn chain(workspace: &mut Workspace, book: &[u8], claim: &[u8], steps: &mut [u8]) -> Chained {
+    let [e, d, t, ..] = workspace.matrices();
     // SAFETY: as above.
-    unsafe { piecebook_chain(book.as_ptr(), book.len(), claim.as_ptr(), claim.len(), steps.as_mut_ptr(), steps.len()) }
+    unsafe { piecebook_chain_with(book.as_ptr(), book.len(), claim.as_ptr(), claim.len(), steps.as_mut_ptr(), steps.len(), e, d, t) }
 }
 
 /// 1 where the steps are a chain behind the answer to the claim, else 0.
-pub fn chain_check(book: &[u8], claim: &[u8], steps: &[u8]) -> usize {
+pub fn chain_check(workspace: &mut Workspace, book: &[u8], claim: &[u8], steps: &[u8]) -> usize {
+    let [e, d, t, u, p, q] = workspace.matrices();
     // SAFETY: as above.
-    unsafe { piecebook_chain_check(book.as_ptr(), book.len(), claim.as_ptr(), claim.len(), steps.as_ptr(), steps.len()) }
+    unsafe {
+        piecebook_chain_check_with(book.as_ptr(), book.len(), claim.as_ptr(), claim.len(), steps.as_ptr(), steps.len(), e, d, t, u, p, q)
+    }
+}
+
+/// What the writer of the chain behind a contradiction comes to: `number` is 14 where it wrote steps.
+#[repr(C)]
+#[derive(Clone, Copy, Debug, PartialEq, Eq)]
+pub struct Clashed {
+    pub number: usize,
+    pub place: usize,
+    pub steps: usize,
+}
+
+/// Writes the chain to the opposite of the record at which the book becomes contradictory, ten bytes a step.
+pub fn clash(workspace: &mut Workspace, book: &[u8], steps: &mut [u8]) -> Clashed {
+    let [e, d, t, ..] = workspace.matrices();
+    // SAFETY: as above.
+    unsafe { piecebook_clash_with(book.as_ptr(), book.len(), steps.as_mut_ptr(), steps.len(), e, d, t) }
+}
+
+/// 1 where the steps are such a chain, else 0.
+pub fn clash_check(workspace: &mut Workspace, book: &[u8], steps: &[u8]) -> usize {
+    let [e, d, t, ..] = workspace.matrices();
+    // SAFETY: as above.
+    unsafe { piecebook_clash_check_with(book.as_ptr(), book.len(), steps.as_ptr(), steps.len(), e, d, t) }
 }
 
 extern "C" {
-    fn piecebook_chain(book: *const u8, book_length: usize, claim: *const u8, claim_length: usize, steps: *mut u8, steps_length: usize) -> Chained;
+    fn piecebook_clash_with(
+        book: *const u8,
+        book_length: usize,
+        steps: *mut u8,
+        steps_length: usize,
+        e: *mut u64,
+        d: *mut u64,
+        t: *mut u64,
+    ) -> Clashed;
 
-    fn piecebook_chain_check(book: *const u8, book_length: usize, claim: *const u8, claim_length: usize, steps: *const u8, steps_length: usize) -> usize;
+    fn piecebook_clash_check_with(
+        book: *const u8,
+        book_length: usize,
+        steps: *const u8,
+        steps_length: usize,
+        e: *mut u64,
+        d: *mut u64,
+        t: *mut u64,
+    ) -> usize;
 
-    fn piecebook_catalog(
+    fn piecebook_chain_with(
+        book: *const u8,
+        book_length: usize,
+        claim: *const u8,
+        claim_length: usize,
+        steps: *mut u8,
+        steps_length: usize,
+        e: *mut u64,
+        d: *mut u64,
+        t: *mut u64,
+    ) -> Chained;
+
+    fn piecebook_chain_check_with(
+        book: *const u8,
+        book_length: usize,
+        claim: *const u8,
+        claim_length: usize,
+        steps: *const u8,
+        steps_length: usize,
+        e: *mut u64,
+        d: *mut u64,
+        t: *mut u64,
+        u: *mut u64,
+        p: *mut u64,
+        q: *mut u64,
+    ) -> usize;
+
+    fn piecebook_catalog_with(
         book: *const u8,
         book_length: usize,
         kind: usize,
@@ -337,6 +494,9 @@ extern "C" {
         apart_length: usize,
         notpart: *mut u16,
         notpart_length: usize,
+        e: *mut u64,
+        d: *mut u64,
+        t: *mut u64,
     ) -> Cataloged;
 
     fn piecebook_fact_between(
@@ -350,9 +510,15 @@ extern "C" {
         column_to: usize,
     ) -> usize;
 
-    fn piecebook_subtree(parentheses: *const u8, parentheses_length: usize, places: *const u16, places_length: usize, piece: usize) -> Range;
+    fn piecebook_subtree(
+        parentheses: *const u8,
+        parentheses_length: usize,
+        places: *const u16,
+        places_length: usize,
+        piece: usize,
+    ) -> Range;
 
-    fn piecebook_replicates(
+    fn piecebook_replicates_with(
         book: *const u8,
         book_length: usize,
         window: Window,
@@ -360,21 +526,87 @@ extern "C" {
         log_length: usize,
         out: *mut u8,
         out_length: usize,
+        e: *mut u64,
+        d: *mut u64,
+        t: *mut u64,
+        u: *mut u64,
     ) -> Replicated;
 
-    fn piecebook_start(state: *mut Working, area: *mut u8, area_length: usize) -> WorkingOutcome;
+    fn piecebook_start_with(
+        state: *mut Working,
+        area: *mut u8,
+        area_length: usize,
+        e: *mut u64,
+        d: *mut u64,
+        t: *mut u64,
+        u: *mut u64,
+        p: *mut u64,
+        q: *mut u64,
+    ) -> WorkingOutcome;
 
-    fn piecebook_add(state: *mut Working, area: *mut u8, area_length: usize, record: *const u8, record_length: usize) -> WorkingOutcome;
+    fn piecebook_add_with(
+        state: *mut Working,
+        area: *mut u8,
+        area_length: usize,
+        record: *const u8,
+        record_length: usize,
+        e: *mut u64,
+        d: *mut u64,
+        t: *mut u64,
+        u: *mut u64,
+        p: *mut u64,
+        q: *mut u64,
+    ) -> WorkingOutcome;
 
-    fn piecebook_withdraw(state: *mut Working, area: *mut u8, area_length: usize, record_number: usize) -> WorkingOutcome;
+    fn piecebook_withdraw_with(
+        state: *mut Working,
+        area: *mut u8,
+        area_length: usize,
+        record_number: usize,
+        e: *mut u64,
+        d: *mut u64,
+        t: *mut u64,
+        u: *mut u64,
+        p: *mut u64,
+        q: *mut u64,
+    ) -> WorkingOutcome;
 
-    fn piecebook_ask(state: *mut Working, area: *const u8, area_length: usize, claim: *const u8, claim_length: usize) -> WorkingOutcome;
+    fn piecebook_ask_with(
+        state: *mut Working,
+        area: *const u8,
+        area_length: usize,
+        claim: *const u8,
+        claim_length: usize,
+        e: *mut u64,
+        d: *mut u64,
+        t: *mut u64,
+        u: *mut u64,
+        p: *mut u64,
+        q: *mut u64,
+    ) -> WorkingOutcome;
 
-    fn piecebook_grid(book: *const u8, book_length: usize) -> Grids;
+    fn piecebook_grid_with(
+        book: *const u8,
+        book_length: usize,
+        e: *mut u64,
+        d: *mut u64,
+        t: *mut u64,
+        u: *mut u64,
+        p: *mut u64,
+        q: *mut u64,
+    ) -> Grids;
 
-    fn piecebook_convert(book: *const u8, book_length: usize, out: *mut u8, out_length: usize) -> Converted;
+    fn piecebook_convert_with(
+        book: *const u8,
+        book_length: usize,
+        out: *mut u8,
+        out_length: usize,
+        e: *mut u64,
+        d: *mut u64,
+        t: *mut u64,
+    ) -> Converted;
 
-    fn piecebook_answer(
+    fn piecebook_answer_with(
         book: *const u8,
         book_length: usize,
         claims: *const u8,
@@ -389,9 +621,15 @@ extern "C" {
         places_length: usize,
         answers: *mut u8,
         answers_length: usize,
+        e: *mut u64,
+        d: *mut u64,
+        t: *mut u64,
+        u: *mut u64,
+        p: *mut u64,
+        q: *mut u64,
     ) -> Outcome;
 
-    fn piecebook_index(
+    fn piecebook_index_with(
         book: *const u8,
         book_length: usize,
         parentheses: *mut u8,
@@ -402,5 +640,11 @@ extern "C" {
         shadows_length: usize,
         places: *mut u16,
         places_length: usize,
+        e: *mut u64,
+        d: *mut u64,
+        t: *mut u64,
+        u: *mut u64,
+        p: *mut u64,
+        q: *mut u64,
     ) -> Outcome;
 }

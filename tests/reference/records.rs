@@ -3,8 +3,10 @@
 //! How often each row refuses was worked out once from document 01's table by another program, and stands here as numbers.
 
 use crate::books::*;
+use crate::buffers::enough;
+use crate::cases::Case;
 use crate::reference::{read_book, read_claims, Edition, Refusal};
-use crate::{enough, Case, Tally};
+use crate::tally::Tally;
 use std::collections::BTreeMap;
 use std::time::Instant;
 
@@ -90,7 +92,12 @@ fn books(tally: &mut Tally, name: &str, all: &[Vec<u8>], in_force: Told, former:
         let outcomes: Vec<_> = all.iter().map(|book| rows(book, edition)).collect();
         tally.count(told(&outcomes, wanted).map(|wrong| format!("{name}, {edition:?}: {wrong}")));
     }
-    tally.say(format!("{name}: {} books in both editions; {} failed; {:.1} s", all.len(), tally.failed - failed, start.elapsed().as_secs_f64()));
+    tally.say(format!(
+        "{name}: {} books in both editions; {} failed; {:.1} s",
+        all.len(),
+        tally.failed - failed,
+        start.elapsed().as_secs_f64()
+    ));
 }
 
 /// Each list of claims on a book of so many pieces.
@@ -116,7 +123,8 @@ fn long_books(tally: &mut Tally) {
             changes.iter().for_each(|&(at, changed)| all[at] = changed);
             all.concat()
         };
-        let (first, before, tray, none) = ((8191, record(kind, 0, 0)), (8191, record(kind, 2046, 3)), (8191, record(TRAY, 2047, 65535)), (0, record(0, 0, 0)));
+        let (first, before, tray, none) =
+            ((8191, record(kind, 0, 0)), (8191, record(kind, 2046, 3)), (8191, record(TRAY, 2047, 65535)), (0, record(0, 0, 0)));
         let cases: [(&[(usize, Bytes)], usize, Result<usize, Refusal>, Result<usize, Refusal>); 12] = [
             (&[], 49152, Ok(2048), Ok(2048)),
             (&[], 49158, Err((4, 0)), Err((4, 0))),
@@ -135,7 +143,11 @@ fn long_books(tally: &mut Tally) {
             let book = many(changes)[..length].to_vec();
             for (edition, wanted) in [(Edition::InForce, in_force), (Edition::Former, former)] {
                 let got = rows(&book, edition);
-                tally.count((got != wanted).then(|| format!("long book {number} of kind {kind}, {edition:?}: the reference says {got:?}, the papers {wanted:?}")));
+                tally.count(
+                    (got != wanted).then(|| {
+                        format!("long book {number} of kind {kind}, {edition:?}: the reference says {got:?}, the papers {wanted:?}")
+                    }),
+                );
             }
             try_book(tally, "long books", number, &book);
             count += 1;
@@ -192,7 +204,13 @@ pub fn parts() -> Vec<(String, fn(&mut Tally))> {
         }),
         ("each byte of a TRAY record", |tally| {
             let former: Told = (&[(0, 783), (5, 251), (6, 254), (7, 248)], 262932);
-            books(tally, "each byte of a TRAY record", &varied(record(PART, 5, 2), record(TRAY, 300, 7)), (&[(0, 4), (5, 1531), (19, 1)], 2736), former);
+            books(
+                tally,
+                "each byte of a TRAY record",
+                &varied(record(PART, 5, 2), record(TRAY, 300, 7)),
+                (&[(0, 4), (5, 1531), (19, 1)], 2736),
+                former,
+            );
         }),
         ("each byte of a mark", |tally| {
             let in_force: Told = (&[(0, 5), (5, 251), (6, 254), (7, 248), (19, 778)], 3036);

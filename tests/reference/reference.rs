@@ -256,7 +256,8 @@ impl Circles {
         let lowest = lowest_members(pieces, pairs);
         let mut members = vec![0; pieces];
         lowest.iter().for_each(|&group| members[group] += 1);
-        let between = pairs.iter().map(|&(part, container)| (lowest[part], lowest[container])).filter(|(part, container)| part != container);
+        let between =
+            pairs.iter().map(|&(part, container)| (lowest[part], lowest[container])).filter(|(part, container)| part != container);
         let mut containers = vec![BTreeSet::new(); pieces];
         between.for_each(|(part, container)| _ = containers[part].insert(container));
         let twice: Vec<usize> = (0..pieces).filter(|&part| containers[part].len() > 1).collect();
@@ -339,7 +340,9 @@ fn build(pieces: usize, facts: &[Option<Fact>], doubt: &mut Option<String>) -> (
     }
     let mut parts = vec![BTreeSet::new(); pieces];
     let mut is_part = HashSet::new();
-    for (part, container) in pairs.iter().map(|&(part, container)| (lowest[part], lowest[container])).filter(|(part, container)| part != container) {
+    for (part, container) in
+        pairs.iter().map(|&(part, container)| (lowest[part], lowest[container])).filter(|(part, container)| part != container)
+    {
         parts[container].insert(part);
         is_part.insert(part);
     }
@@ -481,7 +484,13 @@ fn refused((number, place): Refusal, change: Change) -> (Outcome, Change) {
     (Outcome { number, place, pieces: 0, nodes: 0, shadows: 0 }, change)
 }
 
-fn judge_whole(book: &[u8], edition: Edition, claims: Option<&[u8]>, lengths: Lengths, doubt: &mut Option<String>) -> Result<(Outcome, Change), Refusal> {
+fn judge_whole(
+    book: &[u8],
+    edition: Edition,
+    claims: Option<&[u8]>,
+    lengths: Lengths,
+    doubt: &mut Option<String>,
+) -> Result<(Outcome, Change), Refusal> {
     let fits = lengths.parentheses >= 2560 && lengths.marks >= 1280 && lengths.shadows >= 8192 && lengths.places >= 2048;
     if !fits || claims.is_some_and(|claims| lengths.answers < claims.len() / 6) {
         return Err((1, 0));
@@ -504,7 +513,8 @@ fn judge_whole(book: &[u8], edition: Edition, claims: Option<&[u8]>, lengths: Le
 /// What the call that answers claims, or without claims the one that writes the index alone, must return and do.
 pub fn judge(book: &[u8], edition: Edition, claims: Option<&[u8]>, lengths: Lengths) -> Expected {
     let mut doubt = None;
-    let (outcome, change) = judge_whole(book, edition, claims, lengths, &mut doubt).unwrap_or_else(|refusal| refused(refusal, Change::Nothing));
+    let (outcome, change) =
+        judge_whole(book, edition, claims, lengths, &mut doubt).unwrap_or_else(|refusal| refused(refusal, Change::Nothing));
     Expected { outcome, change, doubt }
 }
 
@@ -574,7 +584,15 @@ fn lists_of(book: &Book, places: &[u16], asked: impl Fn(usize) -> Fact) -> Lists
     Lists { list, areas: [area(0), area(1), area(2)], stored }
 }
 
-fn catalog_whole(book: &[u8], kind: usize, piece: usize, lengths: Lengths, list: usize, areas: [usize; 3], doubt: &mut Option<String>) -> Result<(Cataloged, Change, Option<Lists>), Refusal> {
+fn catalog_whole(
+    book: &[u8],
+    kind: usize,
+    piece: usize,
+    lengths: Lengths,
+    list: usize,
+    areas: [usize; 3],
+    doubt: &mut Option<String>,
+) -> Result<(Cataloged, Change, Option<Lists>), Refusal> {
     let fits = lengths.parentheses >= 2560 && lengths.marks >= 1280 && lengths.shadows >= 8192 && lengths.places >= 2048;
     if !fits {
         return Err((1, 0));

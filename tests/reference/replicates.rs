@@ -2,10 +2,15 @@
 //! other.
 
 use crate::books::*;
-use crate::piecebook::{replicates, Replicated, Window};
+use crate::buffers::{Buffer, LEAST};
+use crate::cases::{damaged, middle, small_contradictory, small_sound};
+use crate::edges::many;
+use crate::piecebook::{self, Replicated, Window};
 use crate::reference::{judge, Change, Edition, Lengths, Seen};
-use crate::{damaged, many, middle, small_contradictory, small_sound, Buffer, LEAST};
+use crate::tally::Tally;
+use crate::workspaces::lend;
 use std::collections::HashSet;
+use std::time::Instant;
 
 /// What must occur: numbers, refused entries that are not the first, windows of 32 entries that are pairwise APART or are not, and circles.
 #[derive(Default)]
@@ -84,7 +89,7 @@ impl Book {
         let mut after = out.clone();
         after.write(&bytes);
         let before = (self.bytes.clone(), log.to_vec());
-        let got = replicates(&self.bytes, window, log, out.lend());
+        let got = lend(&[&self.bytes], |workspace| piecebook::replicates(workspace, &self.bytes, window, log, out.lend()));
         met.numbers[wanted.number] += 1;
         if got != wanted {
             return Err(format!("got {got:?}, expected {wanted:?}"));
@@ -226,4 +231,33 @@ pub fn longest(random: &mut Random, met: &mut Met) -> Option<String> {
         let tried = book.send(random, window, &log[..length], 65540, met);
         tried.err().map(|wrong| format!("{length} bytes: {wrong}"))
     })
+}
+
+/// Measurement logs, whole and in parts.
+pub fn stage(tally: &mut Tally, count: usize) {
+    let start = Instant::now();
+    let failed = tally.failed;
+    let mut random = Random(11);
+    let mut met = Met::default();
+    for number in 0..count {
+        let wrong = play(&mut random, number, &mut met);
+        tally.count(wrong.map(|wrong| format!("replicates, book {number}, {wrong}")));
+    }
+    let wrong = longest(&mut random, &mut met);
+    tally.count(wrong.map(|wrong| format!("replicates, {wrong}")));
+    tally.occurred("logs", &met.numbers, &[0, 1, 3, 4, 5, 6, 7, 9, 14, 19, 20, 21]);
+    tally.circles_occurred("logs", &met.seen);
+    for (what, count) in
+        [("later entry refused", met.later_entries), ("full window APART", met.full_apart), ("full window not APART", met.full_other)]
+    {
+        tally.count((count == 0).then(|| format!("no {what} occurred")));
+    }
+    let parts: usize = met.numbers.iter().sum();
+    let line = format!(
+        "replicates: {count} books, {parts} parts of logs, {} full windows APART; {} failed; {:.1} s",
+        met.full_apart,
+        tally.failed - failed,
+        start.elapsed().as_secs_f64()
+    );
+    tally.say(line);
 }

@@ -357,12 +357,13 @@ pub fn has_no_laying(pieces: usize, stored: &[Fact], void: &[bool]) -> bool {
         }
     }
     let filled_void = (0..pieces).any(|piece| void[piece] && sets[piece].iter().any(|&word| word != 0));
-    filled_void || stored.iter().any(|fact| {
-        let mut pairs = sets[fact.a].iter().zip(&sets[fact.b]);
-        match fact.kind {
-            Apart => pairs.any(|(x, y)| x & y != 0),
-            Notpart => pairs.all(|(x, y)| x & !y == 0),
-            Part | Meets => false,
-        }
-    })
+    filled_void
+        || stored.iter().any(|fact| {
+            let mut pairs = sets[fact.a].iter().zip(&sets[fact.b]);
+            match fact.kind {
+                Apart => pairs.any(|(x, y)| x & y != 0),
+                Notpart => pairs.all(|(x, y)| x & !y == 0),
+                Part | Meets => false,
+            }
+        })
 }

@@ -2,9 +2,11 @@
 //! alone. The counts of nodes and shadows, and a checksum of each part and of all rows of what pieces contain, were worked out once by another program, and stand here as numbers.
 
 use crate::books::{record, Bytes, Random, MEETS, PART};
+use crate::buffers::{Lent, LEAST};
 use crate::piecebook::{Outcome, FOLLOWS, OPEN};
 use crate::reference::{judge, Change, Edition, Lengths};
-use crate::{Lent, LEAST};
+use crate::tally::Tally;
+use std::time::Instant;
 
 #[derive(Clone, Copy)]
 enum Shape {
@@ -122,6 +124,19 @@ impl Named {
             found
         };
         (0..self.pieces).map(search).collect()
+    }
+
+    /// A book of a known shape.
+    pub fn stage(&self, tally: &mut Tally) {
+        let start = Instant::now();
+        let wrong = self.compare(&mut tally.random);
+        tally.count(wrong.map(|wrong| format!("shape {}: {wrong}", self.name)));
+        tally.say(format!(
+            "shape {}: every byte of its index, all PART claims; {} failed; {:.1} s",
+            self.name,
+            tally.failed,
+            start.elapsed().as_secs_f64()
+        ));
     }
 
     /// All claims that one piece is PART of another, as many to a call as there may be; what is wrong, if anything.

@@ -3,6 +3,9 @@
 use crate::books::*;
 use crate::piecebook::{self, Grids, Parts, FOLLOWS, MARKS, PARENTHESES, PLACES, SHADOWS};
 use crate::reference::{judge, Change, Edition, Lengths, Seen};
+use crate::tally::Tally;
+use crate::workspaces::lend;
+use std::time::Instant;
 
 const KINDS: [u8; 4] = [PART, APART, MEETS, NOTPART];
 
@@ -21,9 +24,10 @@ fn grid_of(pieces: usize, answers: &[u8]) -> [u64; 64] {
 }
 
 fn answered(book: &[u8], claims: &[u8]) -> Vec<u8> {
-    let mut index = Parts { parentheses: &mut [0; PARENTHESES], marks: &mut [0; MARKS], shadows: &mut [0; SHADOWS], places: &mut [0; PLACES] };
+    let mut index =
+        Parts { parentheses: &mut [0; PARENTHESES], marks: &mut [0; MARKS], shadows: &mut [0; SHADOWS], places: &mut [0; PLACES] };
     let mut answers = vec![0; claims.len() / 6];
-    piecebook::answer(book, claims, &mut index, &mut answers);
+    lend(&[book], |workspace| piecebook::answer(workspace, book, claims, &mut index, &mut answers));
     answers
 }
 
@@ -98,7 +102,7 @@ fn compare(book: &[u8], numbers: &mut [usize], seen: &mut Seen) -> Option<String
     };
     numbers[wanted.number] += 1;
     seen.note(book, wanted.number);
-    let got = piecebook::grid(book);
+    let got = lend(&[book], |workspace| piecebook::grid(workspace, book));
     (got != wanted).then(|| format!("got {:?}, expected {:?}, or another bit", (got.number, got.place), (wanted.number, wanted.place)))
 }
 
@@ -110,4 +114,24 @@ pub fn compare_all(random: &mut Random, count: usize, numbers: &mut [usize], see
             compare(&book, numbers, seen).map(|wrong| format!("book {number}: {wrong}; {book:?}"))
         })
         .collect()
+}
+
+/// The grids of books of few pieces.
+pub fn stage(tally: &mut Tally, count: usize) {
+    let start = Instant::now();
+    let failed = tally.failed;
+    let (mut numbers, mut seen) = ([0; 20], Seen::default());
+    for wrong in compare_all(&mut Random(64), count, &mut numbers, &mut seen) {
+        tally.count(wrong.map(|wrong| format!("grids, {wrong}")));
+    }
+    tally.occurred("grids", &numbers, &[0, 3, 5, 6, 7, 9, 14, 16, 19]);
+    tally.circles_occurred("grids", &seen);
+    let line = format!(
+        "grids: {count} books, {} accepted, {} circles; {} failed; {:.1} s",
+        numbers[0],
+        seen.circles(),
+        tally.failed - failed,
+        start.elapsed().as_secs_f64()
+    );
+    tally.say(line);
 }

@@ -153,7 +153,7 @@ module _ (s : List ℕ) (n : ℕ) (cs : List ℕ) where
 
 -- matrices that close the book's facts, and the answers to the claims on all facts that they tell
 module _ {s : List ℕ} {n : ℕ} {voids cs e order lead d t before : List ℕ} (S : Answerable s n voids cs e order lead d t (length before)) {u p q between : List ℕ}
-    (wholes : Holds u (wholeBit n (facts s))) (away : Holds p (awayBit n (facts s))) (outside : Holds q (outBit (voidOf voids) n (facts s)))
+    (wholes : Holds n u (wholeBit n (facts s))) (away : Holds n p (awayBit n (facts s))) (outside : Holds n q (outBit (voidOf voids) n (facts s)))
     (A : Answers (voidOf voids) 0 cs d u p t q before between) (kept : length between ≡ length before) where
   first : AnsweredFrom (marked s) 0 n (facts s) cs before between
   first =

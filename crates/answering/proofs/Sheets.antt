@@ -81,7 +81,7 @@ module _ (s : List ℕ) {n : ℕ} (sound : Counted s n) where
 
       -- and what the matrices of its closure tell of restricted claims is told of the sheets
       pub sheets-answered :
-          {d u p t q cs before answers : List ℕ} (r : Settled) → Settles void n run d t r → Holds u (wholeBit n (facts run)) → Holds p (awayBit n (facts run)) → Holds q (outBit void n (facts run))
+          {d u p t q cs before answers : List ℕ} (r : Settled) → Settles void n run d t r → Holds n u (wholeBit n (facts run)) → Holds n p (awayBit n (facts run)) → Holds n q (outBit void n (facts run))
           → claimsCheck n cs ≡ claims.Accepted → Answers void 1 cs d u p t q before answers → AnsweredFrom void 1 n (facts (sheets s)) cs before answers
       sheets-answered r S wholes away outside fit A =
           let O = sheets-opened r S in

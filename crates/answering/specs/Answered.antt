@@ -58,5 +58,5 @@ pub record Answerable (s : List ℕ) (n : ℕ) (voids cs e order lead d t : List
   pub fit : claimsCheck n cs ≡ claims.Accepted
   pub rooms : room ≡ records cs
   pub stepped : Stepped n (facts s) e order lead
-  pub parts : Holds d (partBit n (facts s))
-  pub toward : Holds t (towardBit (voidOf voids) n (facts s))
+  pub parts : Holds n d (partBit n (facts s))
+  pub toward : Holds n t (towardBit (voidOf voids) n (facts s))

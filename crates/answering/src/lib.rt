@@ -92,7 +92,8 @@ fn answer_restricted(
     answer_each(1, claims, voids, d, u, p, t, q, answers);
 }
 
-// Answers the claims on a book that is not contradictory: e are its steps, joined in the order that is lent, d and t its first two matrices. Without claims the others are not asked for.
+// Answers the claims on a book that is not contradictory: e are its steps, joined in the order that is lent, d and t its first two matrices. The others are scratch; without
+// claims they are not touched.
 pub fn answer_all(
     book: &[u8],
     n: usize,
@@ -103,6 +104,9 @@ pub fn answer_all(
     lead: &mut [u16; 2048],
     d: &mut [u64; 65536],
     t: &mut [u64; 65536],
+    u: &mut [u64; 65536],
+    p: &mut [u64; 65536],
+    q: &mut [u64; 65536],
     answers: &mut [u8],
 )
     requires { ⌜ Answerable (now book) n (now voids) (now claims) (now e) (now order) (now lead) (now d) (now t) (length (now answers)) ⌝ }
@@ -111,11 +115,8 @@ pub fn answer_all(
     if claims.len() < 6 {
         return;
     }
-    let mut u = [0u64; 65536];
-    let mut p = [0u64; 65536];
-    let mut q = [0u64; 65536];
-    closure::complete(book, n, voids, e, order, lead, &mut u, &mut p, &mut q);
-    answer_each(0, claims, voids, d, &u, &p, t, &q, answers);
+    closure::complete(book, n, voids, e, order, lead, u, p, q);
+    answer_each(0, claims, voids, d, u, p, t, q, answers);
     if !some_restricted(claims) {
         return;
     }
@@ -129,9 +130,9 @@ pub fn answer_all(
         lead,
         d,
         t,
-        &mut u,
-        &mut p,
-        &mut q,
+        u,
+        p,
+        q,
         answers,
     );
 }

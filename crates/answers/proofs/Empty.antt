@@ -42,28 +42,21 @@ use Rattle.outcomes.specs.Call.{byRuns, byClaims, byBook, outcome, indexed, lef
 use Rattle.outcomes.specs.Outcome.{number}
 use Rattle.outcomes.specs.declared.Outcome.{Outcome}
 use Rattle.outcomes.specs.declared.Outcome.the-variants.{Accepted, Refused}
-
--- one node: parentheses 10, no mark, no shadow, piece 0 at place 0
-abbrev pub alone : Lent → List ℕ → Lent
-alone l answers =
-    lent (front (1 ∷ replicate 2559 0) (l .parens)) (front (replicate 1280 0) (l .marks)) (front (replicate 8192 0) (l .shadows)) (front (replicate 2048 0) (l .places))
-    (front answers (l .answers))
+use Rattle.answers.specs.Empty.{EmptyOutcome, EmptyLeft, EmptyAnswers, NeverTwo}
 
 by-runs : byRuns [] 1 ≡ Accepted 1 1 0
 unfolding byRuns bookVisits edges groups.groups groups.pair groups.number groups.lowest groups.first-of groups.same groups.lies tally entries factsOf shortestClash first clash any anyBelow tab table entry storing turned parting marked step rounds containment meets joined partIn visitsOf whole under hang parts keep range parent order breadth find visits shadows
 by-runs = refl
 
-module _ (cs : List ℕ) (l : Lent) (long : shortLent cs l ≡ false) (fit : claimsCheck 1 cs ≡ claims.Accepted) where
-  pub empty-outcome : outcome [] cs l ≡ Accepted 1 1 0
-  unfolding outcome byBook checkBy scan piecesUpTo byClaims
-  empty-outcome = rw (long, outcome, fit) by-runs
+pub empty-outcome : EmptyOutcome
+unfolding outcome byBook checkBy scan piecesUpTo byClaims
+empty-outcome cs l long fit = rw (long, outcome, fit) by-runs
 
-  pub empty-left : left [] cs l (outcome [] cs l) ≡ alone l (answersTo [] 1 cs)
-  unfolding left indexed bookParens bookVisits bookPlaces edges groups.groups groups.pair groups.number groups.lowest groups.first-of groups.same groups.lies tally table entry rounds first entries tab factsOf any anyBelow storing joined partIn parenthesesOf visitsOf whole under hang parts keep range parent order breadth find shape enc parens visits isNode isShadow place marks shadows shadowList placeList value packed padded
-  empty-left = rw empty-outcome refl
+pub empty-left : EmptyLeft
+unfolding left indexed bookParens bookVisits bookPlaces edges groups.groups groups.pair groups.number groups.lowest groups.first-of groups.same groups.lies tally table entry rounds first entries tab factsOf any anyBelow storing joined partIn parenthesesOf visitsOf whole under hang parts keep range parent order breadth find shape enc parens visits isNode isShadow place marks shadows shadowList placeList value packed padded
+empty-left cs l long fit = rw (empty-outcome cs l long fit) refl
 
--- PART 0 0 and MEETS 0 0 follow, and their opposites are denied
-pub empty-answers : answersTo [] 1 (bytes 1 0 0 0 ++ bytes 2 0 0 0 ++ bytes 3 0 0 0 ++ bytes 4 0 0 0) ≡ 1 ∷ 2 ∷ 1 ∷ 2 ∷ []
+pub empty-answers : EmptyAnswers
 unfolding answersTo claimed picked recordAt factOf entries factsOf verdict judge follows any anyBelow tab table entry storing turned parting marked step rounds containment apart meets notpart derived
 empty-answers = refl
 
@@ -95,6 +88,6 @@ other VoidForm e = omega arith
 other LogLength e = omega arith
 other ReplicatePiece e = omega arith
 
-pub never-two : (o : Outcome) → number o ≡ 2 → ⊥
+pub never-two : NeverTwo
 never-two (Accepted pieces nodes shadows) e = omega arith
 never-two (Refused r i) e = other r e

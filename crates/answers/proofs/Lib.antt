@@ -2,3 +2,6 @@ pub mod Judges
 pub mod Calls
 pub mod Empty
 pub mod Fresh
+pub mod Examples
+pub mod Circles
+pub mod RowNumbers

@@ -1,1 +1,5 @@
 pub mod Judging
+pub mod Examples
+pub mod Empty
+pub mod Circles
+pub mod RowNumbers

@@ -36,6 +36,9 @@ pub fn judge_in(
     e: &mut [u64; 65536],
     d: &mut [u64; 65536],
     t: &mut [u64; 65536],
+    u: &mut [u64; 65536],
+    p: &mut [u64; 65536],
+    q: &mut [u64; 65536],
     parens: &mut [u8],
     marks: &mut [u8],
     shadows: &mut [u16],
@@ -79,6 +82,9 @@ pub fn judge_in(
                 &mut lead,
                 d,
                 t,
+                u,
+                p,
+                q,
                 answers,
             );
             Outcome::Accepted(n, nodes, shadowed)
@@ -129,7 +135,7 @@ fn check_rows(book: &[u8], claims: &[u8]) -> BookCheck
     }
 }
 
-// Answers the claims about the book and writes the index. Demands 1 to 3 stand in the promises.
+// Answers the claims about the book and writes the index. Demands 1 to 3 stand in the promises. The six matrices are scratch: what they hold at entry does not matter, and at exit it is free. Demands 1 to 3 stand in the promises.
 pub fn answer_claims(
     book: &[u8],
     claims: &[u8],
@@ -138,6 +144,12 @@ pub fn answer_claims(
     shadows: &mut [u16],
     places: &mut [u16],
     answers: &mut [u8],
+    e: &mut [u64; 65536],
+    d: &mut [u64; 65536],
+    t: &mut [u64; 65536],
+    u: &mut [u64; 65536],
+    p: &mut [u64; 65536],
+    q: &mut [u64; 65536],
 ) -> Outcome
     ensures determined { λ r. ⌜ Determined (now (book .entry)) (now (claims .entry)) (lent (now (parens .entry)) (now (marks .entry)) (now (shadows .entry)) (now (places .entry)) (now (answers .entry))) r (lent (now (parens .exit)) (now (marks .exit)) (now (shadows .exit)) (now (places .exit)) (now (answers .exit))) ⌝ }
     ensures demand2 { λ r. ⌜ Demand2 (now (book .entry)) (now (claims .entry)) (now (answers .exit)) (number r) ⌝ }
@@ -160,16 +172,16 @@ pub fn answer_claims(
     match checked {
         BookCheck::Refused(refusal, place) => Outcome::Refused(refusal, place),
         BookCheck::Accepted(n) => {
-            let mut e = [0u64; 65536];
-            let mut d = [0u64; 65536];
-            let mut t = [0u64; 65536];
             judge_in(
                 book,
                 n,
                 claims,
-                &mut e,
-                &mut d,
-                &mut t,
+                e,
+                d,
+                t,
+                u,
+                p,
+                q,
                 &mut parens[..2560],
                 &mut marks[..1280],
                 &mut shadows[..8192],
@@ -187,6 +199,12 @@ pub fn write_index(
     marks: &mut [u8],
     shadows: &mut [u16],
     places: &mut [u16],
+    e: &mut [u64; 65536],
+    d: &mut [u64; 65536],
+    t: &mut [u64; 65536],
+    u: &mut [u64; 65536],
+    p: &mut [u64; 65536],
+    q: &mut [u64; 65536],
 ) -> Outcome
     ensures determined { λ r. ⌜ Determined (now (book .entry)) [] (lent (now (parens .entry)) (now (marks .entry)) (now (shadows .entry)) (now (places .entry)) []) r (lent (now (parens .exit)) (now (marks .exit)) (now (shadows .exit)) (now (places .exit)) []) ⌝ }
     ensures demand2 { λ r. ⌜ Demand2 (now (book .entry)) [] [] (number r) ⌝ }
@@ -204,16 +222,42 @@ pub fn write_index(
         shadows,
         places,
         &mut answers[..0],
+        e,
+        d,
+        t,
+        u,
+        p,
+        q,
     )
 }
 
 // A fresh call on a run of records: rows 3 to 14.
-pub fn judge_run(run: &[u8]) -> Outcome
+pub fn judge_run(
+    run: &[u8],
+    e: &mut [u64; 65536],
+    d: &mut [u64; 65536],
+    t: &mut [u64; 65536],
+    u: &mut [u64; 65536],
+    p: &mut [u64; 65536],
+    q: &mut [u64; 65536],
+) -> Outcome
     ensures { λ r. ⌜ r ≡ freshCall (now (run .entry)) [] ⌝ }
 {
     let mut parens = [0u8; 2560];
     let mut marks = [0u8; 1280];
     let mut shadows = [0u16; 8192];
     let mut places = [0u16; 2048];
-    write_index(run, &mut parens, &mut marks, &mut shadows, &mut places)
+    write_index(
+        run,
+        &mut parens,
+        &mut marks,
+        &mut shadows,
+        &mut places,
+        e,
+        d,
+        t,
+        u,
+        p,
+        q,
+    )
 }

@@ -21,6 +21,7 @@ use Rattle.areas.specs.Area.{unorderedKind, rowOf, columnOf, numberOf, stored, 
 use Rattle.ranges.specs.Between.{within, inside, between}
 use Rattle.ranges.specs.Question.{Answers, storedBetween}
 use Rattle.catalog.specs.Call.{placesOf, areaOf}
+use Rattle.catalog.specs.Questions.{AnswersStored}
 use Rattle.lists.proofs.Passed.{passing-at, passing-back, passing-less}
 use Rattle.areas.proofs.Crosses.{either}
 use Rattle.catalog.proofs.Books.{book-bounded, places-small}
@@ -103,9 +104,7 @@ module _ (rf rt cf ct : ℕ) where
     between-stored = same-truth _ _ to from
 
 -- THE THEOREM: on an area that the catalog of an accepted book left, and its count, the question is answered by the stored facts
-pub answers-stored :
-    (s : List ℕ) (n : ℕ) → bookCheck s ≡ book.Accepted n → (k rf rt cf ct : ℕ) (old : List ℕ) (answer : Bool)
-    → Answers (filled (areaOf s n k) old) (length (areaOf s n k)) (unorderedKind k) rf rt cf ct answer → answer ≡ storedBetween (facts s) k (placesOf s n) rf rt cf ct
+pub answers-stored : AnswersStored
 unfolding areaOf
 answers-stored s n sound k rf rt cf ct old answer A =
     A (stored (facts s) k (placesOf s n)) old refl refl

@@ -3,3 +3,4 @@ pub mod Calls
 pub mod Asking
 pub mod Certainty
 pub mod Spans
+pub mod Sizes

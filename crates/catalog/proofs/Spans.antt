@@ -31,6 +31,7 @@ use Rattle.outcomes.specs.Call.{pairsOf}
 use Rattle.outcomes.proofs.Buffers.{packed-long}
 use Rattle.catalog.specs.Call.{placesOf}
 use Rattle.ranges.specs.Subtree.{endOf, rangeFrom, rangeTo, Spanned}
+use Rattle.catalog.specs.Questions.{SubtreesSpanned}
 use Rattle.catalog.proofs.Books.{places-long}
 use Rattle.ranges.proofs.Subtrees.{end-there, range-some}
 
@@ -83,13 +84,16 @@ module _ (s : List ℕ) (n : ℕ) (sound : bookCheck s ≡ book.Accepted n) (old
       sym (ap (λ (bs : List Bool). after bs P) (ap bits t ∙ packed-is 2560 w r)
       ∙ after-enc (on.shape (whole k edge)) (replicate (20480 - length w) false) P small ∙ omega arith)
 
-  -- THE THEOREM: the range in what a catalog leaves, that of the piece's group
-  pub spanned : Spanned (groups n (pairsOf s)) (edges n (pairsOf s)) (number n (pairsOf s) h) (rangeFrom parens places h) (rangeTo parens places h)
+  spans : Spanned (groups n (pairsOf s)) (edges n (pairsOf s)) (number n (pairsOf s) h) (rangeFrom parens places h) (rangeTo parens places h)
   unfolding P bookVisits
-  spanned =
+  spans =
       let long = front-long 2560 (on.packed 2560 (bookParens n (pairsOf s))) old (packed-long 2560 _) in
       let f = settleable s n sound .bounded .fits in
       let wide = front-long 2048 (placesOf s n) old′ (places-long s n sound) in
       let e = end-there parens places h P (suc (P + size (children (on.shape (whole (groups n (pairsOf s)) (edges n (pairsOf s)))) P))) long (omega arith) (sym placed) ends in
       let r = range-some parens places h (suc (P + size (children (on.shape (whole (groups n (pairsOf s)) (edges n (pairsOf s)))) P))) P e (λ z. omega arith) (sym placed) in
       record { from-is = sym (r .0); to-is = omega (arith, r .1) }
+
+-- THE THEOREM: the range in what a catalog leaves, that of the piece's group
+pub spanned : SubtreesSpanned
+spanned s n sound old old′ h l = spans s n sound old old′ h l

@@ -51,8 +51,8 @@ pub record Settled (s : List ℕ) (n : ℕ) (voids d t places : List ℕ) : Type
   pub sound : bookCheck s ≡ book.Accepted n
   pub void : MarksOf s voids
   pub free : false ≡ clash (voidOf voids) n (facts s)
-  pub parts : Holds d (partBit n (facts s))
-  pub toward : Holds t (towardBit (voidOf voids) n (facts s))
+  pub parts : Holds n d (partBit n (facts s))
+  pub toward : Holds n t (towardBit (voidOf voids) n (facts s))
   pub placed : places ≡ placesOf s n
 
 -- the list, the areas and the counts of a book

@@ -3,3 +3,5 @@ pub mod Call
 pub mod Filling
 pub mod Outcome
 pub mod Certain
+pub mod Sizes
+pub mod Questions

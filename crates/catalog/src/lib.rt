@@ -79,26 +79,26 @@ fn judge(
     meets: &mut [u16],
     apart: &mut [u16],
     notpart: &mut [u16],
+    e: &mut [u64; 65536],
+    d: &mut [u64; 65536],
+    t: &mut [u64; 65536],
 ) -> Listing
     requires { ⌜ Asked n kind g × Ready (now book) n (lent (now parens) (now marks) (now shadows) (now places) (now list) (now meets) (now apart) (now notpart)) ⌝ }
     ensures { λ r. ⌜ Judged (now (book .entry)) kind g n (lent (now (parens .entry)) (now (marks .entry)) (now (shadows .entry)) (now (places .entry)) (now (list .entry)) (now (meets .entry)) (now (apart .entry)) (now (notpart .entry))) r (lent (now (parens .exit)) (now (marks .exit)) (now (shadows .exit)) (now (places .exit)) (now (list .exit)) (now (meets .exit)) (now (apart .exit)) (now (notpart .exit))) ⌝ }
 {
     let mut voids = [0u64; 32];
     storing::marking::mark_voids(book, &mut voids);
-    let mut e = [0u64; 65536];
     let mut order = [0u16; 2048];
     let mut lead = [0u16; 2048];
-    let mut d = [0u64; 65536];
-    let mut t = [0u64; 65536];
     let settled = settling::settle(
         book,
         n,
         &voids,
-        &mut e,
+        e,
         &mut order,
         &mut lead,
-        &mut d,
-        &mut t,
+        d,
+        t,
         parens,
         marks,
         shadows,
@@ -118,9 +118,9 @@ fn judge(
                 nodes,
                 shadowed,
                 &voids,
-                &mut e,
-                &d,
-                &t,
+                e,
+                d,
+                t,
                 places,
                 list,
                 meets,
@@ -183,6 +183,9 @@ pub fn write_catalog(
     meets: &mut [u16],
     apart: &mut [u16],
     notpart: &mut [u16],
+    e: &mut [u64; 65536],
+    d: &mut [u64; 65536],
+    t: &mut [u64; 65536],
 ) -> Listing
     ensures { λ r. ⌜ Determined (now (book .entry)) kind g (lent (now (parens .entry)) (now (marks .entry)) (now (shadows .entry)) (now (places .entry)) (now (list .entry)) (now (meets .entry)) (now (apart .entry)) (now (notpart .entry))) r (lent (now (parens .exit)) (now (marks .exit)) (now (shadows .exit)) (now (places .exit)) (now (list .exit)) (now (meets .exit)) (now (apart .exit)) (now (notpart .exit))) ⌝ }
 {
@@ -208,6 +211,9 @@ pub fn write_catalog(
             meets,
             apart,
             notpart,
+            e,
+            d,
+            t,
         ),
     }
 }

@@ -6,11 +6,10 @@ use mathlib.Core.List.{List}
 use native.Mathlib.Omega.{arith}
 use native.Mathlib.Numerals.{add-one}
 use borrow.Author.Tests.{eq-eqb, ne-eqb}
-use lib.ListN.{length, replicate}
+use lib.ListN.{length}
 use Rattle.lists.specs.Any.{anyBelow}
 use Rattle.lists.specs.Front.{front}
-use Rattle.relation.specs.Matrix.{bitOf, common, United}
-use Rattle.relation.proofs.Cleared.{cleared}
+use Rattle.relation.specs.Matrix.{bitOf, common, Blank, United}
 use Rattle.rules.specs.Fact.{Fact, APART, factOf, Within, AllWithin}
 use Rattle.rules.specs.Follows.{storing, turned, follows, clash}
 use Rattle.rules.proofs.Facts.{storing-same}
@@ -55,9 +54,9 @@ module _ (d : List ℕ) (g : ℕ) (r : Record) where
       }
 
 module _ (d s : List ℕ) (g : ℕ) where
-  pub parted-none : (m : List ℕ) (l : ℕ) → m ≡ replicate l 0 → Parted d s g 0 m
+  pub parted-none : (m : List ℕ) → Blank 1 m → Parted d s g 0 m
   unfolding anyBelow
-  parted-none m l e = record { bits = λ x h. rw e (cleared l 0 x) }
+  parted-none m C = record { bits = λ x h. C .bits 0 x (omega arith) h }
 
   pub parted-more :
       (m m′ : List ℕ) (i : ℕ) (r : Record) → r ≡ recordAt s i → Widened m m′ (parting d g r) → Parted d s g i m → Parted d s g (i + 1) m′
@@ -106,7 +105,7 @@ claim-within n k g x lg lx =
 
 -- a stored APART of a piece that x is in and one that g is in
 apart-shown :
-    {n : ℕ} {fs : List Fact} (B : Bounded n fs) {d : List ℕ} → Holds d (partBit n fs) → {g x : ℕ} → g < n → x < n
+    {n : ℕ} {fs : List Fact} (B : Bounded n fs) {d : List ℕ} → Holds n d (partBit n fs) → {g x : ℕ} → g < n → x < n
     → storing fs 2 (across d g x) ≡ storing fs 2 (turned (λ a b. inside n fs x a && inside n fs g b))
 unfolding across turned factOf
 apart-shown {n} {fs} B {d} D {g} {x} lg lx =
@@ -117,7 +116,7 @@ apart-shown {n} {fs} B {d} D {g} {x} lg lx =
     (ap₂ _&&_ (part-told B lg (w .1) D) (part-told B lx (w .0) D) ∙ and-comm (inside n fs g b) (inside n fs x a))
     (ap₂ _&&_ (part-told B lg (w .0) D) (part-told B lx (w .1) D) ∙ and-comm (inside n fs g a) (inside n fs x b)))
 
-module _ (void : ℕ → Bool) (s : List ℕ) (n : ℕ) (d t m : List ℕ) (B : Bounded n (facts s)) (D : Holds d (partBit n (facts s))) (T : Holds t (towardBit void n (facts s))) where
+module _ (void : ℕ → Bool) (s : List ℕ) (n : ℕ) (d t m : List ℕ) (B : Bounded n (facts s)) (D : Holds n d (partBit n (facts s))) (T : Holds n t (towardBit void n (facts s))) where
   -- what the matrices tell is what the stored facts tell
   shown-stored :
       (k g x : ℕ) → 1 ≤ k → k ≤ 3 → g < n → x < n → (k ≡ 2 → Parted d s g (records s) m) → shown d t m k g x ≡ byStored void n (facts s) (factOf k x g)

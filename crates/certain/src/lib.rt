@@ -43,7 +43,7 @@ fn part_from(run: &[u8], g: usize, d: &[u64], m: &mut [u64])
     requires { ⌜ (length (now m) ≡ 65536) × (length (now d) ≡ 65536) × (g < 2048) × AllWithin 2048 (facts (now run)) ⌝ }
     ensures { λ _. ⌜ Parted (now (d .entry)) (now (run .entry)) g (length (now (run .entry)) / 6) (now (m .exit)) ⌝ }
 {
-    relation::clear(m);
+    relation::clear_rows(m, 1);
     let n = run.len() / 6;
     let mut i: usize = 0;
     while i < n {
@@ -118,7 +118,7 @@ pub fn list_pieces(
     m: &mut [u64],
     list: &mut [u16],
 ) -> usize
-    requires { ⌜ Bounded n (facts (now run)) × (1 ≤ kind) × (kind ≤ 3) × (g < n) × (n ≤ length (now list)) × Holds (now d) (partBit n (facts (now run))) × Holds (now t) (towardBit (voidOf (now voids)) n (facts (now run))) × (length (now m) ≡ 65536) × Voids (now voids) × (false ≡ clash (voidOf (now voids)) n (facts (now run))) ⌝ }
+    requires { ⌜ Bounded n (facts (now run)) × (1 ≤ kind) × (kind ≤ 3) × (g < n) × (n ≤ length (now list)) × Holds n (now d) (partBit n (facts (now run))) × Holds n (now t) (towardBit (voidOf (now voids)) n (facts (now run))) × (length (now m) ≡ 65536) × Voids (now voids) × (false ≡ clash (voidOf (now voids)) n (facts (now run))) ⌝ }
     ensures { λ k. ⌜ (now (list .exit) ≡ front (passing (λ x. follows (voidOf (now (voids .entry))) n (facts (now (run .entry))) (factOf kind x g)) n) (now (list .entry))) × (k ≡ length (passing (λ x. follows (voidOf (now (voids .entry))) n (facts (now (run .entry))) (factOf kind x g)) n)) ⌝ }
 {
     if kind != 2 {

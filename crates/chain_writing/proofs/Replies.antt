@@ -1,6 +1,6 @@
 -- The call put together: the steps as a run of their own, the answer, and the rows. Assumes nothing.
 use Prim.Native.Nat.{ℕ, zero, suc, _+_, _-_, _*_, _/_, _%_, _≤_, _<_}
-use mathlib.Core.Path.{_≡_, refl, sym, ap, subst, _∙_}
+use mathlib.Core.Path.{_≡_, refl, sym, ap, ap₂, subst, _∙_}
 use mathlib.Core.Logic.{_⊎_, inl, inr}
 use mathlib.Core.Bool.{Bool, true, false, _&&_, _||_, false≢true}
 use mathlib.Core.List.{List, [], _++_}
@@ -27,12 +27,13 @@ use Rattle.records.specs.Facts.{saying, facts}
 use Rattle.records.specs.Kept.{picked}
 use Rattle.records.specs.Marked.{marked}
 use Rattle.records.specs.Check.{bookCheck, claimsCheck}
-use Rattle.records.proofs.Accepted.{accepted-claims, says-left, says-right}
+use Rattle.records.proofs.Accepted.{accepted, accepted-claims, says-left, says-right}
 use Rattle.storing.specs.Void.{voidOf}
 use Rattle.storing.specs.Stored.{edgeBit}
 use Rattle.storing.specs.Closed.{Holds}
 use Rattle.opening.specs.Opened.{Opened}
 use Rattle.settling.specs.Settled.{Clashed}
+use Rattle.settling.proofs.Settling.{settleable}
 use Rattle.verdicts.specs.Answers.{answerByte}
 use Rattle.verdicts.specs.declared.Answer.{Answer}
 use Rattle.verdicts.specs.declared.Answer.the-variants.{Follows, Denied, Open}
@@ -43,9 +44,10 @@ use Rattle.outcomes.specs.One.{refuseIf}
 use Rattle.outcomes.specs.declared.Outcome.the-variants as call
 use Rattle.answers.proofs.Judges.{refuses, accepts}
 use Rattle.steps.specs.declared.Step.{Step}
-use Rattle.steps.specs.Step.{stepAt, steps, shows}
+use Rattle.steps.specs.Step.{stepAt, steps, showing, shows}
 use Rattle.steps.specs.Citing.{Cited, citing}
 use Rattle.chain_steps.specs.Chain.{allOk, concludes, chainOk}
+use Rattle.chain_steps.specs.Twice.{alike, Differ, NoneTwice}
 use Rattle.passing.specs.Call.{asked, passes}
 use Rattle.chain_steps.proofs.Kept.{step-kept, all-kept}
 use Rattle.chain_steps.proofs.Passing.{all-none}
@@ -120,9 +122,19 @@ module _ (c c′ : List ℕ) (r : ℕ) (room : 10 * r ≤ length c) (E : Edited 
         pick (inl q) = left-or _ (subst (λ (f : Fact). shows (stepAt (take (10 * r) c′) (r - 1)) f ≡ true) q last)
         pick (inr q) = right-or (shows (stepAt (take (10 * r) c′) (r - 1)) f) (subst (λ (f : Fact). shows (stepAt (take (10 * r) c′) (r - 1)) f ≡ true) q last)
 
+module _ (c c′ : List ℕ) (r : ℕ) (room : 10 * r ≤ length c) (E : Edited c c′ 0 (10 * r)) where
+  -- no two of them show the same
+  pub cut-twice : Differ c′ 0 r → NoneTwice (take (10 * r) c′)
+  cut-twice d i j a b h =
+      let l = long c c′ r room E in
+      ap₂ alike (same i (omega arith)) (same j (omega arith)) ∙ d i j a b (omega arith)
+    where
+      same : (i : ℕ) → i < r → stepAt (take (10 * r) c′) i ≡ stepAt c′ i
+      same i l = step-kept c′ (take (10 * r) c′) i (λ j k. getD-take (10 * r) c′ j 0 (omega arith))
+
 -- ---- the answer
 
-opposite-of : (k a b : ℕ) → 1 ≤ k → k ≤ 4 → factOf (5 - k) a b ≡ opposite (factOf k a b)
+pub opposite-of : (k a b : ℕ) → 1 ≤ k → k ≤ 4 → factOf (5 - k) a b ≡ opposite (factOf k a b)
 unfolding factOf
 opposite-of zero a b l h = absurd (omega arith)
 opposite-of (suc zero) a b l h = refl
@@ -130,6 +142,16 @@ opposite-of (suc (suc zero)) a b l h = refl
 opposite-of (suc (suc (suc zero))) a b l h = refl
 opposite-of (suc (suc (suc (suc zero)))) a b l h = refl
 opposite-of (suc (suc (suc (suc (suc k))))) a b l h = absurd (omega arith)
+
+-- a step shows the opposite of a fact of kind k by the number 5 - k
+pub shows-opposite : (x : Step) (k a b : ℕ) → 1 ≤ k → k ≤ 4 → showing x (5 - k) a b ≡ shows x (opposite (factOf k a b))
+unfolding factOf
+shows-opposite x zero a b l h = absurd (omega arith)
+shows-opposite x (suc zero) a b l h = refl
+shows-opposite x (suc (suc zero)) a b l h = refl
+shows-opposite x (suc (suc (suc zero))) a b l h = refl
+shows-opposite x (suc (suc (suc (suc zero)))) a b l h = refl
+shows-opposite x (suc (suc (suc (suc (suc k))))) a b l h = absurd (omega arith)
 
 -- the byte of an answer is the verdict
 pub answered-byte : (n : ℕ) (claim : Record) (s : List ℕ) → answerByte (answerTo n claim s) ≡ verdict (marked s) n (facts (picked s claim)) (saying claim)
@@ -148,27 +170,27 @@ module _ (n : ℕ) (claim : Record) (s c : List ℕ) (room : 164000 ≤ length c
   abbrev Kind : Bool → Bool → Type 0
   Kind x y = (Fol (saying claim) ≡ x) × (Fol (opposite (saying claim)) ≡ y)
 
-  is-answer : (x y : Bool) → Kind x y → answerFor x y ≡ answerTo n claim s
+  pub is-answer : (x y : Bool) → Kind x y → answerFor x y ≡ answerTo n claim s
   unfolding answerTo
   is-answer x y k = sym (rw (k .0, k .1) refl)
 
   -- steps that show the claim or its opposite
-  spoken :
-      (a : Answer) → a ≡ answerTo n claim s → {c′ : List ℕ} {r : ℕ} (g : Fact) → (g ≡ saying claim) ⊎ (g ≡ opposite (saying claim)) → Writes n (citing claim s) g 12285 c 0 c′ r
+  pub spoken :
+      (a : Answer) → a ≡ answerTo n claim s → {c′ : List ℕ} {r : ℕ} (g : Fact) → (g ≡ saying claim) ⊎ (g ≡ opposite (saying claim)) → Writes n (citing claim s) g 12285 c 0 c′ r → Differ c′ 0 r
       → shown (Answered a) ≡ true → Answering n claim s c (record { reply = Answered a; steps = r }) c′
-  spoken a q {c′} {r} g w W t =
+  spoken a q {c′} {r} g w W D t =
       let l = W .more in
       let h : r ≤ 12285 = W .few in
       record {
         reply-is = ap Answered q;
-        steps-are = λ z. (omega arith, omega arith, cut-chain c c′ r (omega arith) (W .edited) n (citing claim s) (saying claim) g w (omega arith) (omega arith) (W .ok (all-none n (citing claim s) c)) (W .shown));
+        steps-are = λ z. (omega arith, omega arith, cut-chain c c′ r (omega arith) (W .edited) n (citing claim s) (saying claim) g w (omega arith) (omega arith) (W .ok (all-none n (citing claim s) c)) (W .shown), cut-twice c c′ r (omega arith) (W .edited) D);
         none = λ z. absurd (false≢true (sym z ∙ t));
         behind = cut-behind c c′ r (omega arith) (W .edited);
       }
 
   pub says-follows : {c′ : List ℕ} {m : ℕ} → 0 < m → Chained n claim s (saying claim) c c′ m → Answering n claim s c (record { reply = Answered Follows; steps = m }) c′
   unfolding answerFor
-  says-follows l C = let p = C .some l in spoken Follows (is-answer true _ (p .1, refl)) (saying claim) (inl refl) (p .0) refl
+  says-follows l C = let p = C .some l in spoken Follows (is-answer true _ (p .1, refl)) (saying claim) (inl refl) (p .0) (p .2) refl
 
   module _ (t : stated claim ≡ true) {c₁ : List ℕ} {m : ℕ} (none : m ≤ 0) (C : Chained n claim s (saying claim) c c₁ m) where
     first-none : (c₁ ≡ c) × (Fol (saying claim) ≡ false)
@@ -184,7 +206,7 @@ module _ (n : ℕ) (claim : Record) (s c : List ℕ) (room : 164000 ≤ length c
     says-denied {c₂} {k} l D =
         let p = D .some l in
         let W = subst (λ (x : List ℕ). Writes n (citing claim s) (factOf (5 - claim .kind) (claim .a) (claim .b)) 12285 x 0 c₂ k) (first-none .0) (p .0) in
-        spoken Denied (is-answer false true (first-none .1, ap Fol (sym other-is) ∙ p .1)) (factOf (5 - claim .kind) (claim .a) (claim .b)) (inr other-is) W refl
+        spoken Denied (is-answer false true (first-none .1, ap Fol (sym other-is) ∙ p .1)) (factOf (5 - claim .kind) (claim .a) (claim .b)) (inr other-is) W (p .2) refl
 
     pub says-open :
         {c₂ : List ℕ} {k : ℕ} → k ≤ 0 → Chained n claim s (factOf (5 - claim .kind) (claim .a) (claim .b)) c₁ c₂ k
@@ -203,10 +225,11 @@ module _ (n : ℕ) (claim : Record) (s c : List ℕ) (room : 164000 ≤ length c
 
 pub ground-of :
     (n : ℕ) (claim : Record) (s voids run : List ℕ) {e d t : List ℕ} → bookCheck s ≡ book.Accepted n → MarksOf s voids → run ≡ picked s claim
-    → Opened (voidOf voids) n (facts run) d t false → Holds e (edgeBit n (facts run)) → Ground n claim s voids e d t
+    → Opened (voidOf voids) n (facts run) d t false → Holds n e (edgeBit n (facts run)) → Ground n claim s voids e d t
 ground-of n claim s voids run sound M q O E =
     record {
-      sound = sound;
+      few = accepted s n sound .few;
+      bounded = settleable s n sound .bounded;
       void = M;
       free = rw (M .1, q) at (O .is);
       steps = rw q at E;
@@ -277,7 +300,7 @@ module _ (s cs c : List ℕ) where
               steps-are = λ z.
                   let p = J .steps-are z in
                   let q = J .accepted z in
-                  record { some = p .0; few = p .1; written-passes = sym (passes-chain s cs (take (10 * r .steps) c′) n sound six e (q .0) (q .1) (q .2)) ∙ p .2 };
+                  record { some = p .0; few = p .1; written-passes = sym (passes-chain s cs (take (10 * r .steps) c′) n sound six e (q .0) (q .1) (q .2)) ∙ p .2; none-twice = p .3 };
               none = J .none;
               behind = J .behind;
             }

@@ -22,6 +22,7 @@ use Rattle.outcomes.specs.declared.Outcome.{Outcome}
 use Rattle.outcomes.specs.declared.Outcome.the-variants as call
 use Rattle.steps.specs.Citing.{citing}
 use Rattle.chain_steps.specs.Chain.{chainOk}
+use Rattle.chain_steps.specs.Twice.{NoneTwice}
 use Rattle.passing.specs.Call.{asked, passes}
 use Rattle.chain_writing.specs.declared.Reply.{Reply}
 use Rattle.chain_writing.specs.declared.Reply.the-variants.{Answered, Refused}
@@ -57,11 +58,12 @@ shown (Refused r i) = false
 
 -- ---- the steps
 
--- the first r steps of c′, 1 to 16,400 of them, pass
+-- the first r steps of c′, 1 to 16,400 of them, pass, and no two of them show the same
 pub record Steps (s cs c′ : List ℕ) (r : ℕ) : Type 0 where
   pub some : 1 ≤ r
   pub few : r ≤ 16400
   pub written-passes : passes s cs (take (10 * r) c′) ≡ true
+  pub none-twice : NoneTwice (take (10 * r) c′)
 
 pub record Written (s cs c : List ℕ) (r : Chain) (c′ : List ℕ) : Type 0 where
   pub reply-is : r .reply ≡ reply s cs (length c)
@@ -74,14 +76,14 @@ pub record Written (s cs c : List ℕ) (r : Chain) (c′ : List ℕ) : Type 0 wh
 -- the steps behind the answer in a book of n pieces without a contradiction
 pub record Answering (n : ℕ) (claim : Record) (s c : List ℕ) (r : Chain) (c′ : List ℕ) : Type 0 where
   pub reply-is : r .reply ≡ Answered (answerTo n claim s)
-  pub steps-are : shown (r .reply) ≡ true → (1 ≤ r .steps) × (r .steps ≤ 16400) × (chainOk n (citing claim s) (saying claim) (take (10 * r .steps) c′) ≡ true)
+  pub steps-are : shown (r .reply) ≡ true → (1 ≤ r .steps) × (r .steps ≤ 16400) × (chainOk n (citing claim s) (saying claim) (take (10 * r .steps) c′) ≡ true) × NoneTwice (take (10 * r .steps) c′)
   pub none : shown (r .reply) ≡ false → r .steps ≡ 0
   pub behind : c′ ≡ front (take (10 * r .steps) c′) c
 
 -- behind row 14
 pub record Judged (n : ℕ) (claim : Record) (s c : List ℕ) (r : Chain) (c′ : List ℕ) : Type 0 where
   pub reply-is : r .reply ≡ replyOf claim s (byRuns s n)
-  pub steps-are : shown (r .reply) ≡ true → (1 ≤ r .steps) × (r .steps ≤ 16400) × (chainOk n (citing claim s) (saying claim) (take (10 * r .steps) c′) ≡ true)
+  pub steps-are : shown (r .reply) ≡ true → (1 ≤ r .steps) × (r .steps ≤ 16400) × (chainOk n (citing claim s) (saying claim) (take (10 * r .steps) c′) ≡ true) × NoneTwice (take (10 * r .steps) c′)
   pub accepted : shown (r .reply) ≡ true → (nodes shadows : ℕ) × (byRuns s n ≡ call.Accepted n nodes shadows)
   pub none : shown (r .reply) ≡ false → r .steps ≡ 0
   pub behind : c′ ≡ front (take (10 * r .steps) c′) c

@@ -1,1 +1,3 @@
 pub mod Call
+pub mod ReplyNumbers
+pub mod ReplyDemands

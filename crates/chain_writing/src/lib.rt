@@ -72,7 +72,7 @@ fn write_found(
     }
 }
 
-// An unrestricted claim: from the D and T of the book. The stored steps are put into e.
+// An unrestricted claim: one step where a record says it, else from the D and T of the book. The stored steps are put into e.
 fn write_whole(
     n: usize,
     claim: Record,
@@ -86,6 +86,27 @@ fn write_whole(
     requires { ⌜ (bookCheck (now book) ≡ is.Accepted n) × MarksOf (now book) (now voids) × Opened (voidOf (now voids)) n (facts (now book)) (now d) (now t) false × (claim .origin ≡ 0) × (stated claim ≡ true) × Within n (saying claim) × (164000 ≤ length (now c)) ⌝ }
     ensures { λ r. ⌜ Answering n claim (now (book .entry)) (now (c .entry)) r (now (c .exit)) ⌝ }
 {
+    let kind = claim.kind;
+    let a = claim.a;
+    let b = claim.b;
+    let single = derivations::search::find_single(n, claim, book, kind, a, b);
+    if single.found {
+        let step = single.step;
+        part_steps::writing::put_step(c, 0, step);
+        return Chain {
+            reply: Reply::Answered(Answer::Follows),
+            steps: 1,
+        };
+    }
+    let other = derivations::search::find_single(n, claim, book, 5 - kind, a, b);
+    if other.found {
+        let step = other.step;
+        part_steps::writing::put_step(c, 0, step);
+        return Chain {
+            reply: Reply::Answered(Answer::Denied),
+            steps: 1,
+        };
+    }
     storing::edges(book, n, e);
     write_found(n, claim, book, voids, e, d, t, c)
 }
@@ -124,40 +145,43 @@ fn refuse(refusal: Refusal, place: usize) -> Chain
 }
 
 // Row 14 and the chain, for a book and a claim that pass the rows before.
-fn judge(book: &[u8], n: usize, claim: Record, c: &mut [u8]) -> Chain
+fn judge(
+    book: &[u8],
+    n: usize,
+    claim: Record,
+    c: &mut [u8],
+    e: &mut [u64; 65536],
+    d: &mut [u64; 65536],
+    t: &mut [u64; 65536],
+) -> Chain
     requires { ⌜ (bookCheck (now book) ≡ is.Accepted n) × (stated claim ≡ true) × Within n (saying claim) × (164000 ≤ length (now c)) ⌝ }
     ensures { λ r. ⌜ Judged n claim (now (book .entry)) (now (c .entry)) r (now (c .exit)) ⌝ }
 {
     let mut voids = [0u64; 32];
     storing::marking::mark_voids(book, &mut voids);
-    let mut e = [0u64; 65536];
     let mut order = [0u16; 2048];
     let mut lead = [0u16; 2048];
-    let mut d = [0u64; 65536];
-    let mut t = [0u64; 65536];
-    let settled = settling::settle_alone(
-        book,
-        n,
-        &voids,
-        &mut e,
-        &mut order,
-        &mut lead,
-        &mut d,
-        &mut t,
-    );
+    let settled = settling::settle_alone(book, n, &voids, e, &mut order, &mut lead, d, t);
     match settled {
         Settled::Clash(place) => refuse(Refusal::Contradiction, place),
         Settled::Free(_, _) => {
             if claim.origin == 0 {
-                return write_whole(n, claim, book, &voids, &mut e, &d, &t, c);
+                return write_whole(n, claim, book, &voids, e, d, t, c);
             }
-            write_restricted(n, claim, book, &voids, &mut e, &mut d, &mut t, c)
+            write_restricted(n, claim, book, &voids, e, d, t, c)
         }
     }
 }
 
 // Writes the chain behind the answer to the one claim about the book; which of several is free.
-pub fn write_chain(book: &[u8], claim: &[u8], steps: &mut [u8]) -> Chain
+pub fn write_chain(
+    book: &[u8],
+    claim: &[u8],
+    steps: &mut [u8],
+    e: &mut [u64; 65536],
+    d: &mut [u64; 65536],
+    t: &mut [u64; 65536],
+) -> Chain
     ensures { λ r. ⌜ Written (now (book .entry)) (now (claim .entry)) (now (steps .entry)) r (now (steps .exit)) ⌝ }
 {
     if steps.len() < 164000 {
@@ -173,7 +197,15 @@ pub fn write_chain(book: &[u8], claim: &[u8], steps: &mut [u8]) -> Chain
             let fit = checks::check_claims(claim, n);
             match fit {
                 ClaimsCheck::Refused(refusal, place) => refuse(refusal, place),
-                ClaimsCheck::Accepted => judge(book, n, records::record_at(claim, 0), steps),
+                ClaimsCheck::Accepted => judge(
+                    book,
+                    n,
+                    records::record_at(claim, 0),
+                    steps,
+                    e,
+                    d,
+                    t,
+                ),
             }
         }
     }

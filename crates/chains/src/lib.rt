@@ -24,13 +24,23 @@ fn check_accepted(book: &[u8], n: usize, claim: &[u8], steps: &[u8]) -> bool
 }
 
 // Whether the steps, whoever wrote them, are a chain behind the answer to the claim about the book.
-pub fn check_chain(book: &[u8], claim: &[u8], steps: &[u8]) -> bool
+pub fn check_chain(
+    book: &[u8],
+    claim: &[u8],
+    steps: &[u8],
+    e: &mut [u64; 65536],
+    d: &mut [u64; 65536],
+    t: &mut [u64; 65536],
+    u: &mut [u64; 65536],
+    p: &mut [u64; 65536],
+    q: &mut [u64; 65536],
+) -> bool
     ensures { λ r. ⌜ r ≡ passes (now (book .entry)) (now (claim .entry)) (now (steps .entry)) ⌝ }
 {
     if claim.len() != 6 {
         return false;
     }
-    let judged = answers::judge_run(book);
+    let judged = answers::judge_run(book, e, d, t, u, p, q);
     match judged {
         Outcome::Refused(_, _) => false,
         Outcome::Accepted(n, _, _) => check_accepted(book, n, claim, steps),

@@ -54,42 +54,54 @@ marked m k h =
     keeps j e (no s) = ap (λ (y : ℕ). y / 2 ^ (j % 64) % 2) (getD-set-other m (k / 64) (j / 64) _ 0 s) ∙ e
 
 -- both bits of a key are marked
-module _ (m m₁ m₂ : List ℕ) (key : ℕ) {k j : ℕ} (e : k ≡ slotOf key) (f : j ≡ otherSlot key) (K : Marked m m₁ k) (J : Marked m₁ m₂ j) where
-  M : Marked m m₁ (slotOf key)
-  M = subst (λ (x : ℕ). Marked m m₁ x) e K
+module _
+    (mask : ℕ) (m m₁ m₂ : List ℕ) (key : ℕ) {k j : ℕ} (e : k ≡ slotOf key) (f : j ≡ otherSlot key) (K : Marked m m₁ (bitAnd k mask)) (J : Marked m₁ m₂ (bitAnd j mask)) where
+  M : Marked m m₁ (bitAnd (slotOf key) mask)
+  M = subst (λ (x : ℕ). Marked m m₁ (bitAnd x mask)) e K
 
-  O : Marked m₁ m₂ (otherSlot key)
-  O = subst (λ (x : ℕ). Marked m₁ m₂ x) f J
+  O : Marked m₁ m₂ (bitAnd (otherSlot key) mask)
+  O = subst (λ (x : ℕ). Marked m₁ m₂ (bitAnd x mask)) f J
 
-  kept-both : (x : ℕ) → noted m x ≡ true → noted m₂ x ≡ true
+  kept-both : (x : ℕ) → noted mask m x ≡ true → noted mask m₂ x ≡ true
   unfolding noted
-  kept-both x h = let b = and-both (met m (slotOf x)) _ h in both-and (O .kept _ (M .kept _ (b .0))) (O .kept _ (M .kept _ (b .1)))
+  kept-both x h = let b = and-both (met m (bitAnd (slotOf x) mask)) _ h in both-and (O .kept _ (M .kept _ (b .0))) (O .kept _ (M .kept _ (b .1)))
 
-  hit-both : noted m₂ key ≡ true
+  hit-both : noted mask m₂ key ≡ true
   unfolding noted
   hit-both = both-and (O .kept _ (M .hit)) (O .hit)
 
-  pub noted-second : (t : Bool) → t ≡ met m₁ j → Noted m m₂ key t
+  pub noted-second : (t : Bool) → t ≡ met m₁ (bitAnd j mask) → Noted mask m m₂ key t
   unfolding noted
-  noted-second t q = record { hit = hit-both; kept = kept-both; told = λ h. q ∙ ap (met m₁) f ∙ M .kept _ (and-both (met m (slotOf key)) _ h .1) }
+  noted-second t q =
+      record {
+        hit = hit-both;
+        kept = kept-both;
+        told = λ h. q ∙ ap (λ (x : ℕ). met m₁ (bitAnd x mask)) f ∙ M .kept _ (and-both (met m (bitAnd (slotOf key) mask)) _ h .1);
+      }
 
-  pub noted-new : (t : Bool) → t ≡ met m k → t ≡ false → Noted m m₂ key false
+  pub noted-new : (t : Bool) → t ≡ met m (bitAnd k mask) → t ≡ false → Noted mask m m₂ key false
   unfolding noted
-  noted-new t q clear = record { hit = hit-both; kept = kept-both; told = λ h. sym clear ∙ q ∙ ap (met m) e ∙ and-both (met m (slotOf key)) _ h .0 }
+  noted-new t q clear =
+      record {
+        hit = hit-both;
+        kept = kept-both;
+        told = λ h. sym clear ∙ q ∙ ap (λ (x : ℕ). met m (bitAnd x mask)) e ∙ and-both (met m (bitAnd (slotOf key) mask)) _ h .0;
+      }
 
 -- each of the first i keys is noted
-abbrev pub AllMet : List ℕ → List ℕ → ℕ → Type 0
-AllMet s m i = (p : ℕ) → p < i → noted m (keyAt s (6 * p)) ≡ true
+abbrev pub AllMet : ℕ → List ℕ → List ℕ → ℕ → Type 0
+AllMet mask s m i = (p : ℕ) → p < i → noted mask m (keyAt s (6 * p)) ≡ true
 
 -- one key more
-pub met-more : (s m m′ : List ℕ) (i key : ℕ) (t : Bool) → key ≡ keyAt s (6 * i) → Noted m m′ key t → AllMet s m i → AllMet s m′ (i + 1)
-met-more s m m′ i key t e M before =
-    below-more (λ p. noted m′ (keyAt s (6 * p)) ≡ true) i (λ p l. M .kept _ (before p l)) (subst (λ (x : ℕ). noted m′ x ≡ true) e (M .hit))
+pub met-more :
+    (mask : ℕ) (s m m′ : List ℕ) (i key : ℕ) (t : Bool) → key ≡ keyAt s (6 * i) → Noted mask m m′ key t → AllMet mask s m i → AllMet mask s m′ (i + 1)
+met-more mask s m m′ i key t e M before =
+    below-more (λ p. noted mask m′ (keyAt s (6 * p)) ≡ true) i (λ p l. M .kept _ (before p l)) (subst (λ (x : ℕ). noted mask m′ x ≡ true) e (M .hit))
 
 -- where the key was new, no earlier key is equal; else the search begins at the first
 pub spared :
-    (s K m m′ : List ℕ) (i key r : ℕ) (t : Bool) → Noted m m′ key t → r ≡ start t i → AllMet s m i
+    (mask : ℕ) (s K m m′ : List ℕ) (i key r : ℕ) (t : Bool) → Noted mask m m′ key t → r ≡ start t i → AllMet mask s m i
     → ((p : ℕ) → p < i → getD K p 0 ≡ keyAt s (6 * p)) → (r ≤ i) × ((q : ℕ) → q < r → getD K q 0 ≡ key → ⊥)
-spared s K m m′ i key r true M d all keyed = (omega arith, λ q h. absurd (omega arith))
-spared s K m m′ i key r false M d all keyed =
-    (omega arith, λ q h g. true≢false (sym (M .told (subst (λ (x : ℕ). noted m x ≡ true) (sym (keyed q (omega arith)) ∙ g) (all q (omega arith))))))
+spared mask s K m m′ i key r true M d all keyed = (omega arith, λ q h. absurd (omega arith))
+spared mask s K m m′ i key r false M d all keyed =
+    (omega arith, λ q h g. true≢false (sym (M .told (subst (λ (x : ℕ). noted mask m x ≡ true) (sym (keyed q (omega arith)) ∙ g) (all q (omega arith))))))

@@ -20,8 +20,11 @@ six-in i n l h r = omega arith
 pub below : (i n : ℕ) → i < n → n ≤ 8192 → i < 8192
 below i n h l = omega arith
 
-pub in-keys : (i n l : ℕ) → i < n → n ≤ 8192 → l ≡ 8192 → i < l
-in-keys i n l h m e = omega arith
+pub in-keys : (i n l m : ℕ) → i < n → n ≤ m → l ≡ m → i < l
+in-keys i n l m h g e = omega arith
+
+pub under-keys : (j i n l m : ℕ) → j < i → i < n → n ≤ m → l ≡ m → j < l
+under-keys j i n l m k h g e = omega arith
 
 pub under : (j i n : ℕ) → j < i → i < n → n ≤ 8192 → j < 8192
 under j i n g h l = omega arith

@@ -4,6 +4,7 @@ use mathlib.Core.List.{List}
 use mathlib.Core.Bool.{Bool, true, false, _&&_}
 use Prim.Native.Nat.{ℕ, _/_, _%_, _^_}
 use lib.Dec.{eqb}
+use lib.Bits.{bitAnd}
 use lib.ListN.{getD}
 use Rattle.records.specs.Key.{slotOf, otherSlot}
 
@@ -16,15 +17,15 @@ pub record Marked (m m′ : List ℕ) (k : ℕ) : Type 0 where
   pub hit : met m′ k ≡ true
   pub kept : (j : ℕ) → met m j ≡ true → met m′ j ≡ true
 
--- both bits of a key are set
-unfoldable pub noted : List ℕ → ℕ → Bool
-noted m key = met m (slotOf key) && met m (otherSlot key)
+-- both bits of a key are set, each in its place within the mask of a filter
+unfoldable pub noted : ℕ → List ℕ → ℕ → Bool
+noted mask m key = met m (bitAnd (slotOf key) mask) && met m (bitAnd (otherSlot key) mask)
 
 -- m′ has the key, and the keys of m; t is true where m had the key, and perhaps elsewhere
-pub record Noted (m m′ : List ℕ) (key : ℕ) (t : Bool) : Type 0 where
-  pub hit : noted m′ key ≡ true
-  pub kept : (x : ℕ) → noted m x ≡ true → noted m′ x ≡ true
-  pub told : noted m key ≡ true → t ≡ true
+pub record Noted (mask : ℕ) (m m′ : List ℕ) (key : ℕ) (t : Bool) : Type 0 where
+  pub hit : noted mask m′ key ≡ true
+  pub kept : (x : ℕ) → noted mask m x ≡ true → noted mask m′ x ≡ true
+  pub told : noted mask m key ≡ true → t ≡ true
 
 -- the first of i places to look at
 abbrev pub start : Bool → ℕ → ℕ

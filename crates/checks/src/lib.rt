@@ -109,7 +109,7 @@ fn other_slot(key: u64) -> usize
 
 // Sets bit k, and says whether it was set before.
 fn mark(seen: &mut [u64], k: usize) -> bool
-    requires { ⌜ (length (now seen) ≡ 4096) × (k < 262144) ⌝ }
+    requires { ⌜ k < 64 * length (now seen) ⌝ }
     ensures { λ t. ⌜ (t ≡ met (now (seen .entry)) k) × Marked (now (seen .entry)) (now (seen .exit)) k ⌝ }
 {
     let w = k / 64;
@@ -118,13 +118,13 @@ fn mark(seen: &mut [u64], k: usize) -> bool
     (x >> (k % 64)) & 1 == 1
 }
 
-// Sets both bits of a key, and says whether both were set before: if not, the key is new.
-fn note(seen: &mut [u64], key: u64) -> bool
-    requires { ⌜ length (now seen) ≡ 4096 ⌝ }
-    ensures { λ t. ⌜ Noted (now (seen .entry)) (now (seen .exit)) key t ⌝ }
+// Sets both bits of a key, and says whether both were set before: if not, the key is new. The mask keeps them within a short filter.
+fn note(seen: &mut [u64], mask: usize, key: u64) -> bool
+    requires { ⌜ mask < 64 * length (now seen) ⌝ }
+    ensures { λ t. ⌜ Noted mask (now (seen .entry)) (now (seen .exit)) key t ⌝ }
 {
-    let first = mark(seen, slot_of(key));
-    let second = mark(seen, other_slot(key));
+    let first = mark(seen, slot_of(key) & mask);
+    let second = mark(seen, other_slot(key) & mask);
     if first {
         return second;
     }
@@ -139,13 +139,18 @@ fn first_suspect(marked: bool, i: usize) -> usize
 }
 
 // Rows 5 to 9: the first refusal, record by record, or the piece count. A record is compared with the earlier ones only
-// where both bits of its key were set before.
-fn check_records(edition: Edition, book: &[u8], n: usize) -> BookCheck
-    requires { ⌜ (n ≤ 8192) × (6 * n ≤ length (now book)) ⌝ }
+// where both bits of its key were set before. The list of keys and the filter are scratch.
+fn check_records_by(
+    edition: Edition,
+    book: &[u8],
+    n: usize,
+    mask: usize,
+    keys: &mut [u64],
+    seen: &mut [u64],
+) -> BookCheck
+    requires { ⌜ (n ≤ 8192) × (6 * n ≤ length (now book)) × (n ≤ length (now keys)) × (mask < 64 * length (now seen)) ⌝ }
     ensures { λ r. ⌜ r ≡ recordsCheck edition (now (book .entry)) n ⌝ }
 {
-    let mut keys = [0u64; 8192];
-    let mut seen = [0u64; 4096];
     let mut pieces: usize = 1;
     let mut i: usize = 0;
     'records: loop {
@@ -159,7 +164,7 @@ fn check_records(edition: Edition, book: &[u8], n: usize) -> BookCheck
         }
         let key = key_at(book, i);
         keys[i] = key;
-        let mut j = first_suspect(note(&mut seen, key), i);
+        let mut j = first_suspect(note(seen, mask, key), i);
         while j < i {
             if keys[j] == key {
                 break 'records BookCheck::Refused(Refusal::Repeat, i);
@@ -169,6 +174,21 @@ fn check_records(edition: Edition, book: &[u8], n: usize) -> BookCheck
         pieces = records::larger_of(pieces, records::largest_named(record) + 1);
         i += 1;
     }
+}
+
+// The same with a list and a filter of its own: short ones for few records, since to clear long ones takes longer than to check them.
+fn check_records(edition: Edition, book: &[u8], n: usize) -> BookCheck
+    requires { ⌜ (n ≤ 8192) × (6 * n ≤ length (now book)) ⌝ }
+    ensures { λ r. ⌜ r ≡ recordsCheck edition (now (book .entry)) n ⌝ }
+{
+    if n <= 256 {
+        let mut keys = [0u64; 256];
+        let mut seen = [0u64; 256];
+        return check_records_by(edition, book, n, 16383, &mut keys, &mut seen);
+    }
+    let mut keys = [0u64; 8192];
+    let mut seen = [0u64; 4096];
+    check_records_by(edition, book, n, 262143, &mut keys, &mut seen)
 }
 
 // Rows 3 to 9 of a book, by an edition.

@@ -1,5 +1,5 @@
 -- U·A·D is every APART that follows, where there is no contradiction. Assumes nothing.
-use Prim.Native.Nat.{ℕ, _+_, _<_}
+use Prim.Native.Nat.{ℕ, _+_, _<_, _≤_}
 use mathlib.Core.Path.{_≡_, refl, sym, ap, ap₂, _∙_}
 use mathlib.Core.Logic.{_⊎_, inl, inr}
 use mathlib.Core.Bool.{Bool, true, false, _&&_, _||_, false≢true, and-comm, and-true, and-false, or-false, or-true}
@@ -8,11 +8,10 @@ use native.Mathlib.Decide.{ℕ-discrete, decLt}
 use native.Mathlib.Omega.{arith}
 use borrow.Author.Tests.{eqb-true, eq-eqb, ne-eqb, lt-ltb, le-ltb}
 use lib.Dec.{eqb, ltb}
-use lib.ListN.{length, replicate}
+use lib.ListN.{length}
 use Rattle.lists.proofs.Bools.{and-both, both-and, or-either, left-or, right-or, same-truth, Known, is-true, is-false, known}
-use Rattle.relation.specs.Matrix.{bitOf, through, Multiplied}
+use Rattle.relation.specs.Matrix.{bitOf, through, Blank, Multiplied}
 use Rattle.joins.specs.Flow.{Carried}
-use Rattle.relation.proofs.Cleared.{cleared}
 use Rattle.rules.specs.Fact.{Fact, APART, factOf, unmarked}
 use Rattle.rules.specs.Follows.{storing, turned, clash}
 use Rattle.rules.proofs.Paths.{Path, here, top}
@@ -26,7 +25,7 @@ use Rattle.storing.specs.Closed.{Holds, Grown, partBit, wholeBit}
 use Rattle.closure.specs.Apart.{markedApart, apartBit, Aparts}
 use Rattle.storing.proofs.StoredBits.{either-find, either-hit}
 use Rattle.storing.proofs.Products.{prod, prod-find, prod-hit, path-above, d-path, path-d, u-path, path-u}
-use Rattle.storing.proofs.Holding.{through-holds}
+use Rattle.storing.proofs.Holding.{through-holds, stored-column}
 
 -- ---- the marks, piece by piece
 
@@ -63,9 +62,9 @@ module _ (void : ℕ → Bool) (k : ℕ) where
 -- ---- A
 
 pub told-holds :
-    (void : ℕ → Bool) (n : ℕ) (fs : List Fact) {x x′ : List ℕ} → length x′ ≡ 65536 → Holds x (storedBit fs 2 true true) → Grown x x′ (markedApart void n) → Holds x′ (apartBit void n fs)
+    (void : ℕ → Bool) (n : ℕ) (fs : List Fact) {x x′ : List ℕ} → n ≤ 2048 → length x′ ≡ 65536 → Holds n x (storedBit fs 2 true true) → Grown x x′ (markedApart void n) → Holds n x′ (apartBit void n fs)
 unfolding apartBit
-told-holds void n fs z X G = record { sized = z; bits = λ a b la lb. G .bits a b la lb ∙ ap (λ (t : Bool). t || markedApart void n a b) (X .bits a b la lb) }
+told-holds void n fs few z X G = record { sized = z; bits = λ a b la lb. G .bits a b (omega arith) lb ∙ ap (λ (t : Bool). t || markedApart void n a b) (X .bits a b la lb) }
 
 -- ---- U·A·D
 
@@ -147,15 +146,20 @@ module _ (void : ℕ → Bool) (n : ℕ) (fs : List Fact) (B : Bounded n fs) (z 
           }
       pick (inr q) = other (or-either _ _ q)
 
-  module _ {m d a a′ a″ : List ℕ} (k : ℕ) (M : Holds m (apartBit void n fs)) (D : Holds d (partBit n fs)) (e : a ≡ replicate k 0) (X : Multiplied a a′ m d n) (C : Carried (wholeBit n fs) n a′ a″) where
+  apart-column : (x y : ℕ) → n ≤ y → apartBit void n fs x y ≡ false
+  unfolding apartBit
+  apart-column x y l =
+      let s = B .some in
+      rw (stored-column n fs (B .within) 2 true true x y l, le-ltb y n l, ne-eqb y 0 (λ q. omega arith), and-false (eqb x 0))
+
+  module _ {m d a a′ a″ : List ℕ} (M : Holds n m (apartBit void n fs)) (D : Holds n d (partBit n fs)) (E : Blank n a) (X : Multiplied a a′ m d n) (C : Carried (wholeBit n fs) n a′ a″) where
     -- a bit of A·D
     middle : (u y : ℕ) → u < n → y < n → bitOf a′ u y ≡ prod (apartBit void n fs) (partBit n fs) u y
     middle u y lu ly =
         let h = B .fits in
         X .row u y lu (omega arith)
-        ∙ ap (λ (l : List ℕ). bitOf l u y || through m d u y) e
-        ∙ ap (λ (t : Bool). t || through m d u y) (cleared k u y)
-        ∙ through-holds M D u y (omega arith) (omega arith)
+        ∙ ap (λ (t : Bool). t || through m d u y) (E .bits u y lu (omega arith))
+        ∙ through-holds M D u y lu (omega arith) (apart-column u)
 
     bit-told : (x y : ℕ) → x < n → y < n → bitOf a″ x y ≡ true → Told x y
     bit-told x y lx ly q =

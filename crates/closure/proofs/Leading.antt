@@ -73,8 +73,8 @@ module _ (n : ℕ) (fs : List Fact) (B : Bounded n fs) where
     stored : (a b : ℕ) → List·Memᴰ (PART a b) fs → (getD lead a 0 ≡ getD lead b 0 → ⊥) → getD lead b 0 ≡ k → getD lead a 0 ≡ p → Step lead k p
     crowned : k ≡ 0 → 0 < p → p < n → getD lead p 0 ≡ p → Step lead k p
 
-  module _ (e lead : List ℕ) (E : Holds e (stepBit n fs lead)) (L : Led n lead) (whole : getD lead 0 0 ≡ 0) (raised : (g : ℕ) → g < n → partBit n fs (getD lead g 0) g ≡ true) (lowered : (g : ℕ) → g < n → partBit n fs g (getD lead g 0) ≡ true) where
-    bit-step : {k p : ℕ} → k < 2048 → p < 2048 → bitOf e k p ≡ true → Step lead k p
+  module _ (e lead : List ℕ) (E : Holds n e (stepBit n fs lead)) (L : Led n lead) (whole : getD lead 0 0 ≡ 0) (raised : (g : ℕ) → g < n → partBit n fs (getD lead g 0) g ≡ true) (lowered : (g : ℕ) → g < n → partBit n fs g (getD lead g 0) ≡ true) where
+    bit-step : {k p : ℕ} → k < n → p < 2048 → bitOf e k p ≡ true → Step lead k p
     unfolding stepBit stepping factOf
     bit-step {k} {p} lk lp q = pick (or-either _ _ (sym (E .bits k p lk lp) ∙ q))
       where
@@ -94,11 +94,11 @@ module _ (n : ℕ) (fs : List Fact) (B : Bounded n fs) where
     unfolding stepBit stepping
     step-bit {k} {p} lk lp (stored a b m ne x y) =
         let f = B .fits in
-        E .bits k p (omega arith) (omega arith)
+        E .bits k p lk (omega arith)
         ∙ left-or _ (storing-hit fs 1 (stepping lead k p) (PART a b) m refl (both-and (ap not (ne-eqb _ _ ne)) (both-and (eq-eqb _ k x) (eq-eqb _ p y))))
     step-bit {k} {p} lk lp (crowned z l h o) =
         let f = B .fits in
-        E .bits k p (omega arith) (omega arith)
+        E .bits k p lk (omega arith)
         ∙ right-or (storing fs 1 (stepping lead k p)) (both-and (eq-eqb k 0 z) (both-and (lt-ltb 0 p l) (both-and (lt-ltb p n h) (eq-eqb _ p o))))
 
     -- a step is a path between two leaders
@@ -171,14 +171,14 @@ module _ (n : ℕ) (fs : List Fact) (B : Bounded n fs) where
         row = row;
         placed = placed;
         earlier = λ h p l k q.
-            let s = step-leads (bit-step (omega (arith, B .fits)) k q) in
+            let s = step-leads (bit-step l k q) in
             let b = path-below (B .within) (s .3) in
             (before h p l b (s .0) (s .1) (s .2) (path-part (s .3)), b);
       };
       led = L;
       up = raised;
       down = lowered;
-      sound = λ h p l k q. let s = step-leads (bit-step (omega (arith, B .fits)) k q) in (s .0, s .1, path-part (s .3));
+      sound = λ h p l k q. let s = step-leads (bit-step l k q) in (s .0, s .1, path-part (s .3));
       first = λ h x l k a b ne q. down h x a b ne (climb-last a (part-path q));
       last = λ h x l k a b ne q. up-from h x a b ne (climb-first (part-path q));
     }

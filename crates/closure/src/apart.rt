@@ -28,9 +28,9 @@ fn part_marked(n: usize, voids: &[u64], m: &mut [u64])
 // A: the stored APARTs, and the marks as such.
 fn apart_told(run: &[u8], n: usize, voids: &[u64], m: &mut [u64])
     requires { ⌜ Bounded n (facts (now run)) × Voids (now voids) × (length (now m) ≡ 65536) ⌝ }
-    ensures { λ _. ⌜ Holds (now (m .exit)) (apartBit (voidOf (now (voids .entry))) n (facts (now (run .entry)))) ⌝ }
+    ensures { λ _. ⌜ Holds n (now (m .exit)) (apartBit (voidOf (now (voids .entry))) n (facts (now (run .entry)))) ⌝ }
 {
-    storing::store(run, 2, true, true, m);
+    storing::store(run, n, 2, true, true, m);
     part_marked(n, voids, m);
 }
 
@@ -46,11 +46,11 @@ pub fn apart_rows(
     m: &mut [u64],
     a: &mut [u64],
 )
-    requires { ⌜ Bounded n (facts (now run)) × Voids (now voids) × Stepped n (facts (now run)) (now e) (now order) (now lead) × Holds (now d) (partBit n (facts (now run))) × (length (now m) ≡ 65536) × (length (now a) ≡ 65536) × (clash (voidOf (now voids)) n (facts (now run)) ≡ false) ⌝ }
+    requires { ⌜ Bounded n (facts (now run)) × Voids (now voids) × Stepped n (facts (now run)) (now e) (now order) (now lead) × Holds n (now d) (partBit n (facts (now run))) × (length (now m) ≡ 65536) × (length (now a) ≡ 65536) × (clash (voidOf (now voids)) n (facts (now run)) ≡ false) ⌝ }
     ensures { λ _. ⌜ Aparts (voidOf (now (voids .entry))) n (facts (now (run .entry))) (now (a .exit)) ⌝ }
 {
     apart_told(run, n, voids, m);
-    relation::clear(a);
+    relation::clear_rows(a, n);
     joins::product(a, m, d, n);
     crate::join_wholes(n, e, order, lead, a);
 }

@@ -20,9 +20,9 @@ pub mod apart;
 // M: the stored MEETS, and each piece that is not marked with itself.
 fn meets(run: &[u8], n: usize, voids: &[u64], m: &mut [u64])
     requires { ⌜ Bounded n (facts (now run)) × Voids (now voids) × (length (now m) ≡ 65536) ⌝ }
-    ensures { λ _. ⌜ Holds (now (m .exit)) (meetBit (voidOf (now (voids .entry))) n (facts (now (run .entry)))) ⌝ }
+    ensures { λ _. ⌜ Holds n (now (m .exit)) (meetBit (voidOf (now (voids .entry))) n (facts (now (run .entry)))) ⌝ }
 {
-    storing::store(run, 3, true, true, m);
+    storing::store(run, n, 3, true, true, m);
     storing::diagonal_unmarked(n, voids, m);
 }
 
@@ -57,7 +57,7 @@ pub fn meeting(
     t: &mut [u64],
 )
     requires { ⌜ Bounded n (facts (now run)) × Voids (now voids) × Stepped n (facts (now run)) (now e) (now order) (now lead) × (length (now t) ≡ 65536) ⌝ }
-    ensures { λ _. ⌜ Holds (now (t .exit)) (towardBit (voidOf (now (voids .entry))) n (facts (now (run .entry)))) ⌝ }
+    ensures { λ _. ⌜ Holds n (now (t .exit)) (towardBit (voidOf (now (voids .entry))) n (facts (now (run .entry)))) ⌝ }
 {
     meets(run, n, voids, t);
     join_parts(n, e, order, lead, t);
@@ -66,9 +66,9 @@ pub fn meeting(
 // P = U·A.
 fn parting(run: &[u8], n: usize, e: &[u64], order: &[u16], lead: &[u16], p: &mut [u64])
     requires { ⌜ Bounded n (facts (now run)) × Stepped n (facts (now run)) (now e) (now order) (now lead) × (length (now p) ≡ 65536) ⌝ }
-    ensures { λ _. ⌜ Holds (now (p .exit)) (awayBit n (facts (now (run .entry)))) ⌝ }
+    ensures { λ _. ⌜ Holds n (now (p .exit)) (awayBit n (facts (now (run .entry)))) ⌝ }
 {
-    storing::store(run, 2, true, true, p);
+    storing::store(run, n, 2, true, true, p);
     join_wholes(n, e, order, lead, p);
 }
 
@@ -84,11 +84,11 @@ fn outing(
     m: &mut [u64],
     q: &mut [u64],
 )
-    requires { ⌜ Bounded n (facts (now run)) × Voids (now voids) × Stepped n (facts (now run)) (now e) (now order) (now lead) × Holds (now p) (awayBit n (facts (now run))) × (length (now m) ≡ 65536) × (length (now q) ≡ 65536) ⌝ }
-    ensures { λ _. ⌜ Holds (now (q .exit)) (outBit (voidOf (now (voids .entry))) n (facts (now (run .entry)))) ⌝ }
+    requires { ⌜ Bounded n (facts (now run)) × Voids (now voids) × Stepped n (facts (now run)) (now e) (now order) (now lead) × Holds n (now p) (awayBit n (facts (now run))) × (length (now m) ≡ 65536) × (length (now q) ≡ 65536) ⌝ }
+    ensures { λ _. ⌜ Holds n (now (q .exit)) (outBit (voidOf (now (voids .entry))) n (facts (now (run .entry)))) ⌝ }
 {
     meets(run, n, voids, m);
-    storing::store(run, 4, true, false, q);
+    storing::store(run, n, 4, true, false, q);
     joins::product(q, m, p, n);
     join_parts(n, e, order, lead, q);
 }
@@ -106,11 +106,11 @@ pub fn complete(
     q: &mut [u64],
 )
     requires { ⌜ Bounded n (facts (now run)) × Voids (now voids) × Stepped n (facts (now run)) (now e) (now order) (now lead) × (length (now u) ≡ 65536) × (length (now p) ≡ 65536) × (length (now q) ≡ 65536) ⌝ }
-    ensures { λ _. ⌜ Holds (now (u .exit)) (wholeBit n (facts (now (run .entry)))) × Holds (now (p .exit)) (awayBit n (facts (now (run .entry)))) × Holds (now (q .exit)) (outBit (voidOf (now (voids .entry))) n (facts (now (run .entry)))) ⌝ }
+    ensures { λ _. ⌜ Holds n (now (u .exit)) (wholeBit n (facts (now (run .entry)))) × Holds n (now (p .exit)) (awayBit n (facts (now (run .entry)))) × Holds n (now (q .exit)) (outBit (voidOf (now (voids .entry))) n (facts (now (run .entry)))) ⌝ }
 {
     parting(run, n, e, order, lead, p);
     outing(run, n, voids, e, order, lead, p, u, q);
-    relation::clear(u);
+    relation::clear_rows(u, n);
     storing::diagonal(n, u);
     join_wholes(n, e, order, lead, u);
 }

@@ -48,6 +48,9 @@ fn answer_book(
     e: &mut [u64; 65536],
     d: &mut [u64; 65536],
     t: &mut [u64; 65536],
+    u: &mut [u64; 65536],
+    p: &mut [u64; 65536],
+    q: &mut [u64; 65536],
     answers: &mut [u8],
 ) -> Outcome
     requires { ⌜ Answerable (now book) n (now claims) (length (now answers)) ⌝ }
@@ -64,6 +67,9 @@ fn answer_book(
         e,
         d,
         t,
+        u,
+        p,
+        q,
         &mut parens,
         &mut marks,
         &mut shadows,
@@ -84,32 +90,45 @@ fn judge_both(
     ours: &mut [u8],
     theirs: &mut [u8],
     out: &mut [u8],
+    e: &mut [u64; 65536],
+    d: &mut [u64; 65536],
+    t: &mut [u64; 65536],
+    u: &mut [u64; 65536],
+    p: &mut [u64; 65536],
+    q: &mut [u64; 65536],
 ) -> Comparison
     requires { ⌜ Ready (now first) own (now second) count (now run) (now claims) (length (now out)) × (length (now ours) ≡ records (now claims)) × (length (now theirs) ≡ records (now claims)) ⌝ }
     ensures { λ r. ⌜ Judged (now (first .entry)) (now (second .entry)) (now (claims .entry)) (now (out .entry)) r (now (out .exit)) ⌝ }
 {
     let n = joint::larger(own, count);
-    let mut e = [0u64; 65536];
-    let mut d = [0u64; 65536];
-    let mut t = [0u64; 65536];
-    let one = answer_book(first, n, claims, &mut e, &mut d, &mut t, ours);
+    let one = answer_book(first, n, claims, e, d, t, u, p, q, ours);
     if let Outcome::Refused(refusal, place) = one {
         return Comparison::Refused(1, refusal, place);
     }
-    let two = answer_book(second, n, claims, &mut e, &mut d, &mut t, theirs);
+    let two = answer_book(second, n, claims, e, d, t, u, p, q, theirs);
     if let Outcome::Refused(refusal, place) = two {
         return Comparison::Refused(2, refusal, place);
     }
-    let laid = can_be_laid(run, n, &mut e, &mut d, &mut t);
+    let laid = can_be_laid(run, n, e, d, t);
     joint::write_answers(ours, theirs, out);
     Comparison::Compared(laid)
 }
 
 // The refusal of a book by a fresh call, or what comes after it.
-fn after(k: usize, book: &[u8], rest: Comparison) -> Comparison
+fn after(
+    k: usize,
+    book: &[u8],
+    rest: Comparison,
+    e: &mut [u64; 65536],
+    d: &mut [u64; 65536],
+    t: &mut [u64; 65536],
+    u: &mut [u64; 65536],
+    p: &mut [u64; 65536],
+    q: &mut [u64; 65536],
+) -> Comparison
     ensures { λ r. ⌜ r ≡ byBook k (freshCall (now (book .entry)) []) rest ⌝ }
 {
-    let outcome = answers::judge_run(book);
+    let outcome = answers::judge_run(book, e, d, t, u, p, q);
     match outcome {
         Outcome::Refused(refusal, place) => Comparison::Refused(k, refusal, place),
         Outcome::Accepted(_, _, _) => rest,
@@ -125,6 +144,12 @@ fn check_asked(
     run: &[u8],
     claims: &[u8],
     out: &mut [u8],
+    e: &mut [u64; 65536],
+    d: &mut [u64; 65536],
+    t: &mut [u64; 65536],
+    u: &mut [u64; 65536],
+    p: &mut [u64; 65536],
+    q: &mut [u64; 65536],
 ) -> Comparison
     requires { ⌜ Sound (now first) own (now second) count (now run) (now claims) (length (now out)) ⌝ }
     ensures { λ r. ⌜ Judged (now (first .entry)) (now (second .entry)) (now (claims .entry)) (now (out .entry)) r (now (out .exit)) ⌝ }
@@ -132,8 +157,18 @@ fn check_asked(
     let fit = checks::check_claims(claims, joint::larger(own, count));
     match fit {
         ClaimsCheck::Refused(refusal, place) => {
-            let rest = after(2, second, Comparison::Refused(0, refusal, place));
-            after(1, first, rest)
+            let rest = after(
+                2,
+                second,
+                Comparison::Refused(0, refusal, place),
+                e,
+                d,
+                t,
+                u,
+                p,
+                q,
+            );
+            after(1, first, rest, e, d, t, u, p, q)
         }
         ClaimsCheck::Accepted => {
             let asked = claims.len() / 6;
@@ -149,13 +184,31 @@ fn check_asked(
                 &mut ours[..asked],
                 &mut theirs[..asked],
                 out,
+                e,
+                d,
+                t,
+                u,
+                p,
+                q,
             )
         }
     }
 }
 
 // The rows of both books, whose records stand together in the run, then the claims.
-fn check_books(first: &[u8], second: &[u8], run: &[u8], claims: &[u8], out: &mut [u8]) -> Comparison
+fn check_books(
+    first: &[u8],
+    second: &[u8],
+    run: &[u8],
+    claims: &[u8],
+    out: &mut [u8],
+    e: &mut [u64; 65536],
+    d: &mut [u64; 65536],
+    t: &mut [u64; 65536],
+    u: &mut [u64; 65536],
+    p: &mut [u64; 65536],
+    q: &mut [u64; 65536],
+) -> Comparison
     requires { ⌜ Together (now first) (now second) (now run) × (3 * records (now claims) ≤ length (now out)) ⌝ }
     ensures { λ r. ⌜ Judged (now (first .entry)) (now (second .entry)) (now (claims .entry)) (now (out .entry)) r (now (out .exit)) ⌝ }
 {
@@ -166,10 +219,34 @@ fn check_books(first: &[u8], second: &[u8], run: &[u8], claims: &[u8], out: &mut
             let other = checks::check_book(second);
             match other {
                 BookCheck::Refused(refusal, place) => {
-                    after(1, first, Comparison::Refused(2, refusal, place))
+                    after(
+                        1,
+                        first,
+                        Comparison::Refused(2, refusal, place),
+                        e,
+                        d,
+                        t,
+                        u,
+                        p,
+                        q,
+                    )
                 }
                 BookCheck::Accepted(count) => {
-                    check_asked(first, own, second, count, run, claims, out)
+                    check_asked(
+                        first,
+                        own,
+                        second,
+                        count,
+                        run,
+                        claims,
+                        out,
+                        e,
+                        d,
+                        t,
+                        u,
+                        p,
+                        q,
+                    )
                 }
             }
         }
@@ -177,7 +254,18 @@ fn check_books(first: &[u8], second: &[u8], run: &[u8], claims: &[u8], out: &mut
 }
 
 // Compares two books: for each claim both answers, then 1 SAME, 2 ONE OPEN or 3 OPPOSED.
-pub fn compare(first: &[u8], second: &[u8], claims: &[u8], out: &mut [u8]) -> Comparison
+pub fn compare(
+    first: &[u8],
+    second: &[u8],
+    claims: &[u8],
+    out: &mut [u8],
+    e: &mut [u64; 65536],
+    d: &mut [u64; 65536],
+    t: &mut [u64; 65536],
+    u: &mut [u64; 65536],
+    p: &mut [u64; 65536],
+    q: &mut [u64; 65536],
+) -> Comparison
     ensures determined { λ r. ⌜ Determined (now (first .entry)) (now (second .entry)) (now (claims .entry)) (now (out .entry)) r (now (out .exit)) ⌝ }
     ensures demanded { λ r. ⌜ Demanded (now (first .entry)) (now (second .entry)) (now (claims .entry)) (length (now (out .entry))) (now (out .exit)) r ⌝ }
 {
@@ -187,5 +275,5 @@ pub fn compare(first: &[u8], second: &[u8], claims: &[u8], out: &mut [u8]) -> Co
     }
     let mut run = [0u8; 98304];
     let end = joint::join(first, second, &mut run);
-    check_books(first, second, &run[..end], claims, out)
+    check_books(first, second, &run[..end], claims, out, e, d, t, u, p, q)
 }

@@ -6,7 +6,6 @@ use mathlib.Core.List.{List}
 use Prim.Native.Nat.{ℕ, zero, suc, _+_, _-_, _<_, _≤_}
 use borrow.Author.Tests.{eq-eqb, lt-ltb}
 use Rattle.lists.proofs.Bools.{both-and}
-use Rattle.index.specs.Matrix.{pairOf}
 use Rattle.lists.proofs.Tallies.{tally-some}
 use native.Mathlib.Numerals.{add-one}
 use native.Mathlib.Decide.{ℕ-discrete, decLt}
@@ -19,7 +18,7 @@ use Rattle.relation.specs.Matrix.{bitOf}
 use Rattle.lists.proofs.Searches.{Sought, sought-next}
 use Rattle.index.specs.Pairs.{self, step}
 use Rattle.index.proofs.Below.{within-trans}
-use Rattle.components.specs.Search.{State, stateOf, WayOf, GoodOf, VisitedOf, Leading, Callable, Cut, Numbered, Pushed, Settled, Searchable, Searched}
+use Rattle.components.specs.Search.{State, stateOf, partOf, WayOf, GoodOf, VisitedOf, Leading, Callable, Cut, Numbered, Pushed, Settled, Searchable, Searched}
 use Rattle.components.proofs.Paths.{Walk, with, walk-begin, reaches, walk-skip, walk-cut, walk-call, walk-stay, walk-close, empty-good, search-done}
 
 pub cut-more : (bounds : List ℕ) (top p t : ℕ) → ((k : ℕ) → t ≤ k → k < top → p < getD bounds k 0) → p < getD bounds (t - 1) 0 → (k : ℕ) → t - 1 ≤ k → k < top → p < getD bounds k 0
@@ -46,8 +45,8 @@ numbered-more path done done′ at i count a l N = record {
         older (no z) = omega arith
 
 module _ (n : ℕ) (small : n ≤ 2048) (e : List ℕ) where
-  pub pair-bit : (x y : ℕ) → y < n → bitOf e x y ≡ true → pairOf n e y x ≡ true
-  unfolding pairOf
+  pub pair-bit : (x y : ℕ) → y < n → bitOf e x y ≡ true → partOf n e y x ≡ true
+  unfolding partOf
   pair-bit x y l f = both-and (lt-ltb y n l) f
 
   abbrev pub ws : (x : ℕ) → WayOf n e x x

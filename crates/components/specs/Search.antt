@@ -3,14 +3,13 @@
 -- they begin. A piece has a place on the path once it is met, and the number of its group, in the order in which groups end, once that ended.
 use mathlib.Core.Path.{_≡_}
 use mathlib.Core.Logic.{_⊎_}
-use mathlib.Core.Bool.{Bool, true, false}
+use mathlib.Core.Bool.{Bool, true, false, _&&_}
 use mathlib.Core.List.{List}
 use Prim.Native.Nat.{ℕ, suc, _+_, _-_, _<_, _≤_}
-use lib.Dec.{eqb}
+use lib.Dec.{eqb, ltb}
 use lib.ListN.{length, getD}
 use Rattle.relation.specs.Matrix.{bitOf}
 use Rattle.index.specs.Pairs.{Within}
-use Rattle.index.specs.Matrix.{pairOf}
 use Rattle.lists.specs.Tally.{tally}
 
 pub record State : Type 0 where
@@ -106,9 +105,13 @@ stateOf pos done path bounds len top count = record {
   count = count;
 }
 
--- y lies within x, by the pairs of pieces below n in the matrix e
+-- the pairs of the matrix e whose part is one of the n pieces
+unfoldable pub partOf : ℕ → List ℕ → ℕ → ℕ → Bool
+partOf n e p c = ltb p n && bitOf e c p
+
+-- y lies within x, by these pairs
 abbrev pub WayOf : ℕ → List ℕ → ℕ → ℕ → Type 0
-WayOf n e x y = Within (pairOf n e) y x
+WayOf n e x y = Within (partOf n e) y x
 
 abbrev pub GoodOf : ℕ → List ℕ → State → (ℕ → Bool) → Type 0
 GoodOf n e S gray = Good n 2048 (bitOf e) (WayOf n e) S gray

@@ -35,10 +35,9 @@ pub record Stored (n nodes : ℕ) (parens marks shadows places lead : List ℕ) 
   pub leads : (g h : ℕ) → g < n → h < n → number g ≡ number h → getD lead g 0 ≡ getD lead h 0
   pub same : (g : ℕ) → g < n → number (getD lead g 0) ≡ number g
 
--- bit g of row h: g is inside h. Every other bit is 0
+-- bit g of row h: g is inside h. Every other bit of the rows below n is 0
 pub record Contents (n : ℕ) (parens marks shadows places rows : List ℕ) : Type 0 where
   pub inside : (h g : ℕ) → h < n → g < n → (bitOf rows h g ≡ true) ↔ Inside (bits parens) (bits marks) shadows (getD places h 0) (getD places g 0)
-  pub no-row : (h g : ℕ) → n ≤ h → h < 2048 → g < 2048 → bitOf rows h g ≡ false
   pub no-column : (h g : ℕ) → h < n → n ≤ g → g < 2048 → bitOf rows h g ≡ false
 
 -- the place that counts at a place: the one for which the shadow there stands, or itself

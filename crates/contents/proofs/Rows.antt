@@ -49,12 +49,12 @@ module _ {places ends turned : List ℕ} (s : Setting places ends turned) where
   P = on.parens (whole (s .groups) (s .edge)) ++ s .zeros
 
   -- a row with the same bits
-  pub row-same : {rows rows′ : List ℕ} {r : ℕ} → r < 2048 → ((j : ℕ) → j < 2048 → bitOf rows′ r j ≡ bitOf rows r j) → Row s rows r → Row s rows′ r
+  pub row-same : {rows rows′ : List ℕ} {r : ℕ} → r < s .n → ((j : ℕ) → j < 2048 → bitOf rows′ r j ≡ bitOf rows r j) → Row s rows r → Row s rows′ r
   row-same {rows} {rows′} {r} l e R =
       record {
         sound = λ g b t. R .sound g b (sym (e g b) ∙ t);
         seeded = λ g b d ne. e g (omega (arith, s .few)) ∙ R .seeded g b d ne;
-        filled = λ t g b w. e g (omega (arith, s .few)) ∙ R .filled (sym (e r l) ∙ t) g b w;
+        filled = λ t g b w. e g (omega (arith, s .few)) ∙ R .filled (sym (e r (omega (arith, s .few))) ∙ t) g b w;
       }
 
   module _ (h : ℕ) (l : h < s .n) where
@@ -62,7 +62,7 @@ module _ {places ends turned : List ℕ} (s : Setting places ends turned) where
     pub record Started (rows : List ℕ) : Type 0 where
       pub own : (g : ℕ) → g < s .n → s .number g ≡ s .number h → bitOf rows h g ≡ true
       pub sound : (g : ℕ) → g < 2048 → bitOf rows h g ≡ true → (g < s .n) × Lies s g h
-      pub from : (r : ℕ) → level s h ≤ level s r → (r ≡ h → ⊥) → r < 2048 → Row s rows r
+      pub from : (r : ℕ) → level s h ≤ level s r → (r ≡ h → ⊥) → r < s .n → Row s rows r
 
     pub started : (rows rows′ : List ℕ) → From s rows h → s .leader (s .number h) ≡ h → Inserted rows rows′ h h → Started rows′
     started rows rows′ F d I =
@@ -73,7 +73,7 @@ module _ {places ends turned : List ℕ} (s : Setting places ends turned) where
         }
       where
         R : Row s rows h
-        R = F h (omega arith) (omega (arith, s .few))
+        R = F h (omega arith) l
 
         has : (g : ℕ) → g < s .n → s .number g ≡ s .number h → Dec (g ≡ h) → bitOf rows′ h g ≡ true
         has g b e (yes z) = rw z (I .hit)
@@ -81,7 +81,7 @@ module _ {places ends turned : List ℕ} (s : Setting places ends turned) where
 
         fit : (g : ℕ) → g < 2048 → bitOf rows′ h g ≡ true → Dec (g ≡ h) → (g < s .n) × Lies s g h
         fit g b t (yes z) = rw z (l, self)
-        fit g b t (no z) = let f = R .sound g b (sym (I .other h g b (λ q f. z f)) ∙ t) in (f .1, f .2)
+        fit g b t (no z) = R .sound g b (sym (I .other h g b (λ q f. z f)) ∙ t)
 
     -- the trees from place q on, up to `last`, that the walk has still to pass, and what it has joined
     pub record Walking (rows₀ rows : List ℕ) (last q : ℕ) : Type 0 where
@@ -93,7 +93,7 @@ module _ {places ends turned : List ℕ} (s : Setting places ends turned) where
       pub joined : (x : ℕ) → s .edge x (s .number h) ≡ true → (x ∈ todo) ⊎ ((g : ℕ) → g < s .n → Within (s .edge) (s .number g) x → bitOf rows h g ≡ true)
       pub own : (g : ℕ) → g < s .n → s .number g ≡ s .number h → bitOf rows h g ≡ true
       pub sound : (g : ℕ) → g < 2048 → bitOf rows h g ≡ true → (g < s .n) × Lies s g h
-      pub from : (r : ℕ) → level s h ≤ level s r → (r ≡ h → ⊥) → r < 2048 → Row s rows r
+      pub from : (r : ℕ) → level s h ≤ level s r → (r ≡ h → ⊥) → r < s .n → Row s rows r
       pub kept : (r j : ℕ) → level s r < level s h → j < 2048 → bitOf rows r j ≡ bitOf rows₀ r j
       pub grown : (r : ℕ) → r < 2048 → bitOf rows₀ r r ≡ true → bitOf rows r r ≡ true
 
@@ -226,9 +226,9 @@ module _ {places ends turned : List ℕ} (s : Setting places ends turned) where
       -- its row is filled, and joined
       module _ {rows₁ rows₂ : List ℕ} {t : ℕ} (b : q < last) (is : t ≡ getD turned q 0) (F : Filled s rows rows₁ t) (U : United rows₁ rows₂ h rows₁ t) where
         row : Row s rows₁ t
-        row = F .from t (omega arith) (omega (arith, small b is, s .few))
+        row = F .from t (omega arith) (small b is)
 
-        old : (r : ℕ) → level s h ≤ level s r → (r ≡ h → ⊥) → r < 2048 → Dec (level s t ≤ level s r) → Row s rows₁ r
+        old : (r : ℕ) → level s h ≤ level s r → (r ≡ h → ⊥) → r < s .n → Dec (level s t ≤ level s r) → Row s rows₁ r
         old r a ne d (yes y) = F .from r y d
         old r a ne d (no y) = row-same d (λ j e. F .kept r j (omega arith) e) (w .from r a ne d)
 
@@ -265,7 +265,7 @@ module _ {places ends turned : List ℕ} (s : Setting places ends turned) where
 
             sort : (g : ℕ) → g < 2048 → (bitOf rows₁ h g ≡ true) ⊎ (bitOf rows₁ t g ≡ true) → (g < s .n) × Lies s g h
             sort g d (inl i) = w .sound g d (sym (F .kept h g (above b is) d) ∙ i)
-            sort g d (inr i) = let f = row .sound g d i in (f .1, within-trans (f .2) (step (edge b is) self))
+            sort g d (inr i) = let f = row .sound g d i in (f .0, within-trans (f .1) (step (edge b is) self))
 
       -- fewer rows are left than where the call began: the measure
       pub fewer : (old : List ℕ) → bitOf old h h ≡ false → Inserted old rows₀ h h → unfilled rows < unfilled old
@@ -294,10 +294,10 @@ module _ {places ends turned : List ℕ} (s : Setting places ends turned) where
               pick (inl m) = absurd (List·Memᴰ·not-nil (subst (λ (ts : List ℕ). x ∈ ts) e m))
               pick (inr f) = f g d v
 
-          row : w .todo ≡ [] → (r : ℕ) → level s h ≤ level s r → r < 2048 → Dec (r ≡ h) → Row s rows r
+          row : w .todo ≡ [] → (r : ℕ) → level s h ≤ level s r → r < s .n → Dec (r ≡ h) → Row s rows r
           row e r a d (no y) = w .from r a y d
           row e r a d (yes z) =
-              rw z (record { sound = λ g k t. (l, w .sound g k t .0, w .sound g k t .1); seeded = λ g b c ne. w .own g b (sym (s .leads (s .number g) (s .below g b) .1) ∙ ap (s .number) c); filled = λ t g k v. reach e g k (within-top v) })
+              rw z (record { sound = w .sound; seeded = λ g b c ne. w .own g b (sym (s .leads (s .number g) (s .below g b) .1) ∙ ap (s .number) c); filled = λ t g k v. reach e g k (within-top v) })
 
           go : (ts : List ℕ) → w .todo ≡ ts → Stands P W q (hang (s .groups) (s .edge) (under (s .groups) (s .edge) (w .deep)) (s .number h) ts)
               → last ≡ q + length (visits (hang (s .groups) (s .edge) (under (s .groups) (s .edge) (w .deep)) (s .number h) ts)) → Filled s old rows h
@@ -327,17 +327,17 @@ module _ {places ends turned : List ℕ} (s : Setting places ends turned) where
       }
 
   -- the rows that the walks begin with
-  pub seeded-rows : (n : ℕ) (lead rows : List ℕ) → n ≡ s .n → Leads s lead → Seeded n lead rows → All s rows
+  pub seeded-rows : (n : ℕ) (lead rows : List ℕ) → n ≡ s .n → Leads s lead → Seeded n n lead rows → All s rows
   seeded-rows n lead rows same L S h b =
       record {
-        sound = λ g d t. fit g (S .bits h g b d .0 t);
-        seeded = λ g d e ne. S .bits h g b (omega (arith, s .few)) .1 (omega arith, L .1 g d ∙ e, ne);
-        filled = λ t. absurd (S .bits h h b b .0 t .2 refl);
+        sound = λ g d t. fit g (S .bits h g (omega arith) d .0 t);
+        seeded = λ g d e ne. S .bits h g (omega arith) (omega (arith, s .few)) .1 (omega arith, L .1 g d ∙ e, ne);
+        filled = λ t. absurd (S .bits h h (omega arith) (omega (arith, s .few)) .0 t .2 refl);
       }
     where
-      fit : (g : ℕ) → (g < n) × (getD lead g 0 ≡ h) × (g ≡ h → ⊥) → (h < s .n) × (g < s .n) × Lies s g h
+      fit : (g : ℕ) → (g < n) × (getD lead g 0 ≡ h) × (g ≡ h → ⊥) → (g < s .n) × Lies s g h
       fit g (c, e, ne) =
           let d : g < s .n = omega arith in
           let is : s .leader (s .number g) ≡ h = sym (L .1 g d) ∙ e in
           let k = s .leads (s .number g) (s .below g d) in
-          (rw is at (k .0), d, rw (sym (sym (k .1) ∙ ap (s .number) is)) self)
+          (d, rw (sym (sym (k .1) ∙ ap (s .number) is)) self)

@@ -234,20 +234,19 @@ module _ (n nodes : ℕ) (parens marks shadows places lead : List ℕ) (S : Stor
       sound h g a b t = go (or-either (bitOf rows h g) (bitOf rows (getD lead h 0) g) (sym (H .row h g a b) ∙ t))
         where
           go : (bitOf rows h g ≡ true) ⊎ (bitOf rows (getD lead h 0) g ≡ true) → (g < n) × Within (S .edge) (S .number g) (S .number h)
-          go (inl i) = let f = F .from h (omega arith) .sound g b i in (f .1, f .2)
-          go (inr i) = let f = F .from (getD lead h 0) (omega (arith, S .led .below h a)) .sound g b i in (f .1, rw (S .same h a) at (f .2))
+          go (inl i) = F .from h a .sound g b i
+          go (inr i) = let f = F .from (getD lead h 0) (S .led .below h a) .sound g b i in (f .0, rw (S .same h a) at (f .1))
 
       complete : (h g : ℕ) → h < n → g < n → Within (S .edge) (S .number g) (S .number h) → bitOf rows′ h g ≡ true
       unfolding setting
       complete h g a b w =
-          H .row h g a (omega arith) ∙ right-or (bitOf rows h g) (F .from (getD lead h 0) (omega (arith, S .led .below h a)) .filled (rw (lead-is h a) (F .own h a)) g b (rw (S .same h a) w))
+          H .row h g a (omega arith) ∙ right-or (bitOf rows h g) (F .from (getD lead h 0) (S .led .below h a) .filled (rw (lead-is h a) (F .own h a)) g b (rw (S .same h a) w))
 
       rows-hold : Contents n parens marks shadows places rows′
       unfolding setting
       rows-hold =
           record {
             inside = λ h g a b. let i = inside-within S h g a b in (λ t. i .1 (sound h g a (omega arith) t .1), λ t. complete h g a b (i .0 t));
-            no-row = λ h g a b d. H .other h g a b d ∙ not-true (bitOf rows h g) (λ t. let l = F .from h b .sound g d t .0 in omega arith);
             no-column = λ h g a b d. not-true (bitOf rows′ h g) (λ t. let l = sound h g a d t .0 in omega arith);
           }
 

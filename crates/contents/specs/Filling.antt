@@ -44,19 +44,19 @@ module _ {places ends turned : List ℕ} (s : Setting places ends turned) where
   Lies g h = Within (s .edge) (s .number g) (s .number h)
 
   pub record Row (rows : List ℕ) (h : ℕ) : Type 0 where
-    pub sound : (g : ℕ) → g < 2048 → bitOf rows h g ≡ true → (h < s .n) × (g < s .n) × Lies g h
+    pub sound : (g : ℕ) → g < 2048 → bitOf rows h g ≡ true → (g < s .n) × Lies g h
     pub seeded : (g : ℕ) → g < s .n → s .leader (s .number g) ≡ h → (g ≡ h → ⊥) → bitOf rows h g ≡ true
     pub filled : bitOf rows h h ≡ true → (g : ℕ) → g < s .n → Lies g h → bitOf rows h g ≡ true
 
-  -- all rows; and those of groups at the level of h's and deeper
+  -- all rows below n; and those of groups at the level of h's and deeper
   abbrev pub All : List ℕ → Type 0
-  All rows = (r : ℕ) → r < 2048 → Row rows r
+  All rows = (r : ℕ) → r < s .n → Row rows r
 
   abbrev pub level : ℕ → ℕ
   level h = s .book .level (s .number h)
 
   abbrev pub From : List ℕ → ℕ → Type 0
-  From rows h = (r : ℕ) → level h ≤ level r → r < 2048 → Row rows r
+  From rows h = (r : ℕ) → level h ≤ level r → r < s .n → Row rows r
 
   -- row h is filled, no row of a higher level is touched, and what is filled stays so
   pub record Filled (rows rows′ : List ℕ) (h : ℕ) : Type 0 where
@@ -74,9 +74,9 @@ module _ {places ends turned : List ℕ} (s : Setting places ends turned) where
   abbrev pub Leads : List ℕ → Type 0
   Leads lead = (s .n ≤ length lead) × ((g : ℕ) → g < s .n → getD lead g 0 ≡ s .leader (s .number g))
 
--- each piece below n that follows another has a bit in that one's row, and there is no other bit
-pub record Seeded (n : ℕ) (lead rows : List ℕ) : Type 0 where
-  pub bits : (h g : ℕ) → h < 2048 → g < 2048 → (bitOf rows h g ≡ true) ↔ ((g < n) × (getD lead g 0 ≡ h) × (g ≡ h → ⊥))
+-- each piece below k that follows another has a bit in that one's row, and the rows below n have no other bit
+pub record Seeded (n k : ℕ) (lead rows : List ℕ) : Type 0 where
+  pub bits : (h g : ℕ) → h < n → g < 2048 → (bitOf rows h g ≡ true) ↔ ((g < k) × (getD lead g 0 ≡ h) × (g ≡ h → ⊥))
 
 pub record Fillable (places ends turned rows : List ℕ) (h : ℕ) : Type 0 where
   pub setting : Setting places ends turned

@@ -49,12 +49,12 @@ fn end_at(ends: &[u16], q: TreeId) -> TreeId
     TreeId(index::wide(ends[k]))
 }
 
-// Puts each piece below n that follows another into that one's row, and clears every other bit.
+// Puts each piece below n that follows another into that one's row, and clears every other bit of the rows below n.
 fn seed(n: usize, lead: &[u16], rows: &mut [u64])
     requires { ⌜ (n ≤ 2048) × (length (now rows) ≡ 65536) × Led n (now lead) ⌝ }
-    ensures { λ _. ⌜ Seeded n (now (lead .entry)) (now (rows .exit)) ⌝ }
+    ensures { λ _. ⌜ Seeded n n (now (lead .entry)) (now (rows .exit)) ⌝ }
 {
-    relation::clear(rows);
+    relation::clear_rows(rows, n);
     let mut i: usize = 0;
     while i < n {
         let g = i;
@@ -80,8 +80,33 @@ fn fill_all(n: usize, places: &[u16], ends: &[u16], turned: &[u16], lead: &[u16]
     }
 }
 
-// Fills the row of each piece below n with the pieces inside it, and clears every other bit. Pieces at one place have one row, which
-// is filled once: that of their leader. So many paths to one piece cost no more than one.
+// Fills the row of each piece below n with the pieces inside it, and clears its other bits. Pieces at one place have one row, which
+// is filled once: that of their leader. So many paths to one piece cost no more than one. The two tables of the places are scratch.
+fn contents_by(
+    n: usize,
+    nodes: usize,
+    parens: &[u8],
+    marks: &[u8],
+    shadows: &[u16],
+    places: &[u16],
+    lead: &[u16],
+    rows: &mut [u64],
+    ends: &mut [u16],
+    turned: &mut [u16],
+)
+    requires { ⌜ (n ≤ 2048) × (nodes ≤ 18432) × (length (now rows) ≡ 65536) × Stored n nodes (now parens) (now marks) (now shadows) (now places) (now lead) × (nodes ≤ length (now ends)) × (nodes ≤ length (now turned)) ⌝ }
+    ensures { λ _. ⌜ Contents n (now (parens .entry)) (now (marks .entry)) (now (shadows .entry)) (now (places .entry)) (now (rows .exit)) ⌝ }
+{
+    let bytes = (nodes + 3) / 4;
+    containment::subtree_ends(nodes, &parens[..bytes], ends);
+    containment::number_nodes(n, places, lead, turned);
+    containment::number_shadows(nodes, marks, shadows, turned);
+    seed(n, lead, rows);
+    fill_all(n, places, ends, turned, lead, rows);
+    joins::share_rows(lead, n, rows);
+}
+
+// The same with tables of its own: short ones for a small tree, since to clear long ones takes longer than to fill its rows.
 pub fn contents(
     n: usize,
     nodes: usize,
@@ -95,13 +120,35 @@ pub fn contents(
     requires { ⌜ (n ≤ 2048) × (nodes ≤ 18432) × (length (now rows) ≡ 65536) × Stored n nodes (now parens) (now marks) (now shadows) (now places) (now lead) ⌝ }
     ensures { λ _. ⌜ Contents n (now (parens .entry)) (now (marks .entry)) (now (shadows .entry)) (now (places .entry)) (now (rows .exit)) ⌝ }
 {
+    if nodes <= 512 {
+        let mut ends = [0u16; 512];
+        let mut turned = [0u16; 512];
+        contents_by(
+            n,
+            nodes,
+            parens,
+            marks,
+            shadows,
+            places,
+            lead,
+            rows,
+            &mut ends,
+            &mut turned,
+        );
+        return;
+    }
     let mut ends = [0u16; 18432];
     let mut turned = [0u16; 18432];
-    let bytes = (nodes + 3) / 4;
-    containment::subtree_ends(nodes, &parens[..bytes], &mut ends);
-    containment::number_nodes(n, places, lead, &mut turned);
-    containment::number_shadows(nodes, marks, shadows, &mut turned);
-    seed(n, lead, rows);
-    fill_all(n, places, &ends, &turned, lead, rows);
-    joins::share_rows(lead, n, rows);
+    contents_by(
+        n,
+        nodes,
+        parens,
+        marks,
+        shadows,
+        places,
+        lead,
+        rows,
+        &mut ends,
+        &mut turned,
+    );
 }

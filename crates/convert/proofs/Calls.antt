@@ -30,6 +30,7 @@ use Rattle.outcomes.specs.Call.{byRuns, outcome, Passed}
 use Rattle.outcomes.specs.Outcome.{number}
 use Rattle.outcomes.proofs.Outcomes.{passed-outcome}
 use Rattle.convert.specs.Same.{InForce, SameAnswers}
+use Rattle.convert.specs.Called.{ConvertedAccepted, ConvertedAnswers}
 use Rattle.convert.proofs.Markless.{former-markless}
 
 module _ (s t cs : List ℕ) (l : Lent) (F : InForce s t) (lent : shortLent cs l ≡ false) (fit : claimsCheck (pieceCount s) cs ≡ claims.Accepted) where
@@ -38,9 +39,9 @@ module _ (s t cs : List ℕ) (l : Lent) (F : InForce s t) (lent : shortLent cs l
       let S = settleable t (pieceCount s) (F .sound) in
       sym (not-true _ (λ e. F .consistent (rw (F .counted) (clash-iff (marked t) (pieceCount s) (facts t) (S .bounded .within) (S .bounded .some) (whole-unmarked t (pieceCount s) (F .sound)) .0 e))))
 
-  pub converted-accepted : number (outcome t cs l) ≡ 0
+  is-accepted : number (outcome t cs l) ≡ 0
   unfolding byRuns
-  converted-accepted =
+  is-accepted =
       ap number (passed-outcome t cs l (pieceCount s) (record { lent = lent; sound = F .sound; fit = fit }))
       ∙ rw (lt-leb (shortestClash (marked t) (pieceCount s) (entries t)) (records t) (free-beyond (settleable t (pieceCount s) (F .sound)) (marked t) (whole-unmarked t (pieceCount s) (F .sound)) free), byRuns)
 
@@ -56,11 +57,17 @@ module _ (s t cs : List ℕ) (l : Lent) (F : InForce s t) (lent : shortLent cs l
     unfolding at claimed
     at-same i h = rw (F .counted, silent) at (same (recordAt cs i) (accepted-claims (pieceCount s) cs fit .within i h))
 
-    pub converted-answers : answersTo t (pieceCount s) cs ≡ answersTo s (pieceCount s) cs
+    same-answers : answersTo t (pieceCount s) cs ≡ answersTo s (pieceCount s) cs
     unfolding answersTo at
-    converted-answers =
+    same-answers =
         let long : (u : List ℕ) → _ = λ u. tab-length (λ i. at i u) 0 (records cs) in
         ext-getD 0 _ _ (long t ∙ sym (long s))
         (λ i h.
         let k : i < records cs = omega (arith, long t) in
         tab-at (λ i. at i t) (records cs) i 0 k ∙ at-same i k ∙ sym (tab-at (λ i. at i s) (records cs) i 0 k))
+
+pub converted-accepted : ConvertedAccepted
+converted-accepted s t cs l F lent fit = is-accepted s t cs l F lent fit
+
+pub converted-answers : ConvertedAnswers
+converted-answers s t cs l F lent fit former same = same-answers s t cs l F lent fit former same

@@ -2,3 +2,4 @@ pub mod Converted
 pub mod Conversion
 pub mod Same
 pub mod Writing
+pub mod Called

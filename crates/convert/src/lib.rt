@@ -47,30 +47,30 @@ fn write_book(book: &[u8], n: usize, out: &mut [u8]) -> usize
 }
 
 // Row 14 of a book of the former edition, which has no marks.
-fn settle(book: &[u8], n: usize) -> Settled
+fn settle(
+    book: &[u8],
+    n: usize,
+    e: &mut [u64; 65536],
+    d: &mut [u64; 65536],
+    t: &mut [u64; 65536],
+) -> Settled
     requires { ⌜ FormerBook (now book) n ⌝ }
     ensures { λ r. ⌜ Judged (now (book .entry)) n r ⌝ }
 {
     let voids = [0u64; 32];
-    let mut e = [0u64; 65536];
     let mut order = [0u16; 2048];
     let mut lead = [0u16; 2048];
-    let mut d = [0u64; 65536];
-    let mut t = [0u64; 65536];
-    settling::settle_alone(
-        book,
-        n,
-        &voids,
-        &mut e,
-        &mut order,
-        &mut lead,
-        &mut d,
-        &mut t,
-    )
+    settling::settle_alone(book, n, &voids, e, &mut order, &mut lead, d, t)
 }
 
 // Converts a book of the former edition to the one in force.
-pub fn convert(book: &[u8], out: &mut [u8]) -> Conversion
+pub fn convert(
+    book: &[u8],
+    out: &mut [u8],
+    e: &mut [u64; 65536],
+    d: &mut [u64; 65536],
+    t: &mut [u64; 65536],
+) -> Conversion
     ensures determined { λ r. ⌜ Determined (now (book .entry)) (now (out .entry)) r (now (out .exit)) ⌝ }
     ensures accepted { λ r. ⌜ (number r ≡ 0 → InForce (now (book .entry)) (converted (now (book .entry)))) ⌝ }
     ensures same { λ r. ⌜ (number r ≡ 0 → SameAnswers (now (book .entry)) (converted (now (book .entry)))) ⌝ }
@@ -82,7 +82,7 @@ pub fn convert(book: &[u8], out: &mut [u8]) -> Conversion
     match checked {
         BookCheck::Refused(refusal, place) => Conversion::Refused(refusal, place),
         BookCheck::Accepted(n) => {
-            let settled = settle(book, n);
+            let settled = settle(book, n, e, d, t);
             match settled {
                 Settled::Clash(place) => Conversion::Refused(Refusal::Contradiction, place),
                 Settled::Free(_, _) => Conversion::Written(write_book(book, n, out)),

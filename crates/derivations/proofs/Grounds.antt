@@ -18,7 +18,6 @@ use Rattle.rules.specs.Follows.{storing, turned, meets, follows, derived}
 use Rattle.rules.proofs.Facts.{storing-find}
 use Rattle.rules.proofs.Decides.{follows-iff}
 use Rattle.rules.proofs.Plain.{inside, plain, follows-plain}
-use Rattle.records.specs.declared.Edition.the-variants.{Current}
 use Rattle.records.specs.declared.Record.{Record}
 use Rattle.records.specs.Record.{recordAt, records}
 use Rattle.records.specs.Pieces.{stated}
@@ -27,7 +26,7 @@ use Rattle.records.specs.Kept.{picked}
 use Rattle.records.specs.Marked.{marks, marked}
 use Rattle.records.proofs.Keeps.{picked-among}
 use Rattle.records.proofs.Marks.{marks-from, marks-here, marked-from}
-use Rattle.records.proofs.Accepted.{AcceptedBook, accepted, accepted-within, accepted-positive, accepted-pieces, says-kind, says-left, says-right}
+use Rattle.records.proofs.Accepted.{says-kind, says-left, says-right}
 use Rattle.storing.specs.Void.{voidOf}
 use Rattle.storing.specs.Bounded.{Bounded}
 use Rattle.storing.specs.Stored.{storedBit, edgeBit}
@@ -35,7 +34,6 @@ use Rattle.storing.specs.Closed.{Holds, partBit}
 use Rattle.verdicts.specs.ByMarks.{byMarks}
 use Rattle.storing.proofs.StoredBits.{swapped-hit}
 use Rattle.verdicts.proofs.Answering.{part-told, meets-told}
-use Rattle.records.proofs.Marks.{accepted-whole-unmarked}
 use Rattle.steps.specs.Step.{stepAt, unordered, shows}
 use Rattle.steps.specs.Citing.{fact, none, lets, citing, marksPiece}
 use Rattle.chain_steps.proofs.Passing.{all-none}
@@ -46,7 +44,7 @@ use Rattle.derivations.specs.declared.search.Aim.{Aim}
 use Rattle.derivations.specs.declared.search.Aim.the-variants.{Apart, Meets, NotPart, Outside}
 use Rattle.derivations.specs.Aim.{kindFor, joining, serving}
 use Rattle.part_steps.specs.Sources.{Stepped}
-use Rattle.showing.specs.Lifts.{Setting, Inside}
+use Rattle.showing.specs.Lifts.{Setting, Telling, Inside}
 use Rattle.showing.specs.Shown.{Writes}
 use Rattle.derivations.specs.Found.{Ground, Found}
 
@@ -60,6 +58,16 @@ mark-there s g i m off =
           absurd (false≢true (sym (off (omega arith) (f .0) (f .1)) ∙ marks-here (recordAt s (f .0)) g (f .2) (f .3)))
     ]
 
+-- what is written follows
+pub written-follows :
+    {n : ℕ} (claim : Record) (s : List ℕ) → AllWithin n (facts (picked s claim)) → 0 < n → (f : Fact) → Within n f → {most r : ℕ} {c c′ : List ℕ} → Writes n (citing claim s) f most c 0 c′ r
+    → follows (marked s) n (facts (picked s claim)) f ≡ true
+written-follows {n} claim s i p f w {most} {r} {c} {c′} W =
+    let l = W .more in
+    let fs = facts (picked s claim) in
+    follows-iff (marked s) n fs i p f w .1
+    (shown-derives (marked s) n (citing claim s) fs (given claim s) c′ r (λ i h z g q. cited-picked claim s (stepAt c′ i .first) g q .1) (W .ok (all-none n (citing claim s) c)) (r - 1) (omega arith) f (W .shown))
+
 stated-kind : (k x y : ℕ) → 1 ≤ k → k ≤ 4 → stated (record { kind = k; origin = 0; a = x; b = y }) ≡ true
 unfolding stated
 stated-kind k x y l h = both-and (le-leb 1 k l) (le-leb k 4 h)
@@ -68,26 +76,23 @@ module _ {n : ℕ} {claim : Record} {s voids e d t : List ℕ} (G : Ground n cla
   abbrev fs : List Fact
   fs = facts (picked s claim)
 
-  pub book-ok : AcceptedBook Current s n
-  book-ok = accepted s n (G .sound)
-
   pub positive : 0 < n
-  positive = accepted-positive book-ok
+  positive = G .bounded .some
 
   pub small : n ≤ 2048
-  small = accepted-pieces book-ok
+  small = G .bounded .fits
 
   pub all-within : AllWithin 2048 (facts s)
-  all-within f m = let b = accepted-within book-ok f m in let l = small in (omega (arith, b .0), omega (arith, b .1))
+  all-within f m = let b = G .bounded .within f m in let l = small in (omega (arith, b .0), omega (arith, b .1))
 
-  within : AllWithin n fs
-  within f m = accepted-within book-ok f (picked-among s claim f m)
+  pub within : AllWithin n fs
+  within f m = G .bounded .within f (picked-among s claim f m)
 
   bounded : Bounded n fs
   bounded = record { some = positive; fits = small; within = within }
 
-  bare : marked s 0 ≡ false
-  bare = accepted-whole-unmarked (accepted s n (G .sound))
+  pub bare : marked s 0 ≡ false
+  bare = ap (λ (f : ℕ → Bool). f 0) (sym (G .void .1)) ∙ G .void .0 .whole
 
   -- ---- the steps of containment
 
@@ -120,7 +125,11 @@ module _ {n : ℕ} {claim : Record} {s voids e d t : List ℕ} (G : Ground n cla
       edge-stored x y m = swapped-hit fs 1 y x false refl m
 
   pub setting : Setting n claim s e
-  setting = record { matrix = G .steps .sized; small = small; few = book-ok .few; within = within; stepped = stepped }
+  setting = record { matrix = G .steps .sized; small = small; few = G .few; within = within; stepped = stepped }
+
+  pub telling : Telling n claim s d
+  unfolding partBit
+  telling = let l = small in record { sized = G .parts .sized; tells = λ g k lg lk. G .parts .bits k g lk (omega arith) ∙ rw (lt-ltb g n lg, lt-ltb k n lk) }
 
   -- ---- bits of D and meetings of T and D
 
@@ -146,10 +155,7 @@ module _ {n : ℕ} {claim : Record} {s voids e d t : List ℕ} (G : Ground n cla
   -- ---- what is written follows
 
   pub writes-follows : (f : Fact) → Within n f → {most r : ℕ} {c c′ : List ℕ} → Writes n (citing claim s) f most c 0 c′ r → follows (marked s) n fs f ≡ true
-  writes-follows f w {most} {r} {c} {c′} W =
-      let l = W .more in
-      follows-iff (marked s) n fs within positive f w .1
-      (shown-derives (marked s) n (citing claim s) fs (given claim s) c′ r (λ i h z g q. cited-picked claim s (stepAt c′ i .first) g q .1) (W .ok (all-none n (citing claim s) c)) (r - 1) (omega arith) f (W .shown))
+  writes-follows f w W = written-follows claim s within positive f w W
 
   -- ---- marks
 

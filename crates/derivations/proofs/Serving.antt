@@ -15,7 +15,6 @@ use Rattle.records.specs.Facts.{facts}
 use Rattle.records.specs.declared.Record.{Record}
 use Rattle.records.specs.Record.{recordAt, records}
 use Rattle.records.specs.Pieces.{stated}
-use Rattle.records.proofs.Accepted.{accepted-within}
 use Rattle.storing.proofs.Runs.{record-within}
 use Rattle.steps.specs.declared.Step.{Step}
 use Rattle.steps.specs.Step.{unordered, showing, shows}
@@ -29,7 +28,7 @@ use Rattle.derivations.specs.Aim.{kindFor, joining, serving}
 use Rattle.showing.specs.Lifts.{Grounded}
 use Rattle.derivations.specs.Found.{Ground, Witnessed}
 use Rattle.showing.proofs.Carries.{saying, as-said, turned-said, stored-grounded}
-use Rattle.derivations.proofs.Grounds.{book-ok, small}
+use Rattle.derivations.proofs.Grounds.{small}
 
 -- ---- which pieces lead to the fact
 
@@ -125,7 +124,7 @@ module _ {n : ℕ} {claim : Record} {s voids e d t : List ℕ} (G : Ground n cla
       let k = parts-of .0 in
       let z = kind-range aim in
       let f : recordAt s i .kind ≡ kindFor aim = sym (ap (λ (v : Record). v .kind) q) ∙ k in
-      let w = record-within s n (accepted-within (book-ok G)) i h (omega (arith, z .0)) (omega (arith, z .1)) in
+      let w = record-within s n (G .bounded .within) i h (omega (arith, z .0)) (omega (arith, z .1)) in
       (subst (λ (v : Record). v .a < n) (sym q) (w .0), subst (λ (v : Record). v .b < n) (sym q) (w .1))
 
   abbrev step : Step
@@ -135,12 +134,13 @@ module _ {n : ℕ} {claim : Record} {s voids e d t : List ℕ} (G : Ground n cla
   cited = sym (brings-fact claim s step h r q is-stated (parts-of .1)) ∙ as-said 0 (r .kind) (r .a) (r .b) i
 
   grounded : Grounded n (citing claim s) step
-  grounded = let f = book-ok G .few in stored-grounded n (citing claim s) (small G) (r .kind) (r .a) (r .b) i (pieces-in .0) (pieces-in .1) (omega arith) cited
+  grounded = let f = G .few in stored-grounded n (citing claim s) (small G) (r .kind) (r .a) (r .b) i (pieces-in .0) (pieces-in .1) (omega arith) cited
 
   pub cited-straight : joining aim d t a b (r .a) (r .b) ≡ true → Witnessed n (citing claim s) aim d t a b (record { step = step; x = r .a; y = r .b })
   cited-straight j =
       record {
         grounded = grounded;
+        cited = cited;
         shown = subst (λ (k : ℕ). showing step k (r .a) (r .b) ≡ true) (parts-of .0) (as-said 0 (r .kind) (r .a) (r .b) i);
         left = pieces-in .0;
         right = pieces-in .1;
@@ -152,6 +152,7 @@ module _ {n : ℕ} {claim : Record} {s voids e d t : List ℕ} (G : Ground n cla
       let z = turned-by (or-either _ _ (parts-of .2)) in
       record {
         grounded = grounded;
+        cited = cited;
         shown = subst (λ (k : ℕ). showing step k (r .b) (r .a) ≡ true) (parts-of .0) (turned-said 0 (r .kind) (r .a) (r .b) i (ap unordered (parts-of .0) ∙ z .0));
         left = pieces-in .1;
         right = pieces-in .0;

@@ -124,7 +124,7 @@ fn chain_meets(
         return 0;
     }
     let step = w.step;
-    showing::show_meets(book, n, claim, e, step, w.x, w.y, a, b, c, 0)
+    showing::show_meeting(book, n, claim, e, d, step, w.x, w.y, a, b, c, 0)
 }
 
 // a NOTPART b of a piece that is not marked and one that is: a MEETS a, b APART a, and rule (d').
@@ -213,6 +213,7 @@ fn chain_outside(
         n,
         claim,
         e,
+        d,
         apart,
         u.x,
         u.y,

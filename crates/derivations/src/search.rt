@@ -11,7 +11,7 @@ ghost use Rattle.records.specs.Marked.{marks};
 ghost use Rattle.storing.specs.Void.{voidOf};
 ghost use Rattle.steps.specs.Citing.{citing};
 ghost use Rattle.derivations.specs.Aim.{kindFor, joining, serving};
-ghost use Rattle.derivations.specs.Found.{Found, Ground, Witnessed, Met};
+ghost use Rattle.derivations.specs.Found.{Found, Singly, Ground, Witnessed, Met};
 use records::Record;
 use steps::Step;
 
@@ -36,6 +36,12 @@ pub struct Meeting {
     pub step: Step,
     pub x: usize,
     pub y: usize,
+}
+
+// A step that needs no earlier one, if there is one.
+pub struct Single {
+    pub found: bool,
+    pub step: Step,
 }
 
 // Two bits of a matrix.
@@ -161,6 +167,41 @@ pub fn cite_record(
         x: r.b,
         y: r.a,
     }
+}
+
+// A step that shows the fact of this kind about a and b by rule (f), or by a record that may be cited. No matrix is asked.
+pub fn find_single(n: usize, claim: Record, book: &[u8], kind: u8, a: usize, b: usize) -> Single
+    requires { ⌜ (n ≤ 2048) × (a < n) × (b < n) × (records (now book) ≤ 8192) ⌝ }
+    ensures { λ r. ⌜ Singly n (citing claim (now (book .entry))) kind a b r ⌝ }
+{
+    let mut step = Step {
+        rule: 4,
+        kind,
+        a,
+        b,
+        first: 0,
+        second: 0,
+    };
+    if steps::shows(step, 1, a, 0) {
+        return Single { found: true, step };
+    }
+    let m = book.len() / 6;
+    let mut i: usize = 0;
+    while i < m {
+        step = Step {
+            rule: 0,
+            kind,
+            a,
+            b,
+            first: i,
+            second: 0,
+        };
+        if steps::cites(claim, book, step) {
+            return Single { found: true, step };
+        }
+        i += 1;
+    }
+    Single { found: false, step }
 }
 
 // The first record that marks piece g; the number of records where none does.

@@ -1,6 +1,6 @@
 // Bits and parentheses, for bench/parentheses.c and tests/leaves/: of at most 2,560 bytes, the ones before position k, the position of the
 // j-th 1, the positions that close and that enclose the parenthesis at open, and the first place past a node's subtree. A position that is
-// missing is the number of bits. All else is answered by 0.
+// missing is the number of bits. More bytes, a position beyond the bits and, for a close, one that opens nothing are answered by 0.
 ghost use mathlib.Core.Path.{_≡_};
 ghost use mathlib.Core.Bool.{true, false};
 ghost use Prim.Native.Nat.{_*_, _<_, _≤_};
@@ -11,12 +11,12 @@ ghost use Rattle.packed.specs.Close.{close};
 ghost use Rattle.parentheses.specs.Enclose.{enclosing};
 ghost use Rattle.parentheses.specs.Subtree.{after};
 ghost use Rattle.parentheses.specs.Found.{foundBelow};
-ghost use Rattle.exports.specs.Positions.{positionOf};
+ghost use Rattle.exports.specs.Positions.{positionOf, Either};
 use parentheses::Found;
 
 #[no_mangle]
 pub extern "C" fn parentheses_ones_before(bytes: &[u8], k: usize) -> usize
-    ensures { λ r. ⌜ (length (now (bytes .entry)) ≤ 2560 → k ≤ 8 * length (now (bytes .entry)) → r ≡ rank (bits (now (bytes .entry))) k) ⌝ }
+    ensures { λ r. ⌜ Either ((length (now (bytes .entry)) ≤ 2560) × (k ≤ 8 * length (now (bytes .entry)))) r (rank (bits (now (bytes .entry))) k) 0 ⌝ }
 {
     if bytes.len() > 2560 {
         return 0;
@@ -29,7 +29,7 @@ pub extern "C" fn parentheses_ones_before(bytes: &[u8], k: usize) -> usize
 
 #[no_mangle]
 pub extern "C" fn parentheses_select(bytes: &[u8], j: usize) -> usize
-    ensures { λ r. ⌜ (length (now (bytes .entry)) ≤ 2560 → r ≡ positionOf (8 * length (now (bytes .entry))) (foundBelow (8 * length (now (bytes .entry))) (select (bits (now (bytes .entry))) j))) ⌝ }
+    ensures { λ r. ⌜ Either (length (now (bytes .entry)) ≤ 2560) r (positionOf (8 * length (now (bytes .entry))) (foundBelow (8 * length (now (bytes .entry))) (select (bits (now (bytes .entry))) j))) 0 ⌝ }
 {
     if bytes.len() > 2560 {
         return 0;
@@ -42,7 +42,7 @@ pub extern "C" fn parentheses_select(bytes: &[u8], j: usize) -> usize
 
 #[no_mangle]
 pub extern "C" fn parentheses_find_close(bytes: &[u8], open: usize) -> usize
-    ensures { λ r. ⌜ (length (now (bytes .entry)) ≤ 2560 → «open» < 8 * length (now (bytes .entry)) → getD (bits (now (bytes .entry))) «open» false ≡ true → r ≡ positionOf (8 * length (now (bytes .entry))) (foundBelow (8 * length (now (bytes .entry))) (close (bits (now (bytes .entry))) «open»))) ⌝ }
+    ensures { λ r. ⌜ Either ((length (now (bytes .entry)) ≤ 2560) × («open» < 8 * length (now (bytes .entry))) × (getD (bits (now (bytes .entry))) «open» false ≡ true)) r (positionOf (8 * length (now (bytes .entry))) (foundBelow (8 * length (now (bytes .entry))) (close (bits (now (bytes .entry))) «open»))) 0 ⌝ }
 {
     if bytes.len() > 2560 {
         return 0;
@@ -62,7 +62,7 @@ pub extern "C" fn parentheses_find_close(bytes: &[u8], open: usize) -> usize
 // The same search with the ones before each byte counted first, as the calls do it.
 #[no_mangle]
 pub extern "C" fn parentheses_find_close_by(bytes: &[u8], open: usize) -> usize
-    ensures { λ r. ⌜ (length (now (bytes .entry)) ≤ 2560 → «open» < 8 * length (now (bytes .entry)) → getD (bits (now (bytes .entry))) «open» false ≡ true → r ≡ positionOf (8 * length (now (bytes .entry))) (foundBelow (8 * length (now (bytes .entry))) (close (bits (now (bytes .entry))) «open»))) ⌝ }
+    ensures { λ r. ⌜ Either ((length (now (bytes .entry)) ≤ 2560) × («open» < 8 * length (now (bytes .entry))) × (getD (bits (now (bytes .entry))) «open» false ≡ true)) r (positionOf (8 * length (now (bytes .entry))) (foundBelow (8 * length (now (bytes .entry))) (close (bits (now (bytes .entry))) «open»))) 0 ⌝ }
 {
     if bytes.len() > 2560 {
         return 0;
@@ -83,7 +83,7 @@ pub extern "C" fn parentheses_find_close_by(bytes: &[u8], open: usize) -> usize
 
 #[no_mangle]
 pub extern "C" fn parentheses_enclose(bytes: &[u8], open: usize) -> usize
-    ensures { λ r. ⌜ (length (now (bytes .entry)) ≤ 2560 → «open» ≤ 8 * length (now (bytes .entry)) → r ≡ positionOf (8 * length (now (bytes .entry))) (enclosing (bits (now (bytes .entry))) «open»)) ⌝ }
+    ensures { λ r. ⌜ Either ((length (now (bytes .entry)) ≤ 2560) × («open» ≤ 8 * length (now (bytes .entry)))) r (positionOf (8 * length (now (bytes .entry))) (enclosing (bits (now (bytes .entry))) «open»)) 0 ⌝ }
 {
     if bytes.len() > 2560 {
         return 0;
@@ -99,7 +99,7 @@ pub extern "C" fn parentheses_enclose(bytes: &[u8], open: usize) -> usize
 
 #[no_mangle]
 pub extern "C" fn parentheses_subtree_end(bytes: &[u8], place: usize) -> usize
-    ensures { λ r. ⌜ (length (now (bytes .entry)) ≤ 2560 → r ≡ after (bits (now (bytes .entry))) place) ⌝ }
+    ensures { λ r. ⌜ Either (length (now (bytes .entry)) ≤ 2560) r (after (bits (now (bytes .entry))) place) 0 ⌝ }
 {
     if bytes.len() > 2560 {
         return 0;

@@ -1,7 +1,7 @@
 // The check of a book, for bench/records.c.
 ghost use mathlib.Core.Path.{_≡_};
 ghost use Rattle.records.specs.Check.{bookCheck};
-ghost use Rattle.exports.specs.Records.{bookNumber};
+ghost use Rattle.checks.specs.CheckNumbers.{bookNumber};
 use records::BookCheck;
 
 // The number of a book's first refusal by rows 3 to 9, or 0.

@@ -1,12 +1,15 @@
 // Matrices of bits, for bench/relation.c. A slice that is no matrix and a row beyond 2,047 are left alone, or answered by false.
 ghost use mathlib.Core.Path.{_≡_};
+ghost use mathlib.Core.Bool.{false};
 ghost use Prim.Native.Nat.{_<_};
 ghost use lib.ListN.{length};
 ghost use Rattle.relation.specs.Matrix.{United, common};
+ghost use Rattle.exports.specs.Positions.{Either};
 
 #[no_mangle]
 pub extern "C" fn relation_union_within(m: &mut [u64], d: usize, s: usize)
-    ensures { λ _. ⌜ (length (now (m .entry)) ≡ 65536 → d < 2048 → s < 2048 → United (now (m .entry)) (now (m .exit)) d (now (m .entry)) s) ⌝ }
+    ensures inside { λ _. ⌜ (length (now (m .entry)) ≡ 65536 → d < 2048 → s < 2048 → United (now (m .entry)) (now (m .exit)) d (now (m .entry)) s) ⌝ }
+    ensures outside { λ _. ⌜ (((length (now (m .entry)) ≡ 65536) × (d < 2048) × (s < 2048) → ⊥) → now (m .exit) ≡ now (m .entry)) ⌝ }
 {
     if m.len() != 65536 {
         return;
@@ -22,7 +25,7 @@ pub extern "C" fn relation_union_within(m: &mut [u64], d: usize, s: usize)
 
 #[no_mangle]
 pub extern "C" fn relation_meet(m: &[u64], r: usize, n: &[u64], s: usize) -> bool
-    ensures { λ b. ⌜ (length (now (m .entry)) ≡ 65536 → length (now (n .entry)) ≡ 65536 → r < 2048 → s < 2048 → b ≡ common (now (m .entry)) r (now (n .entry)) s) ⌝ }
+    ensures { λ b. ⌜ Either ((length (now (m .entry)) ≡ 65536) × (length (now (n .entry)) ≡ 65536) × (r < 2048) × (s < 2048)) b (common (now (m .entry)) r (now (n .entry)) s) false ⌝ }
 {
     if m.len() != 65536 {
         return false;

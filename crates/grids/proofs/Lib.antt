@@ -6,3 +6,4 @@ pub mod Loads
 pub mod Starts
 pub mod Sheets
 pub mod Agreements
+pub mod EachBits

@@ -2,3 +2,4 @@ pub mod Loaded
 pub mod Answers
 pub mod Sheet
 pub mod Agree
+pub mod EachBit

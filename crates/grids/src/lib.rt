@@ -180,10 +180,18 @@ fn grids_of(book: &[u8], n: usize) -> Grids
 }
 
 // The grids of a book: rows 3 to 14, then 16.
-pub fn grid(book: &[u8]) -> Sheet
+pub fn grid(
+    book: &[u8],
+    e: &mut [u64; 65536],
+    d: &mut [u64; 65536],
+    t: &mut [u64; 65536],
+    u: &mut [u64; 65536],
+    p: &mut [u64; 65536],
+    q: &mut [u64; 65536],
+) -> Sheet
     ensures { λ r. ⌜ Gridded (now (book .entry)) (r .outcome) (r .grids) ⌝ }
 {
-    let outcome = answers::judge_run(book);
+    let outcome = answers::judge_run(book, e, d, t, u, p, q);
     match outcome {
         Outcome::Refused(refusal, place) => refuse(refusal, place),
         Outcome::Accepted(n, nodes, shadows) => {

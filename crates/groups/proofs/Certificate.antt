@@ -10,7 +10,6 @@ use Rattle.index.specs.Pairs.{Within, self, step}
 use Rattle.lists.specs.Tally.{tally}
 use Rattle.groups.specs.Groups.{lies, same, lowest, first-of, number, groups}
 use Rattle.groups.specs.Grouped.{Edged}
-use Rattle.index.specs.Matrix.{pairOf}
 use Rattle.lists.proofs.Bools.{and-both, both-and, or-either, left-or, right-or}
 use Rattle.groups.specs.Ranks.{lowestBy, firstBy, numberBy}
 use lib.Dec.{eqb, ltb}
@@ -19,7 +18,7 @@ use Rattle.lists.proofs.Firsts.{first-is}
 use Rattle.lists.proofs.Tallies.{tally-mono}
 use mathlib.Core.List.{List}
 use Rattle.relation.specs.Matrix.{bitOf}
-use Rattle.components.specs.Search.{WayOf, Searched}
+use Rattle.components.specs.Search.{partOf, WayOf, Searched}
 use Rattle.groups.proofs.Lying.{Pairs, leads, leads-in, leads-split, lies-within, within-lies}
 use Rattle.groups.proofs.Grouping.{same-both, both-same, lowest-member, lowest-below, lowest-le}
 use Rattle.groups.proofs.Numbered.{same-to-number, number-to-same}
@@ -85,15 +84,15 @@ module _ (n : ℕ) (fact : ℕ → ℕ → Bool) (P : Pairs n fact) (e : List �
       go (inl z) = right-or (fact g c) (both-and (eq-eqb c 0 z) (lt-ltb 0 g (omega arith)))
       go (inr f) = left-or (eqb c 0 && ltb 0 g) f
 
-  parted : (g c : ℕ) → pairOf n e g c ≡ true → (g < n) × (bitOf e c g ≡ true)
-  unfolding pairOf
+  parted : (g c : ℕ) → partOf n e g c ≡ true → (g < n) × (bitOf e c g ≡ true)
+  unfolding partOf
   parted g c b = let d = and-both (ltb g n) (bitOf e c g) b in (ltb-true g n (d .0), d .1)
 
-  start-in : {g h : ℕ} → Within (pairOf n e) g h → h < n → g < n
+  start-in : {g h : ℕ} → Within (partOf n e) g h → h < n → g < n
   start-in self l = l
   start-in (step {g = g} {c = c} b w) l = parted g c b .0
 
-  way-within : {g h : ℕ} → Within (pairOf n e) g h → h < n → Within (leads n fact) g h
+  way-within : {g h : ℕ} → Within (partOf n e) g h → h < n → Within (leads n fact) g h
   way-within self l = self
   way-within (step {g = g} {c = c} b w) l = let d = parted g c b in step (bit-leads g c (d .0) (start-in w l) (d .1)) (way-within w l)
 

@@ -1,5 +1,5 @@
 -- The joins to 0: which pieces are nobody's part, and the matrix with the joins put into row 0. Assumes nothing.
-use mathlib.Core.Path.{_≡_, refl, sym, ap, _∙_, fun-ext}
+use mathlib.Core.Path.{_≡_, refl, sym, ap, ap₂, _∙_, fun-ext}
 use mathlib.Core.Bool.{Bool, true, false, not, _&&_, _||_, true≢false, and-false, or-false}
 use mathlib.Core.List.{List}
 use Prim.Native.Nat.{ℕ, zero, suc, _+_, _-_, _≤_, _<_}
@@ -83,6 +83,20 @@ held-more c m held held′ H M = record { each = λ q l. rw (add-one c) (go q l 
 
 -- ## The matrix with the joins
 
+below-same : (p q : ℕ → Bool) (n : ℕ) → ((x : ℕ) → x < n → p x ≡ q x) → anyBelow p n ≡ anyBelow q n
+unfolding anyBelow
+below-same p q zero h = refl
+below-same p q (suc n) h = ap₂ _||_ (h n (omega arith)) (below-same p q n (λ x l. h x (omega arith)))
+
+-- there is no pair of another piece
+pub high : (n : ℕ) (m : List ℕ) (q c : ℕ) → n ≤ q → pairOf n m q c ≡ false
+unfolding pairOf
+high n m q c l = rw (le-ltb q n l)
+
+pub wide : (n : ℕ) (m : List ℕ) (q c : ℕ) → n ≤ c → pairOf n m q c ≡ false
+unfolding pairOf
+wide n m q c l = rw (le-ltb c n l, and-false (ltb q n))
+
 module _ (n : ℕ) (m : List ℕ) where
   -- the join of q, and whether it is made when the pieces below p have been looked at
   abbrev join : ℕ → ℕ → ℕ → Bool
@@ -145,28 +159,30 @@ module _ (n : ℕ) (m : List ℕ) where
 
   -- ## All joins are made
 
-  low : (m : List ℕ) (q c : ℕ) → q < n → pairOf n m q c ≡ bitOf m c q
+  low : (m : List ℕ) (q c : ℕ) → q < n → c < n → pairOf n m q c ≡ bitOf m c q
   unfolding pairOf
-  low m q c l = rw (lt-ltb q n l)
+  low m q c l k = rw (lt-ltb q n l, lt-ltb c n k)
 
-  high : (m : List ℕ) (q c : ℕ) → n ≤ q → pairOf n m q c ≡ false
-  unfolding pairOf
-  high m q c l = rw (le-ltb q n l)
-
-  joined-low : (q c : ℕ) → q < n → joined n (pairOf n m) q c ≡ (bitOf m c q || join n c q)
+  joined-low : (q c : ℕ) → q < n → c < n → joined n (pairOf n m) q c ≡ (bitOf m c q || join n c q)
   unfolding joined
-  joined-low q c l = ap (λ (g : ℕ → Bool). g c || (eqb c 0 && (ltb 0 q && (ltb q n && not (anyBelow g n))))) (fun-ext (λ c. low m q c l))
+  joined-low q c l k =
+      rw (low m q c l k) (ap (λ (t : Bool). bitOf m c q || (eqb c 0 && (ltb 0 q && (ltb q n && not t)))) (below-same (pairOf n m q) (λ c. bitOf m c q) n (λ c k. low m q c l k)))
 
   joined-high : (q c : ℕ) → n ≤ q → joined n (pairOf n m) q c ≡ false
   unfolding joined
-  joined-high q c l = rw (high m q c l, le-ltb q n l, and-false (ltb 0 q)) (and-false (eqb c 0))
+  joined-high q c l = rw (high n m q c l, le-ltb q n l, and-false (ltb 0 q)) (and-false (eqb c 0))
+
+  joined-wide : (q c : ℕ) → 0 < n → n ≤ c → joined n (pairOf n m) q c ≡ false
+  unfolding joined
+  joined-wide q c pos l = rw (wide n m q c l, ne-eqb c 0 (λ z. omega arith))
 
   pub join-done : n ≤ 2048 → (m′ : List ℕ) (p : ℕ) → p ≡ n → Joining m′ p → Completed n m m′
-  join-done small m′ p e S = record { pair = λ q c. at q c (decLt q n) }
+  join-done small m′ p e S = record { pair = λ q c. at q c (decLt q n) (decLt c n) }
     where
-      at : (q c : ℕ) → Dec (q < n) → pairOf n m′ q c ≡ joined n (pairOf n m) q c
-      at q c (yes l) = low m′ q c l ∙ (rw e at (S .each c q (omega arith))) ∙ sym (joined-low q c l)
-      at q c (no l) = high m′ q c (omega arith) ∙ sym (joined-high q c (omega arith))
+      at : (q c : ℕ) → Dec (q < n) → Dec (c < n) → pairOf n m′ q c ≡ joined n (pairOf n m) q c
+      at q c (yes l) (yes k) = low m′ q c l k ∙ (rw e at (S .each c q (omega arith))) ∙ sym (joined-low q c l k)
+      at q c (yes l) (no k) = wide n m′ q c (omega arith) ∙ sym (joined-wide q c (omega arith) (omega arith))
+      at q c (no l) k = high n m′ q c (omega arith) ∙ sym (joined-high q c (omega arith))
 
   pub completed : (m′ : List ℕ) → Completed n m m′ → pairOf n m′ ≡ joined n (pairOf n m)
   completed m′ C = fun-ext (λ p. fun-ext (λ c. C .pair p c))
@@ -176,4 +192,4 @@ module _ (n : ℕ) (m : List ℕ) where
     where
       in-range : (p c : ℕ) → Dec (p < n) → pairOf n m p c ≡ true → p < n
       in-range p c (yes l) e = l
-      in-range p c (no l) e = absurd (true≢false (sym e ∙ high m p c (omega arith)))
+      in-range p c (no l) e = absurd (true≢false (sym e ∙ high n m p c (omega arith)))

@@ -78,7 +78,7 @@ resized W a b d e = rw (a, b, d, e) W
 -- the next part, as the walk finds it
 pub stepping : {n : ℕ} {e par : List ℕ} {lb lm ls lp : ℕ} {ps mks sh pl : List ℕ} {c from at k m p : ℕ} → Walkable n e par lb lm ls lp
     → Walking n (pairOf n e) lb lm ls lp ps mks sh pl c from at k m → p ≡ first (bitOf e c) from (2048 - from) → Next n (pairOf n e) c from p
-stepping W G f = next-part _ _ _ _ _ (W .small) (upto _ _ _ (G .upto) (W .small)) f
+stepping W G f = next-part _ _ _ _ _ (G .inner) (W .small) (upto _ _ _ (G .upto) (W .small)) f
 
 -- cleared
 pub cleared : {xs : List ℕ} (n : ℕ) → xs ≡ replicate n 0 → Zero xs

@@ -9,9 +9,9 @@ use Rattle.relation.specs.Matrix.{bitOf}
 use Rattle.index.specs.Pairs.{joined, Book}
 use Rattle.index.specs.Index.{visitsOf, Room}
 
--- the pairs whose part is one of the n pieces; bits from n on say nothing
+-- the pairs of which both are of the n pieces; bits and rows from n on say nothing
 unfoldable pub pairOf : ℕ → List ℕ → ℕ → ℕ → Bool
-pairOf n m p c = ltb p n && bitOf m c p
+pairOf n m p c = (ltb p n && ltb c n) && bitOf m c p
 
 -- what the builder asks: a book in a matrix, and lent parts with room for its index
 pub record Buildable (n : ℕ) (m : List ℕ) (bytes markBytes shadowCount placeCount : ℕ) : Type 0 where

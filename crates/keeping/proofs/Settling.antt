@@ -1,19 +1,19 @@
 -- The first rows of a call, and what it leaves behind a refusal and behind a fresh call. Assumes nothing.
-use mathlib.Core.Path.{_≡_, refl, sym, ap, subst, _∙_}
+use mathlib.Core.Path.{_≡_, refl, sym, ap, ap₂, subst, _∙_}
 use mathlib.Core.Bool.{Bool, true, false, not}
-use mathlib.Core.List.{List, [], _∷_, _++_, append-nil}
-use Prim.Native.Nat.{ℕ, _+_, _*_, _/_, _≤_, _<_}
+use mathlib.Core.List.{List, [], _++_, append-nil}
+use Prim.Native.Nat.{ℕ, _+_, _≤_, _<_}
 use native.Mathlib.Omega.{arith}
 use borrow.Author.Tests.{lt-ltb, le-ltb, le-leb, lt-leb, eq-eqb, ne-eqb}
 use lib.Dec.{ltb, leb, eqb}
-use lib.ListN.{length, take, drop, replicate, length-append, length-drop}
+use lib.ListN.{length, take, drop, length-append, length-drop}
 use lib.Seq.{length-take-le}
 use Rattle.lists.specs.Front.{front}
 use Rattle.records.specs.Record.{records}
-use Rattle.records.specs.Check.{bookCheck, claimsCheck}
+use Rattle.records.specs.Check.{bookCheck}
 use Rattle.records.specs.declared.BookCheck.{BookCheck}
 use Rattle.records.specs.declared.BookCheck.the-variants as book
-use Rattle.outcomes.specs.Call.{byBook, byClaims}
+use Rattle.outcomes.specs.Call.{byBook}
 use Rattle.records.specs.declared.Refusal.{Refusal}
 use Rattle.records.specs.declared.Refusal.the-variants.{ShortBuffer, BookLength, TooManyRecords, ClaimsLength, NotStanding}
 use Rattle.parentheses.specs.Padded.{padded}
@@ -25,9 +25,8 @@ use Rattle.outcomes.specs.Fresh.{freshCall}
 use Rattle.runs.specs.Standing.{standing, extended, without}
 use Rattle.outcomes.specs.One.{refuseIf, byOne}
 use Rattle.keeping.specs.Rows.{byArea, askOutcome, answerOf, startOutcome, addOutcome, withdrawOutcome}
-use Rattle.keeping.specs.Kept.{keptState, keptArea, image, Determined, Extended, Answered}
-use Rattle.keeping.specs.declared.Asked.{Asked}
-use Rattle.runs.proofs.Runs.{padded-front, padded-whole}
+use Rattle.keeping.specs.Kept.{keptState, keptArea, image, Determined, Extended}
+use Rattle.parentheses.proofs.Paddeds.{padded-length}
 use Rattle.keeping.proofs.Fresh.{over-full, extended-length}
 
 -- ---- one row
@@ -54,24 +53,24 @@ past-area area k rest l m = off (ltb (length area) 49152) ShortBuffer _ (le-ltb 
 
 -- ---- what is kept
 
--- the image and nothing behind it fit the front of the area
-pub image-room : (image area : List ℕ) → length image ≡ 49152 → 49152 ≤ length area → length image + length {A = ℕ} [] ≤ length (take 49152 area)
-image-room image area l m = omega (arith, length-take-le 49152 area m)
+-- the run and nothing behind it fit the front of the area
+pub run-room : (run area : List ℕ) → length run ≤ 49152 → 49152 ≤ length area → length run + length {A = ℕ} [] ≤ length (take 49152 area)
+run-room run area l m = omega (arith, length-take-le 49152 area m)
 
 pub front-length : (last area : List ℕ) → length last ≡ length (take 49152 area) → 49152 ≤ length area → length (last ++ drop 49152 area) ≡ length area
 front-length last area e m = omega (arith, length-append last (drop 49152 area), length-take-le 49152 area m, length-drop 49152 area)
 
 module _ (w : Working) (area : List ℕ) where
-  pub settled-refused : (image : List ℕ) (k : ℕ) (o : Outcome) {x : Refusal} {i : ℕ} → o ≡ Refused x i → (o ≡ o) × ((w ≡ keptState w k o) × (area ≡ keptArea area image o))
+  pub settled-refused : (run : List ℕ) (k : ℕ) (o : Outcome) {x : Refusal} {i : ℕ} → o ≡ Refused x i → (o ≡ o) × ((w ≡ keptState w k o) × (area ≡ keptArea area (image run) o))
   unfolding keptState keptArea
-  settled-refused image k o e = (refl, rw e (refl, refl))
+  settled-refused run k o e = (refl, rw e (refl, refl))
 
-  pub settled-accepted : (image : List ℕ) (k : ℕ) (o : Outcome) {n v h : ℕ} → o ≡ Accepted n v h → (last : List ℕ) → length image ≡ 49152 → 49152 ≤ length area → last ≡ padded 0 (length (take 49152 area)) (image ++ [])
-      → (Accepted n v h ≡ o) × ((record { records = k; pieces = n } ≡ keptState w k o) × (last ++ drop 49152 area ≡ keptArea area image o))
-  unfolding keptState keptArea front
-  settled-accepted image k o e last l m f =
-      let g : last ≡ image = f ∙ (ap (padded 0 (length (take 49152 area))) (append-nil image) ∙ padded-whole (length (take 49152 area)) image (omega (arith, length-take-le 49152 area m))) in
-      (sym e, rw e (refl, (ap (λ (s : List ℕ). s ++ drop 49152 area) g ∙ ap (λ (n : ℕ). image ++ drop n area) (sym l))))
+  pub settled-accepted : (run : List ℕ) (k : ℕ) (o : Outcome) {n v h : ℕ} → o ≡ Accepted n v h → (last : List ℕ) → length run ≤ 49152 → 49152 ≤ length area → last ≡ padded 0 (length (take 49152 area)) (run ++ [])
+      → (Accepted n v h ≡ o) × ((record { records = k; pieces = n } ≡ keptState w k o) × (last ++ drop 49152 area ≡ keptArea area (image run) o))
+  unfolding keptState keptArea front image
+  settled-accepted run k o e last l m f =
+      let g : last ≡ padded 0 49152 run = f ∙ ap₂ (padded 0) (length-take-le 49152 area m) (append-nil run) in
+      (sym e, rw e (refl, (ap (λ (s : List ℕ). s ++ drop 49152 area) g ∙ ap (λ (n : ℕ). padded 0 49152 run ++ drop n area) (sym (padded-length 0 49152 run l)))))
 
 -- ---- a refusal, and a fresh call behind the first rows
 module _ (w : Working) (area run : List ℕ) where
@@ -82,16 +81,11 @@ module _ (w : Working) (area run : List ℕ) where
   pub passed : (due : Outcome) → due ≡ freshCall run [] → (r : Settled) (area′ : List ℕ) → Extended w area run r area′ → Determined w area run due (r .outcome) (r .working) area′
   passed due e r area′ D = subst (λ (x : Outcome). Determined w area run x (r .outcome) (r .working) area′) (sym e) D
 
-  -- the run was judged and its image is kept
-  pub judged : (laid : List ℕ) (n m k : ℕ) → laid ≡ padded 0 n run → n ≡ 49152 → length run ≡ m → m / 6 ≡ k → (o : Outcome) → o ≡ freshCall (take m laid) [] → (r : Settled) (area′ : List ℕ)
-      → (r .outcome ≡ o) × ((r .working ≡ keptState w k o) × (area′ ≡ keptArea area laid o)) → Extended w area run r area′
-  unfolding image
-  judged laid n m k f wide l d o q r area′ (a, (b, c)) =
-      let e : laid ≡ padded 0 49152 run = f ∙ ap (λ (j : ℕ). padded 0 j run) wide in
-      let front : take m laid ≡ run = rw e (padded-front 49152 m run l) in
-      let due : o ≡ freshCall run [] = q ∙ ap (λ (s : List ℕ). freshCall s []) front in
-      let count : k ≡ records run = sym d ∙ ap (λ (n : ℕ). n / 6) (sym l) in
-      (a ∙ due, (b ∙ (ap (λ (n : ℕ). keptState w n o) count ∙ ap (keptState w (records run)) due), c ∙ (ap (λ (s : List ℕ). keptArea area s o) e ∙ ap (keptArea area (padded 0 49152 run)) due)))
+  -- the run was judged and is kept
+  pub judged : (k : ℕ) → records run ≡ k → (s : List ℕ) → s ≡ run → (o : Outcome) → o ≡ freshCall s [] → (r : Settled) (area′ : List ℕ) → (r .outcome ≡ o) × ((r .working ≡ keptState w k o) × (area′ ≡ keptArea area (image s) o)) → Extended w area run r area′
+  judged k count s e o q r area′ (a, (b, c)) =
+      let due : o ≡ freshCall run [] = q ∙ ap (λ (x : List ℕ). freshCall x []) e in
+      (a ∙ due, (b ∙ ap₂ (keptState w) (sym count) due, c ∙ ap₂ (λ (x : List ℕ) (y : Outcome). keptArea area (image x) y) e due))
 
 -- ---- the rows of an addition and of a withdrawal
 pub add-short : (area a : List ℕ) (k : ℕ) → length area < 49152 → addOutcome area k a ≡ Refused ShortBuffer 0
@@ -117,11 +111,6 @@ start-short area l = short-area area 0 _ l
 pub start-passes : (area : List ℕ) → 49152 ≤ length area → startOutcome area ≡ freshCall [] []
 unfolding startOutcome
 start-passes area l = past-area area 0 _ l (omega arith)
-
--- no records, and zeros behind them
-pub none-padded : replicate {A = ℕ} 49152 0 ≡ padded 0 49152 []
-unfolding padded
-none-padded = refl
 
 module _ (area : List ℕ) (k : ℕ) (long : 49152 ≤ length area) where
   pub add-length : (a : List ℕ) → k ≤ 8192 → (length a ≡ 6 → ⊥) → addOutcome area k a ≡ Refused BookLength 0

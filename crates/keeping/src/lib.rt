@@ -4,7 +4,7 @@ ghost use Prim.Native.Nat.{_≤_};
 ghost use lib.ListN.{length};
 ghost use Rattle.records.specs.Check.{bookCheck};
 ghost use Rattle.outcomes.specs.One.{byOne};
-ghost use Rattle.keeping.specs.Kept.{keptState, keptArea};
+ghost use Rattle.keeping.specs.Kept.{keptState, keptArea, image};
 use outcomes::Outcome;
 use records::BookCheck;
 use records::Refusal;
@@ -27,16 +27,16 @@ pub struct Asked {
     pub answer: u8,
 }
 
-// The counts and the area after a call that came to the outcome: acceptance writes the image to the front of the area.
+// The counts and the area after a call that came to the outcome: acceptance writes the run to the front of the area, with zeros behind it.
 pub fn settle(
     was: Working,
     area: &mut [u8],
-    image: &[u8],
+    run: &[u8],
     records: usize,
     outcome: Outcome,
 ) -> Settled
-    requires { ⌜ (length (now image) ≡ 49152) × (49152 ≤ length (now area)) ⌝ }
-    ensures { λ r. ⌜ (r .outcome ≡ outcome) × ((r .working ≡ keptState was records outcome) × (now (area .exit) ≡ keptArea (now (area .entry)) (now (image .entry)) outcome)) ⌝ }
+    requires { ⌜ (length (now run) ≤ 49152) × (49152 ≤ length (now area)) ⌝ }
+    ensures { λ r. ⌜ (r .outcome ≡ outcome) × ((r .working ≡ keptState was records outcome) × (now (area .exit) ≡ keptArea (now (area .entry)) (image (now (run .entry))) outcome)) ⌝ }
 {
     match outcome {
         Outcome::Refused(_, _) => Settled {
@@ -44,7 +44,7 @@ pub fn settle(
             outcome,
         },
         Outcome::Accepted(pieces, _, _) => {
-            runs::write_runs(image, &image[..0], &mut area[..49152]);
+            runs::write_runs(run, &run[..0], &mut area[..49152]);
             Settled {
                 working: Working { records, pieces },
                 outcome,

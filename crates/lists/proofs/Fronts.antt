@@ -1,11 +1,12 @@
 -- Buffers of which the front is written, piece by piece. Assumes nothing.
-use Prim.Native.Nat.{ℕ, _+_, _≤_}
+use Prim.Native.Nat.{ℕ, suc, _+_, _≤_, _<_}
 use mathlib.Core.Path.{_≡_, refl, sym, ap, _∙_}
-use mathlib.Core.List.{List, [], _++_, append-nil, append-assoc}
-use native.Mathlib.Nat.{add-zero}
+use mathlib.Core.List.{List, [], _∷_, _++_, append-nil}
+use native.Mathlib.Nat.{add-zero, zero-add, add-suc, suc-add}
+use native.Mathlib.Numerals.{add-one}
 use native.Mathlib.Omega.{arith}
-use lib.ListN.{length, take, drop, length-append, length-drop, take-append-drop}
-use lib.Seq.{take-append-seam, drop-append-add, drop-drop, sets, sets-eq}
+use lib.ListN.{length, take, drop, getD, set, length-append, length-drop, take-append-drop}
+use lib.Seq.{take-append-seam, take-all, take-suc, length-take-le, drop-append-add, drop-drop, sets, sets-eq}
 use Rattle.lists.specs.Front.{front, placed}
 
 module _ {A : Type 0} where
@@ -37,3 +38,37 @@ module _ {A : Type 0} where
       ap (λ (r : List A). r ++ x ++ drop (length a + length x) (a ++ drop (length a) l)) (take-append-seam a (drop (length a) l))
       ∙ ap (λ (r : List A). a ++ x ++ r) (drop-append-add a (drop (length a) l) (length x) ∙ drop-drop (length x) (length a) l)
       ∙ ap (λ (k : ℕ). a ++ x ++ drop k l) (sym (length-append a x))
+
+  -- a list stored is its front stored, then the rest behind it
+  pub sets-append : (s t l : List A) (i : ℕ) → sets l i (s ++ t) ≡ sets (sets l i s) (i + length s) t
+  sets-append [] t l i = rw add-zero
+  sets-append (x ∷ s) t l i =
+      sets-append s t (set l i x) (suc i)
+      ∙ ap (λ n. sets (sets (set l i x) (suc i) s) n t) (suc-add i (length s) ∙ sym (add-suc i (length s)))
+
+  -- a list placed member by member: none, one more, all
+  pub placed-start : (s l : List A) (i : ℕ) → placed i (take 0 s) l ≡ l
+  placed-start s l i = placed-none i l
+
+  pub placed-more : (s l : List A) (i k : ℕ) (d : A) → k < length s → i + length s ≤ length l
+      → set (placed i (take k s) l) (i + k) (getD s k d) ≡ placed i (take (k + 1) s) l
+  placed-more s l i k d h g =
+      let n : length (take k s) ≡ k = length-take-le k s (omega arith) in
+      let m : length (take (k + 1) s) ≡ k + 1 = length-take-le (k + 1) s (omega arith) in
+      ap (λ (x : List A). set x (i + k) (getD s k d)) (sym (placed-sets (take k s) l i (omega (arith, n))))
+      ∙ ap (λ (x : ℕ). set (sets l i (take k s)) (i + x) (getD s k d)) (sym n)
+      ∙ sym (sets-append (take k s) (getD s k d ∷ []) l i)
+      ∙ ap (sets l i) (sym (ap (λ (x : ℕ). take x s) (add-one k) ∙ take-suc s k d h))
+      ∙ placed-sets (take (k + 1) s) l i (omega (arith, m))
+
+  pub placed-all : (s l : List A) (i k : ℕ) → length s ≤ k → placed i (take k s) l ≡ placed i s l
+  placed-all s l i k h = ap (λ (x : List A). placed i x l) (take-all k s h)
+
+  pub placed-length : (xs l : List A) (i : ℕ) → i + length xs ≤ length l → length (placed i xs l) ≡ length l
+  unfolding placed
+  placed-length xs l i h =
+      let t : length (take i l) ≡ i = length-take-le i l (omega arith) in simp (length-append, length-drop) (omega (arith, t))
+
+  pub placed-first : (xs l : List A) → placed 0 xs l ≡ front xs l
+  unfolding placed front
+  placed-first xs l = rw zero-add

@@ -4,6 +4,7 @@ pub mod Firsts
 pub mod Searches
 pub mod Anys
 pub mod Members
+pub mod Parts
 pub mod Fronts
 pub mod Numbers
 pub mod Tallies

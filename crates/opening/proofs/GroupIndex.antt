@@ -46,10 +46,6 @@ pub part-beyond : (n : ℕ) (fs : List Fact) (h g : ℕ) → n ≤ g → partBit
 unfolding partBit
 part-beyond n fs h g l = rw (le-ltb g n l)
 
-pub part-above : (n : ℕ) (fs : List Fact) (h g : ℕ) → n ≤ h → partBit n fs h g ≡ false
-unfolding partBit
-part-above n fs h g l = rw (le-ltb h n l, and-false (ltb g n))
-
 -- a PART of a and b is a pair of the groups p and c, where ν says which group a piece is in
 abbrev between : (ℕ → ℕ) → ℕ → ℕ → ℕ → ℕ → Bool
 between ν p c a b = not (eqb (ν a) (ν b)) && (eqb (ν b) c && eqb (ν a) p)
@@ -75,15 +71,15 @@ module _ (n : ℕ) (fs : List Fact) (B : Bounded n fs) where
   few-groups = groups-few n (partIn fs) pairs-within
 
   -- the matrix that the search for groups reads
-  pub edged : (e : List ℕ) → Holds e (edgeBit n fs) → Edged n (partIn fs) e
+  pub edged : (e : List ℕ) → Holds n e (edgeBit n fs) → Edged n (partIn fs) e
   unfolding edgeBit storedBit partIn
   edged e E =
       record {
         within = pairs-within .within;
-        bits = λ c p l k. E .bits c p (omega (arith, B .fits)) (omega (arith, B .fits)) ∙ rw (lt-ltb p n k, and-true (ltb 0 p));
+        bits = λ c p l k. E .bits c p l (omega (arith, B .fits)) ∙ rw (lt-ltb p n k, and-true (ltb 0 p));
       }
 
-  pub searchable : (e : List ℕ) (k : ℕ) → Holds e (edgeBit n fs) → k ≡ 2048 → Searchable n e k
+  pub searchable : (e : List ℕ) (k : ℕ) → Holds n e (edgeBit n fs) → k ≡ 2048 → Searchable n e k
   unfolding edgeBit
   searchable e k E z =
       record {
@@ -91,7 +87,7 @@ module _ (n : ℕ) (fs : List Fact) (B : Bounded n fs) where
         few = B .fits;
         matrix = E .sized;
         sized = z;
-        crowned = λ y p l. E .bits 0 y (omega arith) (omega (arith, B .fits)) ∙ right-or (storedBit fs 1 false true 0 y) (both-and (lt-ltb 0 y p) (lt-ltb y n l));
+        crowned = λ y p l. E .bits 0 y (B .some) (omega (arith, B .fits)) ∙ right-or (storedBit fs 1 false true 0 y) (both-and (lt-ltb 0 y p) (lt-ltb y n l));
       }
 
   -- the pairs of groups are those of the stored PARTs, read through the groups
@@ -146,7 +142,7 @@ module _ (n : ℕ) (fs : List Fact) (B : Bounded n fs) where
   pub named-below : (list : List ℕ) (count : ℕ) → Numbered n fs list count → (g : ℕ) → g < n → getD list g 0 < n
   named-below list count N g l = omega (arith, N .numbers g l, number-below n (partIn fs) pairs-within g l, few-groups)
 
-  module _ (list : List ℕ) (count : ℕ) (N : Numbered n fs list count) (m : List ℕ) (M : Holds m (λ x y. storing fs 1 (stepping list x y))) where
+  module _ (list : List ℕ) (count : ℕ) (N : Numbered n fs list count) (m : List ℕ) (M : Holds n m (λ x y. storing fs 1 (stepping list x y))) where
     within : (p c : ℕ) → pair n (partIn fs) p c ≡ true → (p < count) × (c < count)
     within p c e =
         let b = pair-from n (partIn fs) pairs-within p c e in
@@ -154,12 +150,12 @@ module _ (n : ℕ) (fs : List Fact) (B : Bounded n fs) where
         let whole = number-below n (partIn fs) pairs-within (b .whole) (b .whole-in) in
         (omega (arith, b .under, N .counted), omega (arith, b .over, N .counted))
 
-    stored : (p c : ℕ) → p < count → c < 2048 → bitOf m c p ≡ pair n (partIn fs) p c
+    stored : (p c : ℕ) → p < count → c < count → bitOf m c p ≡ pair n (partIn fs) p c
     unfolding stepping
-    stored p c a b = M .bits c p b (omega (arith, N .counted, few-groups, B .fits)) ∙ pair-stored (λ g. getD list g 0) (N .numbers) p c
+    stored p c a b = M .bits c p (omega (arith, N .counted, few-groups)) (omega (arith, N .counted, few-groups, B .fits)) ∙ pair-stored (λ g. getD list g 0) (N .numbers) p c
 
     pairs-same : pairOf count m ≡ pair n (partIn fs)
-    pairs-same = matrix-pairs count (pair n (partIn fs)) within (omega (arith, N .counted, few-groups, B .fits)) m (M .sized) stored
+    pairs-same = matrix-pairs count (pair n (partIn fs)) within m stored
 
     pub edges-same : joined count (pairOf count m) ≡ edges n (partIn fs)
     unfolding edges

@@ -45,7 +45,7 @@ use Rattle.opening.proofs.GroupIndex as of
 module _ (n : ℕ) (fs : List Fact) (B : Bounded n fs) where
   -- ---- the index of the groups, and each piece at the place of its group
 
-  module _ (list : List ℕ) (count : ℕ) (N : Numbered n fs list count) (m : List ℕ) (M : Holds m (λ x y. storing fs 1 (stepping list x y)))
+  module _ (list : List ℕ) (count : ℕ) (N : Numbered n fs list count) (m : List ℕ) (M : Holds n m (λ x y. storing fs 1 (stepping list x y)))
       (parens marks shadows own places : List ℕ) (nodes shadowed : ℕ) (I : Indexed count (joined count (pairOf count m)) parens marks shadows own nodes shadowed)
       (long : length own ≡ 2048) (room : ℕ) (fits : n ≤ room) (placed : places ≡ padded 0 room (tab (λ g. getD own (getD list g 0) 0) 0 n)) where
     index : Indexed (groups n (partIn fs)) (edges n (partIn fs)) parens marks shadows own nodes shadowed
@@ -93,7 +93,7 @@ module _ (n : ℕ) (fs : List Fact) (B : Bounded n fs) where
         }
 
     -- and the steps between leaders are what rows are joined along
-    pub steps-hold : (e : List ℕ) → Holds e (stepBit n fs lead) → Stepped n fs e order lead
+    pub steps-hold : (e : List ℕ) → Holds n e (stepBit n fs lead) → Stepped n fs e order lead
     steps-hold e E = stepped n fs B e lead E led whole raised lowered order (G .at) (G .room) (G .row) (G .placed) before
       where
         P : Pairs n (partIn fs)
@@ -155,13 +155,12 @@ module _ (n : ℕ) (fs : List Fact) (B : Bounded n fs) where
           let s = groups-iff n (partIn fs) (of.pairs-within n fs B) g h l k in
           (λ i. s .0 (w .0 i), λ e. w .1 (s .1 e))
 
-      pub parts-hold : (d : List ℕ) → length d ≡ 65536 → Contents n parens marks shadows places d → Holds d (partBit n fs)
-      parts-hold d z C = record { sized = z; bits = λ h g lh lg. one h g lh lg (decLt h n) (decLt g n) }
+      pub parts-hold : (d : List ℕ) → length d ≡ 65536 → Contents n parens marks shadows places d → Holds n d (partBit n fs)
+      parts-hold d z C = record { sized = z; bits = λ h g k lg. one h g k lg (decLt g n) }
         where
-          one : (h g : ℕ) → h < 2048 → g < 2048 → Dec (h < n) → Dec (g < n) → bitOf d h g ≡ partBit n fs h g
-          one h g lh lg (yes k) (yes l) =
+          one : (h g : ℕ) → h < n → g < 2048 → Dec (g < n) → bitOf d h g ≡ partBit n fs h g
+          one h g k lg (yes l) =
               let w = inside-lies h g k l in
               let c = C .inside h g k l in
               same-truth _ _ (λ e. w .0 (c .0 e)) (λ e. c .1 (w .1 e)) ∙ sym (of.part-lies n fs g h l k)
-          one h g lh lg (yes k) (no l) = C .no-column h g k (omega arith) lg ∙ sym (of.part-beyond n fs h g (omega arith))
-          one h g lh lg (no k) e = C .no-row h g (omega arith) lh lg ∙ sym (of.part-above n fs h g (omega arith))
+          one h g k lg (no l) = C .no-column h g k (omega arith) lg ∙ sym (of.part-beyond n fs h g (omega arith))

@@ -8,6 +8,6 @@ use Rattle.rules.specs.Follows.{clash}
 use Rattle.storing.specs.Closed.{Holds, partBit, towardBit}
 
 pub record Opened (void : ℕ → Bool) (n : ℕ) (fs : List Fact) (d t : List ℕ) (clashed : Bool) : Type 0 where
-  pub parts : Holds d (partBit n fs)
-  pub toward : Holds t (towardBit void n fs)
+  pub parts : Holds n d (partBit n fs)
+  pub toward : Holds n t (towardBit void n fs)
   pub is : clashed ≡ clash void n fs

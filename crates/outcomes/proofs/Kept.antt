@@ -23,7 +23,7 @@ use Rattle.records.proofs.Rows.{refused-positive}
 use Rattle.records.proofs.Keeps.{sheets-among}
 use Rattle.records.proofs.Accepted.{accepted}
 use Rattle.groups.specs.Groups.{number}
-use Rattle.groups.specs.Index.{bookVisits, bookPlaces}
+use Rattle.groups.specs.Index.{bookParens, bookVisits, bookPlaces}
 use Rattle.index.specs.Parts as on
 use Rattle.settling.specs.Contradiction.{Contradiction}
 use Rattle.opening.specs.Settleable.{Settleable}
@@ -76,11 +76,12 @@ module _ (s cs : List ℕ) (l : Lent) (n : ℕ) (p : Passed s cs l n) where
 
   -- the index fits
   fits : (nodes : ℕ) → nodes ≡ length (bookVisits n (pairsOf s)) → Fits n s nodes
-  unfolding bookVisits bookPlaces on.shadowList
+  unfolding bookParens bookVisits bookPlaces on.shadowList
   fits nodes e =
       let R = settled-room settles in
       record {
         nodes-fit = omega (arith, R .marks);
+        parens-fit = R .parens;
         shadows-fit = rw (length-map (on.shadows (bookVisits n (pairsOf s))) (on.place (bookVisits n (pairsOf s)))) (R .shadows);
         places-fit = rw (tab-length (λ g. on.place (bookVisits n (pairsOf s)) (number n (pairsOf s) g)) 0 n) (settles .bounded .fits);
       }

@@ -12,10 +12,13 @@ use Rattle.steps.specs.Step.{stepAt, shows}
 use Rattle.chain_steps.specs.Chain.{allOk}
 use Rattle.part_steps.specs.Written.{Edited, Put}
 use Rattle.part_steps.specs.Hops.{Hop, Way, arrived, onward, Reaches, Sourced, hopStep}
+use Rattle.part_steps.specs.Distinct.{Distinct, Upward, begun, higher, Rank, Rising}
 use Rattle.part_steps.specs.Climbs.{Climbed, Contained}
 use Rattle.part_steps.proofs.Puts.{edited-join}
 use Rattle.part_steps.proofs.Extending.{edited-kept, put-ok}
 use Rattle.part_steps.proofs.Hopping.{stating, as-stated, hop-shows, hop-justified, itself-justified, joined-justified}
+use Rattle.part_steps.proofs.Distincts.{distinct-none, distinct-weaken}
+use Rattle.part_steps.proofs.Risings.{way-rank, rank-next, rising-next, rising-first}
 
 -- a way that has not arrived goes on
 abbrev Goes : List ℕ → ℕ → ℕ → ℕ → Type 0
@@ -43,6 +46,8 @@ pub record Climbing (hop source : List ℕ) (k g x₀ : ℕ) (c₀ : List ℕ) (
   pub left : (most : ℕ) → Reaches hop k x₀ most → (l : ℕ) × (i + 2 * l ≤ m + 2 * most) × Way hop k x l
   pub shown : shows (stepAt c (i - 1)) (PART g x) ≡ true
   pub ok : (n : ℕ) (es : List Cited) → Sourced n es hop source k → x₀ < n → g < n → (x < n) × (allOk n es c₀ m ≡ true → allOk n es c i ≡ true)
+  pub steps :
+      (h r : ℕ) → Rank hop k x₀ h → Rank hop k g r → h < r → Upward hop k g x₀ → (l : ℕ) × (l ≤ h) × Rank hop k x l × Upward hop k g x × Distinct (Rising hop k g l h) c m i
 
 module _ {hop source : List ℕ} {k g x₀ : ℕ} {c₀ : List ℕ} {m : ℕ} where
   pub climb-start : shows (stepAt c₀ (m - 1)) (PART g x₀) ≡ true → Climbing hop source k g x₀ c₀ m c₀ m x₀
@@ -53,6 +58,7 @@ module _ {hop source : List ℕ} {k g x₀ : ℕ} {c₀ : List ℕ} {m : ℕ} wh
         left = λ most r. (r .0, omega (arith, r .1), r .2);
         shown = s;
         ok = λ n es t l h. (l, λ a. a);
+        steps = λ h r p q l u. (h, omega arith, p, u, distinct-none);
       }
 
   module _ (some : Reaches hop k x₀ 2047) {c : List ℕ} {i x : ℕ} (at : Climbing hop source k g x₀ c₀ m c i x) where
@@ -85,6 +91,17 @@ module _ {hop source : List ℕ} {k g x₀ : ℕ} {c₀ : List ℕ} {m : ℕ} wh
               let two = put-ok n es q (joined-justified n es (i + 1) (stepAt c₁ (i - 1)) (stepAt c₁ i) g x y (i - 1) i r fy (omega arith) (omega arith) before now) in
               let j : i + 1 + 1 ≡ i + 2 = omega arith in
               (fy, λ a. subst (λ u. allOk n es c₂ u ≡ true) j (two (one (z .1 a))));
+          steps = λ f r a b l u.
+              let z = at .steps f r a b l u in
+              let w = at .left 2047 some in
+              let v = goes-on (w .2) o in
+              let way = subst (Way hop k x) (v .1) (w .2) in
+              let s = rank-next (z .2) o in
+              let ry : Rank hop k y (s .0) = subst (λ u. Rank hop k u (s .0)) (sym e) (s .2) in
+              let up : Upward hop k g y = higher (z .3) o way e in
+              let rx = subst (Rank hop k x) (s .1) (z .2) in
+              let d = subst (λ l. Distinct (Rising hop k g l f) c m i) (s .1) (z .4) in
+              (s .0, omega (arith, z .1, s .1), ry, up, rising-next t h (omega (arith, z .1, s .1)) (omega arith) rx ry b (omega (arith, z .1, s .1)) up p q d);
         }
 
     pub climb-done : x ≡ k → Climbed hop source k g x₀ c₀ m c i
@@ -95,6 +112,10 @@ module _ {hop source : List ℕ} {k g x₀ : ℕ} {c₀ : List ℕ} {m : ℕ} wh
           few = λ most r. omega (arith, at .left most r .1);
           shown = subst (λ u. shows (stepAt c (i - 1)) (PART g u) ≡ true) e (at .shown);
           ok = λ n es s l r. at .ok n es s l r .1;
+          steps = λ f r a b l u.
+              distinct-weaken
+              (λ z d. record { part = d .part; rank = d .rank; at-least = omega arith; less = d .less; ranked = d .ranked; upward = d .upward })
+              (at .steps f r a b l u .4);
         }
 
 module _ {hop source : List ℕ} {k g : ℕ} {c c₁ : List ℕ} {m : ℕ} where
@@ -110,6 +131,7 @@ module _ {hop source : List ℕ} {k g : ℕ} {c c₁ : List ℕ} {m : ℕ} where
             ap (λ (j : ℕ). shows (stepAt c₁ j) (PART g k)) last ∙ ap (λ (s : Step). shows s (PART g k)) (p .step)
             ∙ ap (λ (u : ℕ). shows (stating 3 g g 0 0) (PART g u)) (sym e) ∙ as-stated 3 g g 0 0;
         ok = λ n es s l. put-ok n es p (itself-justified n es m (stepAt c 0) (stepAt c 0) g l);
+        steps = λ o. absurd (o e);
       }
 
   -- the first hop, and the way up from there
@@ -129,4 +151,12 @@ module _ {hop source : List ℕ} {k g : ℕ} {c c₁ : List ℕ} {m : ℕ} where
             let fy : y < n = omega (arith, f .0) in
             let fact : Hop es g y t = subst (λ u. Hop es g u t) (sym e) (subst (Hop es g (getD hop g 0)) (sym d) (f .1)) in
             z .ok n es s fy l (put-ok n es p (hop-justified n es m (stepAt c (hopStep g y t .first)) (stepAt c (hopStep g y t .second)) g y t l fy fact) a);
+        steps = λ b.
+            let v = goes-on (some .2) o in
+            let way = subst (Way hop k g) (v .1) (some .2) in
+            let rg = way-rank way in
+            let s = rank-next (rg .1) o in
+            let ry : Rank hop k y (s .0) = subst (λ u. Rank hop k u (s .0)) (sym e) (s .2) in
+            let up : Upward hop k g y = begun o way e in
+            rising-first t (omega arith) ry up p (z .edited) (z .steps (s .0) (rg .0) ry (rg .1) (omega (arith, s .1)) up);
       }

@@ -1,6 +1,8 @@
 pub mod Extending
 pub mod Puts
+pub mod Distincts
 pub mod Hopping
+pub mod Risings
 pub mod Climbing
 pub mod Queues
 pub mod Spreads

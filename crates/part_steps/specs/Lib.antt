@@ -1,4 +1,5 @@
 pub mod Climbs
+pub mod Distinct
 pub mod Hops
 pub mod Queue
 pub mod Sources

@@ -1,2 +1,4 @@
+pub mod Matrices
 pub mod OpenBooks
 pub mod Replicating
+pub mod Updating

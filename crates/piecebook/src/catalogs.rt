@@ -15,7 +15,7 @@ pub struct PiecebookRange {
 }
 
 #[no_mangle]
-pub extern "C" fn piecebook_catalog(
+pub extern "C" fn piecebook_catalog_with(
     book: &[u8],
     kind: usize,
     piece: usize,
@@ -27,6 +27,9 @@ pub extern "C" fn piecebook_catalog(
     meets: &mut [u16],
     apart: &mut [u16],
     notpart: &mut [u16],
+    e: &mut [u64; 65536],
+    d: &mut [u64; 65536],
+    t: &mut [u64; 65536],
 ) -> PiecebookCatalogResult
     ensures { λ r. ⌜ Catalogs (now (book .entry)) kind piece (lent (now (parens .entry)) (now (marks .entry)) (now (shadows .entry)) (now (places .entry)) (now (list .entry)) (now (meets .entry)) (now (apart .entry)) (now (notpart .entry))) r (lent (now (parens .exit)) (now (marks .exit)) (now (shadows .exit)) (now (places .exit)) (now (list .exit)) (now (meets .exit)) (now (apart .exit)) (now (notpart .exit))) ⌝ }
 {
@@ -42,6 +45,9 @@ pub extern "C" fn piecebook_catalog(
         meets,
         apart,
         notpart,
+        e,
+        d,
+        t,
     );
     results::catalogs::counted_of(listing)
 }

@@ -23,7 +23,7 @@ pub mod chain_calls;
 pub mod comparisons;
 
 #[no_mangle]
-pub extern "C" fn piecebook_answer(
+pub extern "C" fn piecebook_answer_with(
     book: &[u8],
     claims: &[u8],
     parens: &mut [u8],
@@ -31,6 +31,12 @@ pub extern "C" fn piecebook_answer(
     shadows: &mut [u16],
     places: &mut [u16],
     answers: &mut [u8],
+    e: &mut [u64; 65536],
+    d: &mut [u64; 65536],
+    t: &mut [u64; 65536],
+    u: &mut [u64; 65536],
+    p: &mut [u64; 65536],
+    q: &mut [u64; 65536],
 ) -> PiecebookResult
     ensures exported { λ r. ⌜ Exported (now (book .entry)) (now (claims .entry)) (lent (now (parens .entry)) (now (marks .entry)) (now (shadows .entry)) (now (places .entry)) (now (answers .entry))) r (lent (now (parens .exit)) (now (marks .exit)) (now (shadows .exit)) (now (places .exit)) (now (answers .exit))) ⌝ }
     ensures demand2 { λ r. ⌜ Demand2 (now (book .entry)) (now (claims .entry)) (now (answers .exit)) (r .number) ⌝ }
@@ -38,17 +44,37 @@ pub extern "C" fn piecebook_answer(
     ensures contradicted { λ r. ⌜ Contradicted (now (book .entry)) (r .number) (r .place) ⌝ }
     ensures fitting { λ r. ⌜ Fitting (now (book .entry)) (r .number) (r .nodes) ⌝ }
 {
-    let outcome = answers::answer_claims(book, claims, parens, marks, shadows, places, answers);
+    let outcome = answers::answer_claims(
+        book,
+        claims,
+        parens,
+        marks,
+        shadows,
+        places,
+        answers,
+        e,
+        d,
+        t,
+        u,
+        p,
+        q,
+    );
     results::result_of(outcome)
 }
 
 #[no_mangle]
-pub extern "C" fn piecebook_index(
+pub extern "C" fn piecebook_index_with(
     book: &[u8],
     parens: &mut [u8],
     marks: &mut [u8],
     shadows: &mut [u16],
     places: &mut [u16],
+    e: &mut [u64; 65536],
+    d: &mut [u64; 65536],
+    t: &mut [u64; 65536],
+    u: &mut [u64; 65536],
+    p: &mut [u64; 65536],
+    q: &mut [u64; 65536],
 ) -> PiecebookResult
     ensures exported { λ r. ⌜ Exported (now (book .entry)) [] (lent (now (parens .entry)) (now (marks .entry)) (now (shadows .entry)) (now (places .entry)) []) r (lent (now (parens .exit)) (now (marks .exit)) (now (shadows .exit)) (now (places .exit)) []) ⌝ }
     ensures demand2 { λ r. ⌜ Demand2 (now (book .entry)) [] [] (r .number) ⌝ }
@@ -56,7 +82,7 @@ pub extern "C" fn piecebook_index(
     ensures contradicted { λ r. ⌜ Contradicted (now (book .entry)) (r .number) (r .place) ⌝ }
     ensures fitting { λ r. ⌜ Fitting (now (book .entry)) (r .number) (r .nodes) ⌝ }
 {
-    let outcome = answers::write_index(book, parens, marks, shadows, places);
+    let outcome = answers::write_index(book, parens, marks, shadows, places, e, d, t, u, p, q);
     results::result_of(outcome)
 }
 
@@ -72,10 +98,18 @@ pub struct PiecebookGrids {
 }
 
 #[no_mangle]
-pub extern "C" fn piecebook_grid(book: &[u8]) -> PiecebookGrids
+pub extern "C" fn piecebook_grid_with(
+    book: &[u8],
+    e: &mut [u64; 65536],
+    d: &mut [u64; 65536],
+    t: &mut [u64; 65536],
+    u: &mut [u64; 65536],
+    p: &mut [u64; 65536],
+    q: &mut [u64; 65536],
+) -> PiecebookGrids
     ensures { λ r. ⌜ Sheeted (now (book .entry)) r ⌝ }
 {
-    let sheet = grids::grid(book);
+    let sheet = grids::grid(book, e, d, t, u, p, q);
     let outcome = sheet.outcome;
     let grids = sheet.grids;
     let part = grids.part;
@@ -156,34 +190,73 @@ fn worked(settled: Settled) -> PiecebookWorked
 }
 
 // By value: an addition, a withdrawal and a claim.
-pub fn add_to(was: PiecebookWorking, area: &mut [u8], addition: &[u8]) -> PiecebookWorked
+pub fn add_to(
+    was: PiecebookWorking,
+    area: &mut [u8],
+    addition: &[u8],
+    e: &mut [u64; 65536],
+    d: &mut [u64; 65536],
+    t: &mut [u64; 65536],
+    u: &mut [u64; 65536],
+    p: &mut [u64; 65536],
+    q: &mut [u64; 65536],
+) -> PiecebookWorked
     ensures { λ r. ⌜ Added was (now (area .entry)) (now (addition .entry)) (r .result) (r .working) (now (area .exit)) ⌝ }
 {
-    let settled = working::add_to(state_of(was), area, addition);
+    let settled = working::add_to(state_of(was), area, addition, e, d, t, u, p, q);
     worked(settled)
 }
 
-pub fn withdraw_from(was: PiecebookWorking, area: &mut [u8], number: usize) -> PiecebookWorked
+pub fn withdraw_from(
+    was: PiecebookWorking,
+    area: &mut [u8],
+    number: usize,
+    e: &mut [u64; 65536],
+    d: &mut [u64; 65536],
+    t: &mut [u64; 65536],
+    u: &mut [u64; 65536],
+    p: &mut [u64; 65536],
+    q: &mut [u64; 65536],
+) -> PiecebookWorked
     ensures { λ r. ⌜ Withdrawn was (now (area .entry)) number (r .result) (r .working) (now (area .exit)) ⌝ }
 {
-    let settled = working::withdraw_from(state_of(was), area, number);
+    let settled = working::withdraw_from(state_of(was), area, number, e, d, t, u, p, q);
     worked(settled)
 }
 
-pub fn ask_of(was: PiecebookWorking, area: &[u8], claim: &[u8]) -> PiecebookWorkingResult
+pub fn ask_of(
+    was: PiecebookWorking,
+    area: &[u8],
+    claim: &[u8],
+    e: &mut [u64; 65536],
+    d: &mut [u64; 65536],
+    t: &mut [u64; 65536],
+    u: &mut [u64; 65536],
+    p: &mut [u64; 65536],
+    q: &mut [u64; 65536],
+) -> PiecebookWorkingResult
     ensures { λ r. ⌜ Answered was (now (area .entry)) (now (claim .entry)) r ⌝ }
 {
-    let asked = working::ask_of(state_of(was), area, claim);
+    let asked = working::ask_of(state_of(was), area, claim, e, d, t, u, p, q);
     let outcome = asked.outcome;
     told(outcome, results::wide(asked.answer))
 }
 
 // The counts are lent as two numbers, which is how C lays them out. A refused start leaves them.
 #[no_mangle]
-pub extern "C" fn piecebook_start(state: &mut [usize; 2], area: &mut [u8]) -> PiecebookWorkingResult
+pub extern "C" fn piecebook_start_with(
+    state: &mut [usize; 2],
+    area: &mut [u8],
+    e: &mut [u64; 65536],
+    d: &mut [u64; 65536],
+    t: &mut [u64; 65536],
+    u: &mut [u64; 65536],
+    p: &mut [u64; 65536],
+    q: &mut [u64; 65536],
+) -> PiecebookWorkingResult
     ensures { λ r. ⌜ Started (now (state .entry)) (now (area .entry)) r (now (state .exit)) (now (area .exit)) ⌝ }
 {
-    let settled = working::start(area);
+    let settled = working::start(area, e, d, t, u, p, q);
     let begun = settled.working;
     let outcome = settled.outcome;
     let Outcome::Accepted(_, _, _) = outcome else {
@@ -194,50 +267,74 @@ pub extern "C" fn piecebook_start(state: &mut [usize; 2], area: &mut [u8]) -> Pi
 }
 
 #[no_mangle]
-pub extern "C" fn piecebook_add(
+pub extern "C" fn piecebook_add_with(
     state: &mut PiecebookWorking,
     area: &mut [u8],
     addition: &[u8],
+    e: &mut [u64; 65536],
+    d: &mut [u64; 65536],
+    t: &mut [u64; 65536],
+    u: &mut [u64; 65536],
+    p: &mut [u64; 65536],
+    q: &mut [u64; 65536],
 ) -> PiecebookWorkingResult
     ensures { λ r. ⌜ Added (now (state .entry)) (now (area .entry)) (now (addition .entry)) r (now (state .exit)) (now (area .exit)) ⌝ }
 {
-    let done = add_to(*state, area, addition);
+    let done = add_to(*state, area, addition, e, d, t, u, p, q);
     *state = done.working;
     done.result
 }
 
 #[no_mangle]
-pub extern "C" fn piecebook_withdraw(
+pub extern "C" fn piecebook_withdraw_with(
     state: &mut PiecebookWorking,
     area: &mut [u8],
     number: usize,
+    e: &mut [u64; 65536],
+    d: &mut [u64; 65536],
+    t: &mut [u64; 65536],
+    u: &mut [u64; 65536],
+    p: &mut [u64; 65536],
+    q: &mut [u64; 65536],
 ) -> PiecebookWorkingResult
     ensures { λ r. ⌜ Withdrawn (now (state .entry)) (now (area .entry)) number r (now (state .exit)) (now (area .exit)) ⌝ }
 {
-    let done = withdraw_from(*state, area, number);
+    let done = withdraw_from(*state, area, number, e, d, t, u, p, q);
     *state = done.working;
     done.result
 }
 
 // A claim changes nothing.
 #[no_mangle]
-pub extern "C" fn piecebook_ask(
+pub extern "C" fn piecebook_ask_with(
     state: &mut PiecebookWorking,
     area: &[u8],
     claim: &[u8],
+    e: &mut [u64; 65536],
+    d: &mut [u64; 65536],
+    t: &mut [u64; 65536],
+    u: &mut [u64; 65536],
+    p: &mut [u64; 65536],
+    q: &mut [u64; 65536],
 ) -> PiecebookWorkingResult
     ensures { λ r. ⌜ Answered (now (state .entry)) (now (area .entry)) (now (claim .entry)) r × (now (state .exit) ≡ now (state .entry)) ⌝ }
 {
-    ask_of(*state, area, claim)
+    ask_of(*state, area, claim, e, d, t, u, p, q)
 }
 
 #[no_mangle]
-pub extern "C" fn piecebook_convert(book: &[u8], out: &mut [u8]) -> PiecebookConverted
+pub extern "C" fn piecebook_convert_with(
+    book: &[u8],
+    out: &mut [u8],
+    e: &mut [u64; 65536],
+    d: &mut [u64; 65536],
+    t: &mut [u64; 65536],
+) -> PiecebookConverted
     ensures converts { λ r. ⌜ Converts (now (book .entry)) (now (out .entry)) r (now (out .exit)) ⌝ }
     ensures accepted { λ r. ⌜ (r .number ≡ 0 → InForce (now (book .entry)) (converted (now (book .entry)))) ⌝ }
     ensures same { λ r. ⌜ (r .number ≡ 0 → SameAnswers (now (book .entry)) (converted (now (book .entry)))) ⌝ }
 {
-    let conversion = convert::convert(book, out);
+    let conversion = convert::convert(book, out, e, d, t);
     results::converted_of(conversion)
 }
 
@@ -250,15 +347,19 @@ pub struct PiecebookReplicatesResult {
 }
 
 #[no_mangle]
-pub extern "C" fn piecebook_replicates(
+pub extern "C" fn piecebook_replicates_with(
     book: &[u8],
     window: Window,
     log: &[u8],
     out: &mut [u8],
+    e: &mut [u64; 65536],
+    d: &mut [u64; 65536],
+    t: &mut [u64; 65536],
+    a: &mut [u64; 65536],
 ) -> PiecebookReplicatesResult
     ensures { λ r. ⌜ Replicates (now (book .entry)) window (now (log .entry)) (now (out .entry)) r (now (out .exit)) ⌝ }
 {
-    let done = replicates::replicates(book, window, log, out);
+    let done = replicates::replicates(book, window, log, out, e, d, t, a);
     let outcome = done.outcome;
     let next = done.window;
     let reply = told(outcome, 0);

@@ -1,4 +1,4 @@
-// The question program: reads a book from the file book.rec and claims from standard input, and writes the page that `report` lays out.
+// The question program: reads a book from the file book.rec and claims from standard input, and writes the page that `report` lays out. Where the page cannot be written whole, that is told on standard error in the system's words.
 ghost use mathlib.Core.Path.{_≡_};
 ghost use lib.ListN.{length};
 ghost use Rattle.io.specs.Counts.{Counts};
@@ -25,8 +25,27 @@ fn main() {
     let mut claims = [0u8; 24582];
     let asked = io::read_full(STDIN_FILENO, &mut claims);
     let mut page = [0u8; 135285];
-    let Laid::Text(end) = report::ask(&book[..taken], &claims[..asked], &mut page) else {
+    let mut e = [0u64; 65536];
+    let mut d = [0u64; 65536];
+    let mut t = [0u64; 65536];
+    let mut u = [0u64; 65536];
+    let mut p = [0u64; 65536];
+    let mut q = [0u64; 65536];
+    let Laid::Text(end) = report::ask(
+        &book[..taken],
+        &claims[..asked],
+        &mut page,
+        &mut e,
+        &mut d,
+        &mut t,
+        &mut u,
+        &mut p,
+        &mut q,
+    ) else {
         return;
     };
-    io::write_all(STDOUT_FILENO, &page[..end]);
+    if io::write_all(STDOUT_FILENO, &page[..end]) {
+        return;
+    }
+    os::fail(b"standard output");
 }

@@ -1,11 +1,12 @@
 -- A cleared matrix has no bits. Assumes nothing.
 use mathlib.Core.Path.{_≡_, ap, _∙_}
 use mathlib.Core.Bool.{false}
-use Prim.Native.Nat.{ℕ, _+_, _*_, _/_, _%_}
+use mathlib.Core.List.{List}
+use Prim.Native.Nat.{ℕ, _+_, _*_, _/_, _%_, _<_}
 use native.Mathlib.Decide.{decLt}
 use native.Mathlib.Omega.{arith}
 use lib.ListN.{getD, replicate, getD-replicate, length-replicate, List·getD-eq-default}
-use Rattle.relation.specs.Matrix.{bit, bitOf}
+use Rattle.relation.specs.Matrix.{bit, bitOf, Blank}
 use Rattle.relation.proofs.Laws.{bit-zero}
 
 pub cleared : (k r i : ℕ) → bitOf (replicate k 0) r i ≡ false
@@ -18,3 +19,7 @@ cleared k r i = ap (λ (x : ℕ). bit x (i % 64)) (zeros (r * 32 + i / 64)) ∙ 
           | yes h ↦ getD-replicate k w 0 0 h
           | no h ↦ List·getD-eq-default (replicate k 0) 0 (omega (arith, length-replicate {A = ℕ} k 0))
         ]
+
+pub blank : (n : ℕ) (m : List ℕ) → ((k : ℕ) → k < n * 32 → _≡_ {A = ℕ} (getD m k 0) 0) → Blank n m
+unfolding bitOf
+blank n m h = record { bits = λ r i a b. ap (λ (x : ℕ). bit x (i % 64)) (h (r * 32 + i / 64) (omega arith)) ∙ bit-zero (i % 64) }

@@ -1,7 +1,7 @@
 -- A matrix of bits: rows of 32 words of 64 bits, and what the functions make of one. Assumes nothing: these are definitions.
 use mathlib.Core.Path.{_≡_}
 use mathlib.Core.List.{List}
-use mathlib.Core.Bool.{Bool, true, _||_, _&&_}
+use mathlib.Core.Bool.{Bool, true, false, _||_, _&&_}
 use Prim.Native.Nat.{ℕ, _+_, _*_, _/_, _%_, _^_, _<_, _≤_}
 use lib.Dec.{eqb}
 use lib.ListN.{getD}
@@ -22,6 +22,10 @@ common m r n s = anyBelow (λ j. bitOf m r j && bitOf n s j) 2048
 -- bit y of row r of the product of a and b: some x has a bit in row r of a, and y in row x of b
 unfoldable pub through : List ℕ → List ℕ → ℕ → ℕ → Bool
 through a b r y = anyBelow (λ x. bitOf a r x && bitOf b x y) 2048
+
+-- the rows of m below n have no bits; those behind them are free
+pub record Blank (n : ℕ) (m : List ℕ) : Type 0 where
+  pub bits : (r i : ℕ) → r < n → i < 2048 → bitOf m r i ≡ false
 
 -- m′ is m with bit i of row r set
 pub record Inserted (m m′ : List ℕ) (r i : ℕ) : Type 0 where

@@ -4,7 +4,7 @@ ghost use Prim.Native.Nat.{_+_, _-_, _*_, _<_, _≤_};
 ghost use lib.ListN.{length, replicate};
 ghost use Rattle.lists.specs.First.{first};
 ghost use mathlib.Core.Bool.{false};
-ghost use Rattle.relation.specs.Matrix.{bitOf, common, Inserted, United};
+ghost use Rattle.relation.specs.Matrix.{bitOf, common, Blank, Inserted, United};
 
 // Whether bit i of row r is set.
 pub fn test(m: &[u64], r: usize, i: usize) -> bool
@@ -95,6 +95,19 @@ pub fn clear(m: &mut [u64])
 {
     let mut i: usize = 0;
     while i < m.len() {
+        m[i] = 0;
+        i += 1;
+    }
+}
+
+// Clears the rows below n.
+pub fn clear_rows(m: &mut [u64], n: usize)
+    requires { ⌜ (length (now m) ≡ 65536) × (n ≤ 2048) ⌝ }
+    ensures { λ _. ⌜ Blank n (now (m .exit)) ⌝ }
+{
+    let end = n * 32;
+    let mut i: usize = 0;
+    while i < end {
         m[i] = 0;
         i += 1;
     }

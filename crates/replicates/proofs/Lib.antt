@@ -5,4 +5,5 @@ pub mod Rows
 pub mod Shift
 pub mod Calls
 pub mod Joins
+pub mod Aparts
 mod Examples

@@ -2,3 +2,4 @@ pub mod Log
 pub mod Call
 pub mod Writing
 pub mod Join
+pub mod Apart

@@ -31,7 +31,7 @@ pub record Writable (s : List ℕ) (n : ℕ) (voids e order lead d : List ℕ) (
   pub void : Voids voids × (voidOf voids ≡ marked s)
   pub free : false ≡ clash (voidOf voids) n (facts s)
   pub steps : Stepped n (facts s) e order lead
-  pub parts : Holds d (partBit n (facts s))
+  pub parts : Holds n d (partBit n (facts s))
   pub fits : Fits n w log
   pub wide : 2 * entryCount log ≤ room
 

@@ -174,6 +174,7 @@ fn write_part(
     lead: &[u16; 2048],
     d: &[u64; 65536],
     t: &mut [u64; 65536],
+    a: &mut [u64; 65536],
     window: Window,
     log: &[u8],
     out: &mut [u8],
@@ -181,15 +182,14 @@ fn write_part(
     requires { ⌜ Writable (now book) n (now voids) (now e) (now order) (now lead) (now d) window (now log) (length (now out)) ⌝ }
     ensures { λ r. ⌜ (r ≡ windowOf (sequence window (now (log .entry)))) × (now (out .exit) ≡ front (bytesIn (now (book .entry)) n window (now (log .entry))) (now (out .entry))) ⌝ }
 {
-    let mut a = [0u64; 65536];
-    closure::apart::apart_rows(book, n, voids, e, order, lead, d, t, &mut a);
+    closure::apart::apart_rows(book, n, voids, e, order, lead, d, t, a);
     let mut xs = [0u16; 32799];
     let count = window.count;
     put_window(window, &mut xs);
     put_entries(log, count, &mut xs);
     let end = count + log.len() / 2;
     let seq = &xs[..end];
-    write_bytes(seq, count, &a, out);
+    write_bytes(seq, count, a, out);
     last_window(seq)
 }
 
@@ -204,27 +204,25 @@ fn refuse(refusal: Refusal, place: usize, window: Window) -> Replicated
 }
 
 // Row 14, rows 20 and 21, and the bytes, for a book that passes the rows before.
-fn judge(book: &[u8], n: usize, window: Window, log: &[u8], out: &mut [u8]) -> Replicated
+fn judge(
+    book: &[u8],
+    n: usize,
+    window: Window,
+    log: &[u8],
+    out: &mut [u8],
+    e: &mut [u64; 65536],
+    d: &mut [u64; 65536],
+    t: &mut [u64; 65536],
+    a: &mut [u64; 65536],
+) -> Replicated
     requires { ⌜ (bookCheck (now book) ≡ on.Accepted n) × (2 * entryCount (now log) ≤ length (now out)) ⌝ }
     ensures { λ r. ⌜ Judged (now (book .entry)) n window (now (log .entry)) (now (out .entry)) r (now (out .exit)) ⌝ }
 {
     let mut voids = [0u64; 32];
     storing::marking::mark_voids(book, &mut voids);
-    let mut e = [0u64; 65536];
     let mut order = [0u16; 2048];
     let mut lead = [0u16; 2048];
-    let mut d = [0u64; 65536];
-    let mut t = [0u64; 65536];
-    let settled = settling::settle_alone(
-        book,
-        n,
-        &voids,
-        &mut e,
-        &mut order,
-        &mut lead,
-        &mut d,
-        &mut t,
-    );
+    let settled = settling::settle_alone(book, n, &voids, e, &mut order, &mut lead, d, t);
     match settled {
         Settled::Clash(place) => refuse(Refusal::Contradiction, place, window),
         Settled::Free(nodes, shadowed) => {
@@ -237,11 +235,12 @@ fn judge(book: &[u8], n: usize, window: Window, log: &[u8], out: &mut [u8]) -> R
                         book,
                         n,
                         &voids,
-                        &e,
+                        e,
                         &order,
                         &lead,
-                        &d,
-                        &mut t,
+                        d,
+                        t,
+                        a,
                         window,
                         log,
                         out,
@@ -254,7 +253,16 @@ fn judge(book: &[u8], n: usize, window: Window, log: &[u8], out: &mut [u8]) -> R
 
 // For each entry of a part of the log two bytes: how many of the up to 31 entries before it are certainly APART from it, then 1 if every two of these
 // and it are, else 0. The entries before the part are in the window; the window handed back is for the next part.
-pub fn replicates(book: &[u8], window: Window, log: &[u8], out: &mut [u8]) -> Replicated
+pub fn replicates(
+    book: &[u8],
+    window: Window,
+    log: &[u8],
+    out: &mut [u8],
+    e: &mut [u64; 65536],
+    d: &mut [u64; 65536],
+    t: &mut [u64; 65536],
+    a: &mut [u64; 65536],
+) -> Replicated
     ensures { λ r. ⌜ Determined (now (book .entry)) window (now (log .entry)) (now (out .entry)) r (now (out .exit)) ⌝ }
 {
     let count = log.len() / 2;
@@ -264,6 +272,6 @@ pub fn replicates(book: &[u8], window: Window, log: &[u8], out: &mut [u8]) -> Re
     let checked = checks::check_book(book);
     match checked {
         BookCheck::Refused(refusal, place) => refuse(refusal, place, window),
-        BookCheck::Accepted(n) => judge(book, n, window, log, out),
+        BookCheck::Accepted(n) => judge(book, n, window, log, out, e, d, t, a),
     }
 }

@@ -5,3 +5,4 @@ pub mod Examples
 pub mod Pages
 pub mod SessionPage
 pub mod Texts
+pub mod SessionPrinted

@@ -32,9 +32,12 @@ use Rattle.records.specs.Rows.{admitted}
 use Rattle.outcomes.specs.Lent.{shortLent}
 use Rattle.answering.specs.Claimed.{claimed, answersTo}
 use Rattle.outcomes.specs.Call.{byRuns, byClaims, byBook, outcome, indexed, left}
-use Rattle.printing.specs.Text.{ascii}
-use Rattle.printing.specs.Decimal.{spell, decimal}
-use Rattle.printing.specs.Session.{kindName, answerName, claimLine, claimLines, countsLine, session}
+use Rattle.pages.specs.Text.{ascii}
+use Rattle.pages.specs.Decimal.{spell, decimal}
+use Rattle.pages.specs.Entry as table
+use Rattle.pages.specs.Lines.{lines}
+use Rattle.sentences.specs.Words.{kindName, answerName}
+use Rattle.report.specs.Session.{claimLine, claimLines, countsLine, session}
 use Rattle.report.specs.Page.{zeros, printed}
 
 -- a record or a claim of kind k on pieces below 256
@@ -60,5 +63,5 @@ pub session-printed :
     ++ ascii "7 NOTPART 1 3 FOLLOWS\n"
     ++ ascii "8 NOTPART 0 1 FOLLOWS\n"
     ++ ascii "9 PART 1 2 OPEN\n"
-unfolding printed zeros session countsLine claimLines claimLine recordAt kindName answerName decimal spell outcome shortLent byBook checkBy scan recordFinding formFinding orderRow stated largest piecesUpTo sameBytes anyBelow byClaims claimsCheck claimAt byRuns shortestClash entries entryOf factOf tab clash any table entry storing turned parting marks marked step rounds containment apart meets notpart derived follows first factsOf bookVisits groups.groups groups.pair groups.number groups.lowest groups.first-of groups.same groups.lies tally visitsOf edges joined partIn range keep find parts breadth order parent hang under whole visits shadows isShadow left indexed front answersTo picked admitted verdict judge claimed
+unfolding printed zeros session countsLine claimLines claimLine recordAt lines kindName answerName table.entry decimal spell outcome shortLent byBook checkBy scan recordFinding formFinding orderRow stated largest piecesUpTo sameBytes anyBelow byClaims claimsCheck claimAt byRuns shortestClash entries entryOf factOf tab clash any table entry storing turned parting marks marked step rounds containment apart meets notpart derived follows first factsOf bookVisits groups.groups groups.pair groups.number groups.lowest groups.first-of groups.same groups.lies tally visitsOf edges joined partIn range keep find parts breadth order parent hang under whole visits shadows isShadow left indexed front answersTo picked admitted verdict judge claimed
 session-printed = refl

@@ -6,7 +6,7 @@ use mathlib.Core.List.{List}
 use lib.Dec.{leb}
 use lib.ListN.{length}
 use Rattle.report.specs.Page.{printed}
-use Rattle.printing.specs.Printed.{Printed}
+use Rattle.pages.specs.Printed.{Printed}
 use Rattle.report.specs.declared.Laid.{Laid}
 use Rattle.report.specs.declared.Laid.the-variants.{Text, NoRoom}
 

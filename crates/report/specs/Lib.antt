@@ -1,3 +1,6 @@
+pub mod Session
 pub mod Room
 pub mod Page
+pub mod Answered
 pub mod Asked
+pub mod SessionPrinted

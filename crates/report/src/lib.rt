@@ -1,14 +1,17 @@
-// The printed session, laid out on a page of bytes that the caller lends.
+// Document 01's session, written on a page of bytes that the caller lends.
 ghost use Prim.Native.Nat.{_≤_};
-ghost use lib.ListN.{length};
+ghost use mathlib.Core.Path.{_≡_};
+ghost use lib.ListN.{length, getD, replicate};
 ghost use Rattle.records.specs.Record.{records};
-ghost use Rattle.printing.specs.Session.{claimLines, session};
-ghost use Rattle.printing.specs.Put.{Fits, Put};
-ghost use Rattle.report.specs.Room.{Enough};
-ghost use Rattle.printing.specs.Printed.{Printed};
+ghost use Rattle.pages.specs.Put.{Put};
+ghost use Rattle.pages.specs.Printed.{Printed};
+ghost use Rattle.report.specs.Session.{claimLine, claimLines, countsLine, refusalLine, session};
+ghost use Rattle.report.specs.Room.{bytesFor};
 ghost use Rattle.report.specs.Page.{printed};
+ghost use Rattle.report.specs.Answered.{Answered};
 ghost use Rattle.report.specs.Asked.{Asked};
 use outcomes::Outcome;
+use records::Record;
 
 // How many bytes of the page are text; or the page is too short for the longest session, or the claims are longer than any that is read.
 pub enum Laid {
@@ -16,10 +19,51 @@ pub enum Laid {
     NoRoom,
 }
 
+// The line of claim i.
+fn put_claim(page: &mut [u8], at: usize, i: usize, claim: Record, answer: u8) -> usize
+    ensures { λ r. ⌜ Put (now (page .entry)) at (claimLine i claim answer) (now (page .exit)) r ⌝ }
+{
+    let at = pages::put_number(page, at, i, b' ');
+    let kind = claim.kind;
+    let at = sentences::put_kind(page, at, kind, b' ');
+    let at = pages::put_number(page, at, claim.a, b' ');
+    let at = pages::put_number(page, at, claim.b, b' ');
+    sentences::put_answer(page, at, answer, b'\n')
+}
+
+// The line of the three counts.
+pub fn put_counts(page: &mut [u8], at: usize, pieces: usize, nodes: usize, shadows: usize) -> usize
+    ensures { λ r. ⌜ Put (now (page .entry)) at (countsLine pieces nodes shadows) (now (page .exit)) r ⌝ }
+{
+    let at = pages::put(page, at, b"PIECES ");
+    let at = pages::put_number(page, at, pieces, b' ');
+    let at = pages::put(page, at, b"NODES ");
+    let at = pages::put_number(page, at, nodes, b' ');
+    let at = pages::put(page, at, b"SHADOWS ");
+    pages::put_number(page, at, shadows, b'\n')
+}
+
+// The one line of a refusal.
+fn put_refusal(page: &mut [u8], at: usize, number: usize, place: usize) -> usize
+    ensures { λ r. ⌜ Put (now (page .entry)) at (refusalLine number place) (now (page .exit)) r ⌝ }
+{
+    let at = pages::put(page, at, b"REFUSED ");
+    let at = pages::put_number(page, at, number, b' ');
+    pages::put_number(page, at, place, b'\n')
+}
+
+// An answer, or 0 where there is none.
+fn answer_at(answers: &[u8], i: usize) -> u8
+    ensures { λ r. ⌜ r ≡ getD (now (answers .entry)) i 0 ⌝ }
+{
+    if answers.len() <= i {
+        return 0;
+    }
+    answers[i]
+}
+
 // The lines of all claims.
-fn put_claims(page: &mut [u8], at: usize, claims: &[u8], answers: &[u8]) -> usize
-    requires { ⌜ records (now claims) ≤ length (now answers) ⌝ }
-    requires { ⌜ Fits (now page) at (claimLines (now claims) (now answers) (records (now claims))) ⌝ }
+pub fn put_claims(page: &mut [u8], at: usize, claims: &[u8], answers: &[u8]) -> usize
     ensures { λ r. ⌜ Put (now (page .entry)) at (claimLines (now (claims .entry)) (now (answers .entry)) (records (now (claims .entry)))) (now (page .exit)) r ⌝ }
 {
     let n = claims.len() / 6;
@@ -27,14 +71,15 @@ fn put_claims(page: &mut [u8], at: usize, claims: &[u8], answers: &[u8]) -> usiz
     let mut i: usize = 0;
     while i < n {
         let claim = records::record_at(claims, i);
-        end = printing::put_claim(page, end, i, claim, answers[i]);
+        let answer = answer_at(answers, i);
+        end = put_claim(page, end, i, claim, answer);
         i += 1;
     }
     end
 }
 
 // The page of an outcome, whose number is 0 where the book was accepted. Answers how many bytes are text.
-fn write_session(
+fn put_session(
     page: &mut [u8],
     number: usize,
     place: usize,
@@ -44,37 +89,71 @@ fn write_session(
     claims: &[u8],
     answers: &[u8],
 ) -> usize
-    requires { ⌜ Enough (now page) (now claims) (now answers) ⌝ }
+    requires { ⌜ (records (now claims) ≤ 10000) × (bytesFor (records (now claims)) ≤ length (now page)) ⌝ }
     ensures { λ r. ⌜ Printed (now (page .entry)) (session number place pieces nodes shadows (now (claims .entry)) (now (answers .entry))) (now (page .exit)) r ⌝ }
 {
     if number != 0 {
-        return printing::put_refusal(page, 0, number, place);
+        return put_refusal(page, 0, number, place);
     }
-    let at = printing::put_counts(page, 0, pieces, nodes, shadows);
+    let at = put_counts(page, 0, pieces, nodes, shadows);
     put_claims(page, at, claims, answers)
 }
 
-// Answers the claims and lays out the page: how much of it is text.
-fn lay_out(book: &[u8], claims: &[u8], page: &mut [u8]) -> usize
-    requires { ⌜ (length (now claims) ≤ 24582) × (135285 ≤ length (now page)) ⌝ }
-    ensures { λ r. ⌜ Printed (now (page .entry)) (printed (now (book .entry)) (now (claims .entry))) (now (page .exit)) r ⌝ }
+// Answers the claims, with an index that nobody asks for.
+pub fn answer(
+    book: &[u8],
+    claims: &[u8],
+    answers: &mut [u8],
+    e: &mut [u64; 65536],
+    d: &mut [u64; 65536],
+    t: &mut [u64; 65536],
+    u: &mut [u64; 65536],
+    p: &mut [u64; 65536],
+    q: &mut [u64; 65536],
+) -> Outcome
+    requires { ⌜ now answers ≡ replicate 4097 0 ⌝ }
+    ensures { λ r. ⌜ Answered (now (book .entry)) (now (claims .entry)) (now (answers .exit)) r ⌝ }
 {
     let mut parens = [0u8; 2560];
     let mut marks = [0u8; 1280];
     let mut shadows = [0u16; 8192];
     let mut places = [0u16; 2048];
-    let mut answers = [0u8; 4097];
-    let outcome = answers::answer_claims(
+    answers::answer_claims(
         book,
         claims,
         &mut parens,
         &mut marks,
         &mut shadows,
         &mut places,
-        &mut answers,
-    );
+        answers,
+        e,
+        d,
+        t,
+        u,
+        p,
+        q,
+    )
+}
+
+// Answers the claims and writes the page: how much of it is text.
+fn write_session(
+    book: &[u8],
+    claims: &[u8],
+    page: &mut [u8],
+    e: &mut [u64; 65536],
+    d: &mut [u64; 65536],
+    t: &mut [u64; 65536],
+    u: &mut [u64; 65536],
+    p: &mut [u64; 65536],
+    q: &mut [u64; 65536],
+) -> usize
+    requires { ⌜ (length (now claims) ≤ 24582) × (135285 ≤ length (now page)) ⌝ }
+    ensures { λ r. ⌜ Printed (now (page .entry)) (printed (now (book .entry)) (now (claims .entry))) (now (page .exit)) r ⌝ }
+{
+    let mut answers = [0u8; 4097];
+    let outcome = answer(book, claims, &mut answers, e, d, t, u, p, q);
     match outcome {
-        Outcome::Refused(refusal, place) => write_session(
+        Outcome::Refused(refusal, place) => put_session(
             page,
             records::refusal_number(refusal) as usize,
             place,
@@ -84,7 +163,7 @@ fn lay_out(book: &[u8], claims: &[u8], page: &mut [u8]) -> usize
             claims,
             &answers,
         ),
-        Outcome::Accepted(pieces, nodes, shadowed) => write_session(
+        Outcome::Accepted(pieces, nodes, shadowed) => put_session(
             page,
             0,
             0,
@@ -97,8 +176,18 @@ fn lay_out(book: &[u8], claims: &[u8], page: &mut [u8]) -> usize
     }
 }
 
-// Answers the claims about the book and lays out the session on the page.
-pub fn ask(book: &[u8], claims: &[u8], page: &mut [u8]) -> Laid
+// Answers the claims about the book and writes the session on the page.
+pub fn ask(
+    book: &[u8],
+    claims: &[u8],
+    page: &mut [u8],
+    e: &mut [u64; 65536],
+    d: &mut [u64; 65536],
+    t: &mut [u64; 65536],
+    u: &mut [u64; 65536],
+    p: &mut [u64; 65536],
+    q: &mut [u64; 65536],
+) -> Laid
     ensures { λ r. ⌜ Asked (now (book .entry)) (now (claims .entry)) (now (page .entry)) (now (page .exit)) r ⌝ }
 {
     if 24582 < claims.len() {
@@ -107,6 +196,6 @@ pub fn ask(book: &[u8], claims: &[u8], page: &mut [u8]) -> Laid
     if page.len() < 135285 {
         return Laid::NoRoom;
     }
-    let end = lay_out(book, claims, page);
+    let end = write_session(book, claims, page, e, d, t, u, p, q);
     Laid::Text(end)
 }

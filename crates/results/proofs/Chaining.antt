@@ -13,7 +13,8 @@ use Rattle.chain_writing.specs.Call.{reply, shown, Steps, Written}
 use Rattle.chain_writing.specs.declared.Reply.{Reply}
 use Rattle.chain_writing.specs.declared.Reply.the-variants.{Answered, Refused}
 use Rattle.chain_writing.specs.declared.Chain.{Chain}
-use Rattle.results.specs.Chains.{number, place, answer, Replied, Chained}
+use Rattle.chain_writing.specs.ReplyNumbers.{number, place, answer}
+use Rattle.results.specs.Chains.{Replied, Chained}
 use Rattle.results.specs.declared.chain_calls.PiecebookChainResult.{PiecebookChainResult}
 
 pub replied-answer : (o : Reply) (a : Answer) (steps b : ℕ) → o ≡ Answered a → b ≡ answerByte a → Replied o steps (record { number = 0; place = 0; answer = b; steps = steps })

@@ -2,3 +2,4 @@ pub mod Results
 pub mod Listings
 pub mod Comparing
 pub mod Chaining
+pub mod Clashing

@@ -3,3 +3,4 @@ pub mod Converts
 pub mod Catalogs
 pub mod Compares
 pub mod Chains
+pub mod Clashes

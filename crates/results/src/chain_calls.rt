@@ -2,6 +2,7 @@
 ghost use mathlib.Core.Path.{_≡_};
 ghost use Rattle.verdicts.specs.Answers.{answerByte};
 ghost use Rattle.results.specs.Chains.{Replied};
+ghost use Rattle.results.specs.Clashes as clashes;
 use crate::wide;
 use chain_writing::Reply;
 use verdicts::Answer;
@@ -39,6 +40,31 @@ pub fn chained(reply: Reply, steps: usize) -> PiecebookChainResult
             number: crate::wide(records::refusal_number(refusal)),
             place,
             answer: 0,
+            steps,
+        },
+    }
+}
+
+// What the writer of the chain behind a contradiction comes to, as include/piecebook.h has it.
+#[repr(C)]
+pub struct PiecebookClashResult {
+    pub number: usize,
+    pub place: usize,
+    pub steps: usize,
+}
+
+pub fn clashed(reply: clash::Reply, steps: usize) -> PiecebookClashResult
+    ensures { λ r. ⌜ clashes.Replied reply steps r ⌝ }
+{
+    match reply {
+        clash::Reply::Free => PiecebookClashResult {
+            number: 0,
+            place: 0,
+            steps,
+        },
+        clash::Reply::Refused(refusal, place) => PiecebookClashResult {
+            number: crate::wide(records::refusal_number(refusal)),
+            place,
             steps,
         },
     }

@@ -1,6 +1,6 @@
 -- Writers one after another. Assumes nothing.
 use Prim.Native.Nat.{ℕ, _+_, _-_, _*_, _≤_}
-use mathlib.Core.Path.{_≡_, ap, _∙_}
+use mathlib.Core.Path.{_≡_, refl, ap, _∙_}
 use mathlib.Core.Bool.{true}
 use mathlib.Core.List.{List}
 use native.Mathlib.Omega.{arith}
@@ -10,7 +10,7 @@ use Rattle.steps.specs.declared.Step.{Step}
 use Rattle.steps.specs.Step.{stepAt, shows}
 use Rattle.steps.specs.Justified.{justified}
 use Rattle.part_steps.specs.Written.{Edited, Put}
-use Rattle.showing.specs.Shown.{Writes}
+use Rattle.showing.specs.Shown.{Writes, Adds}
 use Rattle.part_steps.proofs.Puts.{edited-join}
 use Rattle.part_steps.proofs.Extending.{edited-kept, put-ok}
 
@@ -22,9 +22,16 @@ pub put-shown : {c c′ : List ℕ} {i : ℕ} {s : Step} → Put c c′ i s → 
 put-shown p f e = ap (λ (z : Step). shows z f) (p .step) ∙ e
 
 module _ {n : ℕ} {es : List Cited} where
-  pub writes-after :
-      {f g : Fact} {a b : ℕ} {c c′ c″ : List ℕ} {m m′ m″ : ℕ} → Writes n es f a c m c′ m′ → Writes n es g b c′ m′ c″ m″ → Writes n es g (a + b) c m c″ m″
-  writes-after {m = m} {m″ = m″} x y =
+  pub adds-none : {f : Fact} {a : ℕ} {c : List ℕ} {m : ℕ} → shows (stepAt c (m - 1)) f ≡ true → Adds n es f a c m c m
+  adds-none e =
+      record { more = omega arith; few = omega arith; edited = record { sized = refl; below = λ j l. refl; behind = λ j l. refl }; shown = e; ok = λ z. z }
+
+  pub adds-some : {f : Fact} {a : ℕ} {c c′ : List ℕ} {m m′ : ℕ} → Writes n es f a c m c′ m′ → Adds n es f a c m c′ m′
+  adds-some x = let l = x .more in record { more = omega arith; few = x .few; edited = x .edited; shown = x .shown; ok = x .ok }
+
+  pub writes-adds :
+      {f g : Fact} {a b : ℕ} {c c′ c″ : List ℕ} {m m′ m″ : ℕ} → Writes n es f a c m c′ m′ → Adds n es g b c′ m′ c″ m″ → Writes n es g (a + b) c m c″ m″
+  writes-adds {m = m} {m″ = m″} x y =
       let l = x .more in
       let h = y .more in
       record {
@@ -34,6 +41,10 @@ module _ {n : ℕ} {es : List Cited} where
         shown = y .shown;
         ok = λ z. y .ok (x .ok z);
       }
+
+  pub writes-after :
+      {f g : Fact} {a b : ℕ} {c c′ c″ : List ℕ} {m m′ m″ : ℕ} → Writes n es f a c m c′ m′ → Writes n es g b c′ m′ c″ m″ → Writes n es g (a + b) c m c″ m″
+  writes-after x y = writes-adds x (adds-some y)
 
   pub writes-put :
       {f : Fact} {a : ℕ} {c c′ c″ : List ℕ} {m m′ : ℕ} {s : Step} → Writes n es f a c m c′ m′ → Put c′ c″ m′ s → justified n es m′ s (stepAt c′ (s .first)) (stepAt c′ (s .second)) ≡ true

@@ -3,3 +3,4 @@ pub mod Joining
 pub mod Composed
 pub mod Lifting
 pub mod Carries
+pub mod Commoning

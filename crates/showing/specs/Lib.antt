@@ -1,2 +1,3 @@
 pub mod Lifts
 pub mod Shown
+pub mod Commons

@@ -16,3 +16,11 @@ pub record Writes (n : ℕ) (es : List Cited) (f : Fact) (most : ℕ) (c : List 
   pub edited : Edited c c′ (10 * m) (10 * m′)
   pub shown : shows (stepAt c′ (m′ - 1)) f ≡ true
   pub ok : allOk n es c m ≡ true → allOk n es c′ m′ ≡ true
+
+-- the same of steps that may be none, where step m - 1 shows f already
+pub record Adds (n : ℕ) (es : List Cited) (f : Fact) (most : ℕ) (c : List ℕ) (m : ℕ) (c′ : List ℕ) (m′ : ℕ) : Type 0 where
+  pub more : m ≤ m′
+  pub few : m′ ≤ m + most
+  pub edited : Edited c c′ (10 * m) (10 * m′)
+  pub shown : shows (stepAt c′ (m′ - 1)) f ≡ true
+  pub ok : allOk n es c m ≡ true → allOk n es c′ m′ ≡ true

@@ -1,13 +1,16 @@
 // The steps that show a fact: along paths of PARTs, and from a stored fact.
 ghost use mathlib.Core.Path.{_≡_};
 ghost use mathlib.Core.Bool.{true};
-ghost use Prim.Native.Nat.{_+_, _<_, _≤_};
+ghost use Prim.Native.Nat.{ℕ, _+_, _<_, _≤_};
 ghost use lib.ListN.{length};
 ghost use Rattle.rules.specs.Fact as fact;
 ghost use Rattle.steps.specs.Citing.{citing};
 ghost use Rattle.steps.specs.Step.{shows};
-ghost use Rattle.showing.specs.Shown.{Writes};
-ghost use Rattle.showing.specs.Lifts.{Setting, Inside, Lifted, Grounded, Carried, told};
+ghost use Rattle.relation.specs.Matrix.{bitOf};
+ghost use Rattle.part_steps.specs.Hops.{Reaches};
+ghost use Rattle.part_steps.specs.Distinct.{Upward};
+ghost use Rattle.showing.specs.Lifts.{Setting, Telling, Unmarked, Inside, Reached, Lifted, Grounded, Carried, Lifts, Spans, Outlies};
+ghost use Rattle.showing.specs.Commons.{Last, Risen, Joined};
 use records::Record;
 use steps::Step;
 
@@ -23,7 +26,7 @@ pub fn show_part(
     at: usize,
 ) -> usize
     requires { ⌜ Setting n claim (now book) (now e) × (g < n) × (k < n) × Inside n claim (now book) g k × (164000 ≤ length (now c)) × (at + 4095 ≤ 16400) ⌝ }
-    ensures { λ r. ⌜ Writes n (citing claim (now (book .entry))) (fact.PART g k) 4093 (now (c .entry)) at (now (c .exit)) r ⌝ }
+    ensures { λ r. ⌜ Reached n claim (now (book .entry)) g k (now (c .entry)) at (now (c .exit)) r ⌝ }
 {
     let mut hop = [0u16; 2048];
     let mut order = [0u16; 2048];
@@ -33,7 +36,8 @@ pub fn show_part(
     part_steps::writing::write_part(g, k, &hop, &source, c, at)
 }
 
-// What step `at - 1` shows, carried along g PART k to what s shows, by the rule of s; its premises are filled in, the PART as the first or the second.
+// What step `at - 1` shows, carried along g PART k to what s shows, by the rule of s; its premises are filled in, the PART as the first or the second. Where g is
+// k, that step shows it already, and nothing is written.
 pub fn lift(
     book: &[u8],
     n: usize,
@@ -47,8 +51,11 @@ pub fn lift(
     at: usize,
 ) -> usize
     requires { ⌜ Setting n claim (now book) (now e) × (g < n) × (k < n) × Inside n claim (now book) g k × (164000 ≤ length (now c)) × (at + 4095 ≤ 16400) × (s .a < n) × (s .b < n) × (1 ≤ at) ⌝ }
-    ensures { λ r. ⌜ Lifted n (citing claim (now (book .entry))) s first g k (now (c .entry)) at (now (c .exit)) r ⌝ }
+    ensures { λ r. ⌜ Lifted n claim (now (book .entry)) s first g k (now (c .entry)) at (now (c .exit)) r ⌝ }
 {
+    if g == k {
+        return at;
+    }
     let m = show_part(book, n, claim, e, g, k, c, at);
     if first {
         part_steps::writing::put_step(
@@ -80,7 +87,7 @@ pub fn lift(
     m + 1
 }
 
-// What the step `base` shows, carried along g PART k to what s shows, and along h PART l to what t shows.
+// What the step `base` shows, carried along g PART k to what s shows, and along h PART l to what t shows, unless it shows that already.
 pub fn carry(
     book: &[u8],
     n: usize,
@@ -99,9 +106,12 @@ pub fn carry(
     at: usize,
 ) -> usize
     requires { ⌜ Setting n claim (now book) (now e) × Grounded n (citing claim (now book)) base × Carried n base s t first second g k h l × (g < n) × (k < n) × Inside n claim (now book) g k × (h < n) × (l < n) × Inside n claim (now book) h l × (164000 ≤ length (now c)) × (at + 8190 ≤ 16400) ⌝ }
-    ensures { λ r. ⌜ Writes n (citing claim (now (book .entry))) (told t) 8189 (now (c .entry)) at (now (c .exit)) r ⌝ }
+    ensures { λ r. ⌜ Lifts n claim (now (book .entry)) base s t g k h l (now (c .entry)) at (now (c .exit)) r ⌝ }
 {
     part_steps::writing::put_step(c, at, base);
+    if steps::shows(base, t.kind, t.a, t.b) {
+        return at + 1;
+    }
     let m = lift(book, n, claim, e, g, k, s, first, c, at + 1);
     lift(book, n, claim, e, h, l, t, second, c, m)
 }
@@ -121,7 +131,7 @@ pub fn show_apart(
     at: usize,
 ) -> usize
     requires { ⌜ Setting n claim (now book) (now e) × Grounded n (citing claim (now book)) base × (shows base (fact.APART x y) ≡ true) × (x < n) × (y < n) × (a < n) × (b < n) × Inside n claim (now book) a x × Inside n claim (now book) b y × (164000 ≤ length (now c)) × (at + 8190 ≤ 16400) ⌝ }
-    ensures { λ r. ⌜ Writes n (citing claim (now (book .entry))) (fact.APART a b) 8189 (now (c .entry)) at (now (c .exit)) r ⌝ }
+    ensures { λ r. ⌜ Spans n claim (now (book .entry)) (fact.APART a b) 2 a x b y (now (c .entry)) at (now (c .exit)) r ⌝ }
 {
     let s = Step {
         rule: 2,
@@ -142,8 +152,8 @@ pub fn show_apart(
     carry(book, n, claim, e, base, a, x, s, true, b, y, t, true, c, at)
 }
 
-// a MEETS b, from x MEETS y, which `base` shows, by x PART a and y PART b.
-pub fn show_meets(
+// a MEETS b, from x MEETS y, which `base` shows, by x PART a and y PART b, of two pieces.
+fn show_meets(
     book: &[u8],
     n: usize,
     claim: Record,
@@ -157,7 +167,7 @@ pub fn show_meets(
     at: usize,
 ) -> usize
     requires { ⌜ Setting n claim (now book) (now e) × Grounded n (citing claim (now book)) base × (shows base (fact.MEETS x y) ≡ true) × (x < n) × (y < n) × (a < n) × (b < n) × Inside n claim (now book) x a × Inside n claim (now book) y b × (164000 ≤ length (now c)) × (at + 8190 ≤ 16400) ⌝ }
-    ensures { λ r. ⌜ Writes n (citing claim (now (book .entry))) (fact.MEETS a b) 8189 (now (c .entry)) at (now (c .exit)) r ⌝ }
+    ensures { λ r. ⌜ Spans n claim (now (book .entry)) (fact.MEETS a b) 3 x a y b (now (c .entry)) at (now (c .exit)) r ⌝ }
 {
     let s = Step {
         rule: 7,
@@ -178,6 +188,123 @@ pub fn show_meets(
     carry(book, n, claim, e, base, x, a, s, true, y, b, t, true, c, at)
 }
 
+// From g MEETS g, which step `at - 1` shows, to k MEETS g along the hops; nothing where g is k.
+fn rise(n: usize, hop: &[u16], source: &[u16], g: usize, k: usize, c: &mut [u8], at: usize) -> usize
+    requires { ⌜ (length (now hop) ≡ 2048) × (length (now source) ≡ 2048) × (164000 ≤ length (now c)) × (1 ≤ at) × (at + 4095 ≤ 16400) × (g < n) × (k < n) × (n ≤ 2048) × Reaches (now hop) k g 2047 ⌝ }
+    ensures { λ r. ⌜ Risen n (now (hop .entry)) (now (source .entry)) g k (now (c .entry)) at (now (c .exit)) r ⌝ }
+{
+    if g == k {
+        return at;
+    }
+    let m = part_steps::writing::write_part(g, k, hop, source, c, at);
+    part_steps::writing::put_step(
+        c,
+        m,
+        Step {
+            rule: 7,
+            kind: 3,
+            a: k,
+            b: g,
+            first: m - 1,
+            second: at - 1,
+        },
+    );
+    m + 1
+}
+
+// The last piece in b on the way that the hops lead from x, which is in b, to a.
+fn last_inside(hop: &[u16], d: &[u64], x: usize, a: usize, b: usize) -> usize
+    requires { ⌜ (length (now hop) ≡ 2048) × (length (now d) ≡ 65536) × (b < 2048) × Reaches (now hop) a x 2047 × (bitOf (now d) b x ≡ true) × ((y : ℕ) → Upward (now hop) a x y → y < 2048) ⌝ }
+    ensures { λ r. ⌜ Last (now (hop .entry)) (now (d .entry)) a b x r ⌝ }
+{
+    let mut last = x;
+    let mut y = x;
+    let mut i: usize = 0;
+    while i < 2047 {
+        if y == a {
+            return last;
+        }
+        y = part_steps::writing::wide(hop[y]);
+        i += 1;
+        if relation::test(d, b, y) {
+            last = y;
+            continue;
+        }
+    }
+    last
+}
+
+// a MEETS b, of a piece x in both that is not marked: the last piece in b on the way from x to a meets itself. No piece further up on that way is on the way to b, so
+// that no hop is shown twice.
+fn show_common(
+    book: &[u8],
+    n: usize,
+    claim: Record,
+    e: &[u64],
+    d: &[u64],
+    x: usize,
+    a: usize,
+    b: usize,
+    c: &mut [u8],
+    at: usize,
+) -> usize
+    requires { ⌜ Setting n claim (now book) (now e) × Telling n claim (now book) (now d) × Unmarked n claim (now book) x × (x < n) × (a < n) × (b < n) × Inside n claim (now book) x a × Inside n claim (now book) x b × (164000 ≤ length (now c)) × (at + 8190 ≤ 16400) ⌝ }
+    ensures { λ r. ⌜ Joined n claim (now (book .entry)) x x a b (now (c .entry)) at (now (c .exit)) r ⌝ }
+{
+    let mut hop = [0u16; 2048];
+    let mut order = [0u16; 2048];
+    let mut source = [0u16; 2048];
+    part_steps::hops::find_hops(a, n, e, &mut hop, &mut order);
+    part_steps::hops::find_sources(claim, book, &hop, &mut source);
+    let g = last_inside(&hop, d, x, a, b);
+    part_steps::writing::put_step(
+        c,
+        at,
+        Step {
+            rule: 9,
+            kind: 3,
+            a: g,
+            b: g,
+            first: 0,
+            second: 0,
+        },
+    );
+    let m = rise(n, &hop, &source, g, a, c, at + 1);
+    let t = Step {
+        rule: 7,
+        kind: 3,
+        a,
+        b,
+        first: 0,
+        second: 0,
+    };
+    lift(book, n, claim, e, g, b, t, true, c, m)
+}
+
+// a MEETS b, from x MEETS y, which `base` shows, by x PART a and y PART b.
+pub fn show_meeting(
+    book: &[u8],
+    n: usize,
+    claim: Record,
+    e: &[u64],
+    d: &[u64],
+    base: Step,
+    x: usize,
+    y: usize,
+    a: usize,
+    b: usize,
+    c: &mut [u8],
+    at: usize,
+) -> usize
+    requires { ⌜ Setting n claim (now book) (now e) × Telling n claim (now book) (now d) × Grounded n (citing claim (now book)) base × (shows base (fact.MEETS x y) ≡ true) × (x ≡ y → Unmarked n claim (now book) x) × (x < n) × (y < n) × (a < n) × (b < n) × Inside n claim (now book) x a × Inside n claim (now book) y b × (164000 ≤ length (now c)) × (at + 8190 ≤ 16400) ⌝ }
+    ensures { λ r. ⌜ Joined n claim (now (book .entry)) x y a b (now (c .entry)) at (now (c .exit)) r ⌝ }
+{
+    if x == y {
+        return show_common(book, n, claim, e, d, x, a, b, c, at);
+    }
+    show_meets(book, n, claim, e, base, x, y, a, b, c, at)
+}
+
 // a NOTPART b, from x NOTPART y, which `base` shows, by x PART a and b PART y.
 pub fn show_notpart(
     book: &[u8],
@@ -193,7 +320,7 @@ pub fn show_notpart(
     at: usize,
 ) -> usize
     requires { ⌜ Setting n claim (now book) (now e) × Grounded n (citing claim (now book)) base × (shows base (fact.NOTPART x y) ≡ true) × (x < n) × (y < n) × (a < n) × (b < n) × Inside n claim (now book) x a × Inside n claim (now book) b y × (164000 ≤ length (now c)) × (at + 8190 ≤ 16400) ⌝ }
-    ensures { λ r. ⌜ Writes n (citing claim (now (book .entry))) (fact.NOTPART a b) 8189 (now (c .entry)) at (now (c .exit)) r ⌝ }
+    ensures { λ r. ⌜ Spans n claim (now (book .entry)) (fact.NOTPART a b) 4 x a b y (now (c .entry)) at (now (c .exit)) r ⌝ }
 {
     let s = Step {
         rule: 5,
@@ -236,6 +363,7 @@ pub fn show_outside(
     n: usize,
     claim: Record,
     e: &[u64],
+    d: &[u64],
     apart: Step,
     u: usize,
     v: usize,
@@ -247,8 +375,8 @@ pub fn show_outside(
     c: &mut [u8],
     at: usize,
 ) -> usize
-    requires { ⌜ Setting n claim (now book) (now e) × Grounded n (citing claim (now book)) apart × (shows apart (fact.APART u v) ≡ true) × Grounded n (citing claim (now book)) meets × (shows meets (fact.MEETS x y) ≡ true) × (u < n) × (v < n) × (x < n) × (y < n) × (a < n) × (b < n) × Inside n claim (now book) b u × Inside n claim (now book) x a × Inside n claim (now book) y v × (164000 ≤ length (now c)) × (at + 12286 ≤ 16400) ⌝ }
-    ensures { λ r. ⌜ Writes n (citing claim (now (book .entry))) (fact.NOTPART a b) 12285 (now (c .entry)) at (now (c .exit)) r ⌝ }
+    requires { ⌜ Setting n claim (now book) (now e) × Grounded n (citing claim (now book)) apart × (shows apart (fact.APART u v) ≡ true) × Grounded n (citing claim (now book)) meets × (shows meets (fact.MEETS x y) ≡ true) × Telling n claim (now book) (now d) × (x ≡ y → Unmarked n claim (now book) x) × (u < n) × (v < n) × (x < n) × (y < n) × (a < n) × (b < n) × Inside n claim (now book) b u × Inside n claim (now book) x a × Inside n claim (now book) y v × (164000 ≤ length (now c)) × (at + 12286 ≤ 16400) ⌝ }
+    ensures { λ r. ⌜ Outlies n claim (now (book .entry)) a b u v x y (now (c .entry)) at (now (c .exit)) r ⌝ }
 {
     part_steps::writing::put_step(c, at, apart);
     let s = Step {
@@ -260,7 +388,7 @@ pub fn show_outside(
         second: 0,
     };
     let i = lift(book, n, claim, e, b, u, s, true, c, at + 1);
-    let j = show_meets(book, n, claim, e, meets, x, y, a, v, c, i);
+    let j = show_meeting(book, n, claim, e, d, meets, x, y, a, v, c, i);
     part_steps::writing::put_step(
         c,
         j,

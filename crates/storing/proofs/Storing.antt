@@ -6,10 +6,9 @@ use mathlib.Core.List.{List}
 use native.Mathlib.Numerals.{add-one}
 use native.Mathlib.Omega.{arith}
 use lib.Dec.{eqb}
-use lib.ListN.{length, replicate}
+use lib.ListN.{length}
 use Rattle.lists.specs.Any.{anyBelow}
-use Rattle.relation.specs.Matrix.{bitOf}
-use Rattle.relation.proofs.Cleared.{cleared}
+use Rattle.relation.specs.Matrix.{bitOf, Blank}
 use Rattle.rules.specs.Fact.{AllWithin}
 use Rattle.rules.specs.Follows.{storing}
 use Rattle.records.specs.Record.{recordAt, records}
@@ -22,9 +21,9 @@ use Rattle.storing.proofs.Runs.{hits, storing-records, record-within}
 abbrev pub sets : Bool → Bool → ℕ → ℕ → ℕ → ℕ → Bool
 sets straight swapped x y a b = (straight && (eqb a x && eqb b y)) || (swapped && (eqb a y && eqb b x))
 
--- m has the bits that the first i records set
-pub record Storing (s : List ℕ) (k : ℕ) (test : ℕ → ℕ → ℕ → ℕ → Bool) (m : List ℕ) (i : ℕ) : Type 0 where
-  pub bits : (x y : ℕ) → x < 2048 → y < 2048 → bitOf m x y ≡ anyBelow (hits s k (test x y)) i
+-- m has the bits that the first i records set, in its rows below n
+pub record Storing (n : ℕ) (s : List ℕ) (k : ℕ) (test : ℕ → ℕ → ℕ → ℕ → Bool) (m : List ℕ) (i : ℕ) : Type 0 where
+  pub bits : (x y : ℕ) → x < n → y < 2048 → bitOf m x y ≡ anyBelow (hits s k (test x y)) i
 
 -- a record of the kind names pieces
 pub storing-asks :
@@ -34,25 +33,25 @@ storing-asks s k n w l h i r e li q =
     let b = record-within s n w i li (omega arith) (omega arith) in
     rw e b
 
-module _ (s : List ℕ) (k : ℕ) (test : ℕ → ℕ → ℕ → ℕ → Bool) where
-  pub storing-none : (m : List ℕ) (l : ℕ) → m ≡ replicate l 0 → Storing s k test m 0
+module _ (n : ℕ) (s : List ℕ) (k : ℕ) (test : ℕ → ℕ → ℕ → ℕ → Bool) where
+  pub storing-none : (m : List ℕ) → Blank n m → Storing n s k test m 0
   unfolding anyBelow
-  storing-none m l e = record { bits = λ x y _ _. rw e (cleared l x y) }
+  storing-none m C = record { bits = C .bits }
 
   pub storing-more :
-      (m m′ : List ℕ) (i : ℕ) (r : Record) → r ≡ recordAt s i → Storing s k test m i
-      → Grown m m′ (λ x y. eqb (r .kind) k && test x y (r .a) (r .b)) → Storing s k test m′ (i + 1)
+      (m m′ : List ℕ) (i : ℕ) (r : Record) → n ≤ 2048 → r ≡ recordAt s i → Storing n s k test m i
+      → Grown m m′ (λ x y. eqb (r .kind) k && test x y (r .a) (r .b)) → Storing n s k test m′ (i + 1)
   unfolding anyBelow hits
-  storing-more m m′ i r e S G =
+  storing-more m m′ i r few e S G =
       record {
         bits = λ x y l h.
-            G .bits x y l h ∙ ap (λ (r : Record). bitOf m x y || (eqb (r .kind) k && test x y (r .a) (r .b))) e
+            G .bits x y (omega arith) h ∙ ap (λ (r : Record). bitOf m x y || (eqb (r .kind) k && test x y (r .a) (r .b))) e
             ∙ ap (λ (t : Bool). t || hits s k (test x y) i) (S .bits x y l h)
             ∙ or-comm (anyBelow (hits s k (test x y)) i) (hits s k (test x y) i)
             ∙ sym (ap (anyBelow (hits s k (test x y))) (add-one i));
       }
 
-  pub storing-all : (m : List ℕ) (i : ℕ) → 1 ≤ k → k ≤ 4 → length m ≡ 65536 → i ≡ records s → Storing s k test m i → Holds m (λ x y. storing (facts s) k (test x y))
+  pub storing-all : (m : List ℕ) (i : ℕ) → 1 ≤ k → k ≤ 4 → length m ≡ 65536 → i ≡ records s → Storing n s k test m i → Holds n m (λ x y. storing (facts s) k (test x y))
   storing-all m i l h z e S =
       record {
         sized = z;

@@ -33,10 +33,10 @@ unfoldable pub outBit : (ℕ → Bool) → ℕ → List Fact → ℕ → ℕ →
 outBit void n fs g y =
     anyBelow (λ x. partBit n fs g x && storedBit fs 4 true false x y) 2048 || anyBelow (λ x. towardBit void n fs g x && awayBit n fs x y) 2048
 
--- a matrix of 2,048 rows of 32 words has these bits
-pub record Holds (m : List ℕ) (f : ℕ → ℕ → Bool) : Type 0 where
+-- a matrix of 2,048 rows of 32 words has these bits in its rows below n; those behind them are free
+pub record Holds (n : ℕ) (m : List ℕ) (f : ℕ → ℕ → Bool) : Type 0 where
   pub sized : length m ≡ 65536
-  pub bits : (r i : ℕ) → r < 2048 → i < 2048 → bitOf m r i ≡ f r i
+  pub bits : (r i : ℕ) → r < n → i < 2048 → bitOf m r i ≡ f r i
 
 -- m′ is m with the bits of f set
 pub record Grown (m m′ : List ℕ) (f : ℕ → ℕ → Bool) : Type 0 where
@@ -46,8 +46,8 @@ pub record Grown (m m′ : List ℕ) (f : ℕ → ℕ → Bool) : Type 0 where
 pub record Closed (void : ℕ → Bool) (n : ℕ) (fs : List Fact) (d u p t q : List ℕ) : Type 0 where
   pub whole : void 0 ≡ false
   pub free : false ≡ clash void n fs
-  pub parts : Holds d (partBit n fs)
-  pub wholes : Holds u (wholeBit n fs)
-  pub away : Holds p (awayBit n fs)
-  pub toward : Holds t (towardBit void n fs)
-  pub outside : Holds q (outBit void n fs)
+  pub parts : Holds n d (partBit n fs)
+  pub wholes : Holds n u (wholeBit n fs)
+  pub away : Holds n p (awayBit n fs)
+  pub toward : Holds n t (towardBit void n fs)
+  pub outside : Holds n q (outBit void n fs)

@@ -4,7 +4,6 @@ ghost use mathlib.Core.Bool.{true, not, _&&_, _||_};
 ghost use Prim.Native.Nat.{ℕ, _<_, _≤_};
 ghost use lib.Dec.{eqb, ltb};
 ghost use lib.ListN.{length, getD};
-ghost use Rattle.rules.specs.Fact.{AllWithin};
 ghost use Rattle.rules.specs.Follows.{storing};
 ghost use Rattle.records.specs.Facts.{facts};
 ghost use Rattle.storing.specs.Void.{voidOf};
@@ -40,14 +39,14 @@ fn store_record(m: &mut [u64], r: Record, kind: u8, straight: bool, swapped: boo
 }
 
 // The stored facts of one kind as a matrix: bit b of row a where `straight`, bit a of row b where `swapped`.
-pub fn store(run: &[u8], kind: u8, straight: bool, swapped: bool, m: &mut [u64])
-    requires { ⌜ (length (now m) ≡ 65536) × (1 ≤ kind) × (kind ≤ 4) × AllWithin 2048 (facts (now run)) ⌝ }
-    ensures { λ _. ⌜ Holds (now (m .exit)) (storedBit (facts (now (run .entry))) kind straight swapped) ⌝ }
+pub fn store(run: &[u8], n: usize, kind: u8, straight: bool, swapped: bool, m: &mut [u64])
+    requires { ⌜ (length (now m) ≡ 65536) × (1 ≤ kind) × (kind ≤ 4) × Bounded n (facts (now run)) ⌝ }
+    ensures { λ _. ⌜ Holds n (now (m .exit)) (storedBit (facts (now (run .entry))) kind straight swapped) ⌝ }
 {
-    relation::clear(m);
-    let n = run.len() / 6;
+    relation::clear_rows(m, n);
+    let count = run.len() / 6;
     let mut i: usize = 0;
-    while i < n {
+    while i < count {
         let r = records::record_at(run, i);
         store_record(m, r, kind, straight, swapped);
         i += 1;
@@ -93,9 +92,9 @@ fn crown(n: usize, e: &mut [u64])
 // The steps of containment.
 pub fn edges(run: &[u8], n: usize, e: &mut [u64])
     requires { ⌜ Bounded n (facts (now run)) × (length (now e) ≡ 65536) ⌝ }
-    ensures { λ _. ⌜ Holds (now (e .exit)) (edgeBit n (facts (now (run .entry)))) ⌝ }
+    ensures { λ _. ⌜ Holds n (now (e .exit)) (edgeBit n (facts (now (run .entry)))) ⌝ }
 {
-    store(run, 1, false, true, e);
+    store(run, n, 1, false, true, e);
     crown(n, e);
 }
 
@@ -122,9 +121,9 @@ fn step_record(r: Record, lead: &[u16], e: &mut [u64])
 // The stored PARTs, container to part, between pieces that go by different names: their leaders, or the numbers of their groups.
 pub fn step_stored(run: &[u8], lead: &[u16], n: usize, e: &mut [u64])
     requires { ⌜ Bounded n (facts (now run)) × (n ≤ length (now lead)) × ((g : ℕ) → g < n → getD (now lead) g 0 < n) × (length (now e) ≡ 65536) ⌝ }
-    ensures { λ _. ⌜ Holds (now (e .exit)) (λ x y. storing (facts (now (run .entry))) 1 (stepping (now (lead .entry)) x y)) ⌝ }
+    ensures { λ _. ⌜ Holds n (now (e .exit)) (λ x y. storing (facts (now (run .entry))) 1 (stepping (now (lead .entry)) x y)) ⌝ }
 {
-    relation::clear(e);
+    relation::clear_rows(e, n);
     let count = run.len() / 6;
     let mut i: usize = 0;
     while i < count {
@@ -149,7 +148,7 @@ fn crown_leaders(lead: &[u16], n: usize, e: &mut [u64])
 // The steps between leaders, along which rows are joined: the same as a product with D or U, at the cost of a row for each step.
 pub fn steps(run: &[u8], lead: &[u16], n: usize, e: &mut [u64])
     requires { ⌜ Bounded n (facts (now run)) × Led n (now lead) × (length (now e) ≡ 65536) ⌝ }
-    ensures { λ _. ⌜ Holds (now (e .exit)) (stepBit n (facts (now (run .entry))) (now (lead .entry))) ⌝ }
+    ensures { λ _. ⌜ Holds n (now (e .exit)) (stepBit n (facts (now (run .entry))) (now (lead .entry))) ⌝ }
 {
     step_stored(run, lead, n, e);
     crown_leaders(lead, n, e);

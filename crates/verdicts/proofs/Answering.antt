@@ -134,19 +134,19 @@ module _ (void : ℕ → Bool) (n : ℕ) (fs : List Fact) where
 -- ---- the tests
 
 module _ {n : ℕ} {fs : List Fact} (B : Bounded n fs) {a b : ℕ} (la : a < n) (lb : b < n) where
-  pub part-told : {d : List ℕ} → Holds d (partBit n fs) → bitOf d b a ≡ inside n fs a b
-  part-told D = let h = B .fits in D .bits b a (omega arith) (omega arith) ∙ part-inside n fs (B .within) (B .some) (B .fits) a b la lb
+  pub part-told : {d : List ℕ} → Holds n d (partBit n fs) → bitOf d b a ≡ inside n fs a b
+  part-told D = let h = B .fits in D .bits b a lb (omega arith) ∙ part-inside n fs (B .within) (B .some) (B .fits) a b la lb
 
-  apart-told : {u p : List ℕ} → Holds u (wholeBit n fs) → Holds p (awayBit n fs) → common p a u b ≡ storing fs 2 (turned (λ x y. inside n fs a x && inside n fs b y))
-  apart-told U P = let h = B .fits in common-holds P U a b (omega arith) (omega arith) ∙ apart-is n fs (B .within) (B .some) (B .fits) a b la lb
+  apart-told : {u p : List ℕ} → Holds n u (wholeBit n fs) → Holds n p (awayBit n fs) → common p a u b ≡ storing fs 2 (turned (λ x y. inside n fs a x && inside n fs b y))
+  apart-told U P = common-holds P U a b la lb ∙ apart-is n fs (B .within) (B .some) (B .fits) a b la lb
 
   module _ (void : ℕ → Bool) where
-    pub meets-told : {d t : List ℕ} → Holds d (partBit n fs) → Holds t (towardBit void n fs) → common t a d b ≡ meets (inside n fs) void n fs a b
-    meets-told D T = let h = B .fits in common-holds T D a b (omega arith) (omega arith) ∙ meets-is n fs (B .within) (B .some) (B .fits) void a b la lb
+    pub meets-told : {d t : List ℕ} → Holds n d (partBit n fs) → Holds n t (towardBit void n fs) → common t a d b ≡ meets (inside n fs) void n fs a b
+    meets-told D T = common-holds T D a b la lb ∙ meets-is n fs (B .within) (B .some) (B .fits) void a b la lb
 
-    notpart-told : {u q : List ℕ} → Holds u (wholeBit n fs) → Holds q (outBit void n fs) → common q a u b ≡ byStored void n fs (NOTPART a b)
+    notpart-told : {u q : List ℕ} → Holds n u (wholeBit n fs) → Holds n q (outBit void n fs) → common q a u b ≡ byStored void n fs (NOTPART a b)
     unfolding byStored
-    notpart-told U Q = let h = B .fits in common-holds Q U a b (omega arith) (omega arith) ∙ notpart-is n fs (B .within) (B .some) (B .fits) void a b la lb
+    notpart-told U Q = common-holds Q U a b la lb ∙ notpart-is n fs (B .within) (B .some) (B .fits) void a b la lb
 
 -- the pieces of the fact of a kind
 either-of : (void : ℕ → Bool) (k a b : ℕ) → (void (left (factOf k a b)) || void (right (factOf k a b))) ≡ (void a || void b)
@@ -285,7 +285,7 @@ module _ (void : ℕ → Bool) (s d t : List ℕ) where
     abbrev in-or-void : ℕ → ℕ → Bool
     in-or-void x y = void x || inside n (facts s) x y
 
-    clash-records : Bounded n (facts s) → void 0 ≡ false → Holds d (partBit n (facts s)) → Holds t (towardBit void n (facts s)) → anyBelow (λ j. opposed void d t (recordAt s j)) (records s) ≡ clash void n (facts s)
+    clash-records : Bounded n (facts s) → void 0 ≡ false → Holds n d (partBit n (facts s)) → Holds n t (towardBit void n (facts s)) → anyBelow (λ j. opposed void d t (recordAt s j)) (records s) ≡ clash void n (facts s)
     unfolding opposed hits plainClash stray
     clash-records B z D T =
         any-same _ _ (records s)

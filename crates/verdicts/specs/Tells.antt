@@ -20,4 +20,4 @@ pub record Answered (void : ℕ → Bool) (d u p t q : List ℕ) (k a b : ℕ) (
 
 -- whether the facts are contradictory, by the marks, D and T
 pub record Clashing (void : ℕ → Bool) (fs : List Fact) (d t : List ℕ) (answer : Bool) : Type 0 where
-  pub is : (n : ℕ) → Bounded n fs → void 0 ≡ false → Holds d (partBit n fs) → Holds t (towardBit void n fs) → answer ≡ clash void n fs
+  pub is : (n : ℕ) → Bounded n fs → void 0 ≡ false → Holds n d (partBit n fs) → Holds n t (towardBit void n fs) → answer ≡ clash void n fs

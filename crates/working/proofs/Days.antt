@@ -20,6 +20,7 @@ use Rattle.keeping.specs.Rows.{answerOf}
 use Rattle.keeping.specs.Kept.{Started, Answered}
 use Rattle.working.specs.Sequence.{Stands}
 use Rattle.working.specs.Day.{Operation, Reply, reply, after, replyTo, day, replies, Played, over, adds, withdraws, asks}
+use Rattle.working.specs.WholeDay.{WholeDay}
 use Rattle.answers.proofs.Fresh.{long-lent, fresh-is}
 use Rattle.keeping.proofs.Settling.{ask-passes}
 use Rattle.working.proofs.Sequences.{added, withdrawn, started}
@@ -55,6 +56,5 @@ no-records =
     sym (fresh-is [] [] l long) ∙ empty-outcome [] l long refl
 
 -- from a start
-pub whole-day : (area : List ℕ) {w w′ : Working} {area₁ area′ : List ℕ} {xs : List Operation} {rs : List Reply} (r : Outcome)
-    → 49152 ≤ length area → Started area r w area₁ → Played w area₁ xs rs w′ area′ → (rs ≡ replies xs []) × Stands w′ area′ (day xs [])
-whole-day area {w = w} {area₁ = area₁} r long D P = all-day (started area r w area₁ D long 1 1 0 no-records) P
+pub whole-day : WholeDay
+whole-day area w w′ area₁ area′ xs rs r long D P = all-day (started area r w area₁ D long 1 1 0 no-records) P

@@ -33,6 +33,7 @@ use Rattle.outcomes.specs.Fresh.{freshCall}
 use Rattle.runs.specs.Standing.{standing, extended}
 use Rattle.outcomes.specs.One.{refuseIf}
 use Rattle.keeping.specs.Rows.{byArea, addOutcome}
+use Rattle.working.specs.Four.{FourOnly}
 
 -- number 4 is given only where B holds
 module _ (B : Type 0) where
@@ -114,5 +115,5 @@ only area a k =
     if-only (8192 ≤ k) (ltb 8192 k) TooManyRecords _ (λ e _. omega (arith, ltb-true 8192 k e)) (λ _.
     if-only (8192 ≤ k) (not (eqb (length a) 6)) BookLength _ (λ _ n. absurd (omega arith)) (λ e. run-only area a k (eqb-true (length a) 6 (not-false (eqb (length a) 6) e)))))
 
-pub four-only : (area a : List ℕ) (k i : ℕ) → addOutcome area k a ≡ Refused TooManyRecords i → 8192 ≤ k
+pub four-only : FourOnly
 four-only area a k i e = subst (OutcomeOnly (8192 ≤ k)) e (only area a k) refl

@@ -31,7 +31,7 @@ use Rattle.keeping.proofs.Fresh.{over-full}
 use Rattle.keeping.proofs.Settling.{on, off, past-area, start-passes, ask-passes, one-fits}
 use Rattle.runs.proofs.Runs.{padded-front}
 
-clash : {x : Refusal} {i n v h : ℕ} → Refused x i ≡ Accepted n v h → ⊥
+pub clash : {x : Refusal} {i n v h : ℕ} → Refused x i ≡ Accepted n v h → ⊥
 clash e = subst (λ (o : Outcome). elim o as (λ _. Type 0) [ Accepted n v h ↦ ⊥ | Refused x i ↦ Unit {0} ]) e tt
 
 -- what an accepted call leaves

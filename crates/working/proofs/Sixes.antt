@@ -27,9 +27,6 @@ before i k h l = omega arith
 pub within : (k n : ℕ) → k ≤ 8192 → 49152 ≤ n → 6 * k ≤ n
 within k n h l = omega arith
 
-pub fit-within : (k n : ℕ) → k ≤ 8192 → n ≡ 49152 → 6 * k ≤ n
-fit-within k n h e = omega arith
-
 pub next-within : (k n : ℕ) → k < 8192 → n ≡ 49152 → 6 * k + 6 ≤ n
 next-within k n h e = omega arith
 
@@ -52,5 +49,9 @@ pub one-less : (k : ℕ) → (6 * k - 6) / 6 ≡ k - 1
 one-less k = omega arith
 
 -- room for the records of an area and one more
-pub room : (area addition : List ℕ) (k n : ℕ) → k < 8192 → 49152 ≤ length area → length addition ≡ 6 → n ≡ 49152 → length (take (6 * k) area) + length addition ≤ n
+pub room : (area addition : List ℕ) (k n : ℕ) → k < 8192 → 49152 ≤ length area → length addition ≡ 6 → n ≡ 6 * k + 6 → length (take (6 * k) area) + length addition ≤ n
 room area addition k n h l e f = omega (arith, length-take-le (6 * k) area (within k (length area) (at-most k h) l))
+
+-- as much as a withdrawal reads, but for one record
+pub six-more : (k n : ℕ) → n ≡ 6 * k - 6 → 6 * k ≤ n + 6
+six-more k n e = omega arith

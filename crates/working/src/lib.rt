@@ -14,7 +14,16 @@ use outcomes::Outcome;
 use records::Refusal;
 
 // A fresh call on a run of records and one claim.
-fn answer_run(run: &[u8], claim: &[u8]) -> Asked
+fn answer_run(
+    run: &[u8],
+    claim: &[u8],
+    e: &mut [u64; 65536],
+    d: &mut [u64; 65536],
+    t: &mut [u64; 65536],
+    u: &mut [u64; 65536],
+    p: &mut [u64; 65536],
+    q: &mut [u64; 65536],
+) -> Asked
     requires { ⌜ length (now claim) ≡ 6 ⌝ }
     ensures { λ r. ⌜ (r .outcome ≡ freshCall (now (run .entry)) (now (claim .entry))) × (r .answer ≡ answerOf (now (run .entry)) (now (claim .entry)) (r .outcome)) ⌝ }
 {
@@ -31,6 +40,12 @@ fn answer_run(run: &[u8], claim: &[u8]) -> Asked
         &mut shadows,
         &mut places,
         &mut answers,
+        e,
+        d,
+        t,
+        u,
+        p,
+        q,
     );
     Asked {
         outcome,
@@ -39,7 +54,15 @@ fn answer_run(run: &[u8], claim: &[u8]) -> Asked
 }
 
 // A start: no records.
-pub fn start(area: &mut [u8]) -> Settled
+pub fn start(
+    area: &mut [u8],
+    e: &mut [u64; 65536],
+    d: &mut [u64; 65536],
+    t: &mut [u64; 65536],
+    u: &mut [u64; 65536],
+    p: &mut [u64; 65536],
+    q: &mut [u64; 65536],
+) -> Settled
     ensures { λ r. ⌜ Started (now (area .entry)) (r .outcome) (r .working) (now (area .exit)) ⌝ }
 {
     let none = Working {
@@ -49,25 +72,46 @@ pub fn start(area: &mut [u8]) -> Settled
     if area.len() < 49152 {
         return keeping::refuse(none, Refusal::ShortBuffer);
     }
-    let run = [0u8; 49152];
-    let outcome = answers::judge_run(&run[..0]);
+    let run = [0u8; 0];
+    let outcome = answers::judge_run(&run, e, d, t, u, p, q);
     keeping::settle(none, area, &run, 0, outcome)
 }
 
 // An addition of 6 bytes to fewer than 8,192 records in an area that is long enough.
-fn extend(was: Working, area: &mut [u8], addition: &[u8]) -> Settled
+fn extend(
+    was: Working,
+    area: &mut [u8],
+    addition: &[u8],
+    e: &mut [u64; 65536],
+    d: &mut [u64; 65536],
+    t: &mut [u64; 65536],
+    u: &mut [u64; 65536],
+    p: &mut [u64; 65536],
+    q: &mut [u64; 65536],
+) -> Settled
     requires { ⌜ (was .records < 8192) × ((49152 ≤ length (now area)) × (length (now addition) ≡ 6)) ⌝ }
     ensures { λ r. ⌜ Extended was (now (area .entry)) (extended (now (area .entry)) (was .records) (now (addition .entry))) r (now (area .exit)) ⌝ }
 {
     let records = was.records;
     let end = 6 * records;
+    let next = end + 6;
     let mut run = [0u8; 49152];
-    runs::write_runs(&area[..end], addition, &mut run);
-    let outcome = answers::judge_run(&run[..end + 6]);
-    keeping::settle(was, area, &run, records + 1, outcome)
+    runs::write_runs(&area[..end], addition, &mut run[..next]);
+    let outcome = answers::judge_run(&run[..next], e, d, t, u, p, q);
+    keeping::settle(was, area, &run[..next], records + 1, outcome)
 }
 
-pub fn add_to(was: Working, area: &mut [u8], addition: &[u8]) -> Settled
+pub fn add_to(
+    was: Working,
+    area: &mut [u8],
+    addition: &[u8],
+    e: &mut [u64; 65536],
+    d: &mut [u64; 65536],
+    t: &mut [u64; 65536],
+    u: &mut [u64; 65536],
+    p: &mut [u64; 65536],
+    q: &mut [u64; 65536],
+) -> Settled
     ensures { λ r. ⌜ Added was (now (area .entry)) (now (addition .entry)) (r .outcome) (r .working) (now (area .exit)) ⌝ }
 {
     let records = was.records;
@@ -83,24 +127,45 @@ pub fn add_to(was: Working, area: &mut [u8], addition: &[u8]) -> Settled
     if 8192 <= records {
         return keeping::refuse(was, Refusal::TooManyRecords);
     }
-    extend(was, area, addition)
+    extend(was, area, addition, e, d, t, u, p, q)
 }
 
 // A withdrawal of a record that stands.
-fn remove(was: Working, area: &mut [u8], number: usize) -> Settled
+fn remove(
+    was: Working,
+    area: &mut [u8],
+    number: usize,
+    e: &mut [u64; 65536],
+    d: &mut [u64; 65536],
+    t: &mut [u64; 65536],
+    u: &mut [u64; 65536],
+    p: &mut [u64; 65536],
+    q: &mut [u64; 65536],
+) -> Settled
     requires { ⌜ (number < was .records) × ((was .records ≤ 8192) × (49152 ≤ length (now area))) ⌝ }
     ensures { λ r. ⌜ Extended was (now (area .entry)) (without (now (area .entry)) (was .records) number) r (now (area .exit)) ⌝ }
 {
     let records = was.records;
     let at = 6 * number;
     let end = 6 * records;
+    let next = end - 6;
     let mut run = [0u8; 49152];
-    runs::write_without(area, at, end, &mut run);
-    let outcome = answers::judge_run(&run[..end - 6]);
-    keeping::settle(was, area, &run, records - 1, outcome)
+    runs::write_without(area, at, end, &mut run[..next]);
+    let outcome = answers::judge_run(&run[..next], e, d, t, u, p, q);
+    keeping::settle(was, area, &run[..next], records - 1, outcome)
 }
 
-pub fn withdraw_from(was: Working, area: &mut [u8], number: usize) -> Settled
+pub fn withdraw_from(
+    was: Working,
+    area: &mut [u8],
+    number: usize,
+    e: &mut [u64; 65536],
+    d: &mut [u64; 65536],
+    t: &mut [u64; 65536],
+    u: &mut [u64; 65536],
+    p: &mut [u64; 65536],
+    q: &mut [u64; 65536],
+) -> Settled
     ensures { λ r. ⌜ Withdrawn was (now (area .entry)) number (r .outcome) (r .working) (now (area .exit)) ⌝ }
 {
     let records = was.records;
@@ -113,10 +178,20 @@ pub fn withdraw_from(was: Working, area: &mut [u8], number: usize) -> Settled
     if records <= number {
         return keeping::refuse(was, Refusal::NotStanding);
     }
-    remove(was, area, number)
+    remove(was, area, number, e, d, t, u, p, q)
 }
 
-pub fn ask_of(was: Working, area: &[u8], claim: &[u8]) -> Asked
+pub fn ask_of(
+    was: Working,
+    area: &[u8],
+    claim: &[u8],
+    e: &mut [u64; 65536],
+    d: &mut [u64; 65536],
+    t: &mut [u64; 65536],
+    u: &mut [u64; 65536],
+    p: &mut [u64; 65536],
+    q: &mut [u64; 65536],
+) -> Asked
     ensures { λ r. ⌜ Answered was (now (area .entry)) (now (claim .entry)) r ⌝ }
 {
     let records = was.records;
@@ -137,5 +212,5 @@ pub fn ask_of(was: Working, area: &[u8], claim: &[u8]) -> Asked
         let outcome = keeping::misfit(&area[..end], claim);
         return Asked { outcome, answer: 0 };
     }
-    answer_run(&area[..end], claim)
+    answer_run(&area[..end], claim, e, d, t, u, p, q)
 }

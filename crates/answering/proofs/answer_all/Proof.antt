@@ -3,7 +3,6 @@ use Prim.Native.Nat.{ℕ, _<_, _/_}
 use native.Mathlib.Omega.{arith}
 use borrow.Author.Tests.{not-true}
 use mathlib.Core.Path.{_≡_, sym, _∙_}
-use lib.ListN.{length-replicate}
 use Rattle.answering.proofs.Counts.{counted-settleable}
 use Rattle.answering.proofs.Answering.{answers-none, answers-all, answers-both}
 use Rattle.answering.proofs.answer_all.Statement.{statement}
@@ -16,23 +15,14 @@ none-whole l = omega arith
 returns : tie.Need-returns
 returns c = answers-none _ _ _ _ (none-whole (c .if1 .taken)) (c .before .before .before .before .before .pre .rooms)
 
-slice-aggregate-complete : tie.Need-slice-aggregate-complete
-slice-aggregate-complete c = sym (length-replicate {A = ℕ} 65536 0)
-
-slice-aggregate-complete-2 : tie.Need-slice-aggregate-complete-2
-slice-aggregate-complete-2 c = sym (length-replicate {A = ℕ} 65536 0)
-
-slice-aggregate-complete-3 : tie.Need-slice-aggregate-complete-3
-slice-aggregate-complete-3 c = sym (length-replicate {A = ℕ} 65536 0)
-
 complete-requires : tie.Need-complete-requires
 complete-requires c κs =
     let s = c .before .before .before .before .before .before .before .before .before .before .before .before .before .before .pre in
-    (counted-settleable _ (s .sound) .bounded, s .void .0, s .stepped, length-replicate {A = ℕ} 65536 0, length-replicate {A = ℕ} 65536 0, length-replicate {A = ℕ} 65536 0)
+    (counted-settleable _ (s .sound) .bounded, s .void .0, s .stepped, c .before .before .complete-arg7 .given .0 .1, c .before .complete-arg8 .given .0 .1, c .complete-arg9 .given .0 .1)
 
 answer-each-requires : tie.Need-answer-each-requires
 answer-each-requires c κs =
-    let s = c .before .before .before .before .before .before .before .before .before .before .before .before .before .before .before .before .before .before .before .before .before .before .before .before .pre in
+    let s = c .before .before .before .before .before .before .before .before .before .before .before .before .before .before .before .before .before .before .before .before .before .pre in
     record { n = _; small = counted-settleable _ (s .sound) .bounded .fits; fit = s .fit; rooms = s .rooms; voids-sized = s .void .0 .sized }
 
 some-restricted-requires : tie.Need-some-restricted-requires
@@ -43,13 +33,13 @@ same-length c = c .before .before .before .before .answer-each .kept .1 .1 .1 .1
 
 returns-2 : tie.Need-returns-2
 returns-2 c =
-    let C = c .before .before .before .before .before .before .before .before .before .before .before .before .before .before .complete .ensures in
+    let C = c .before .before .before .before .before .before .before .before .before .before .before .complete .ensures in
     let A = c .before .before .before .before .answer-each in
-    answers-all (c .before .before .before .before .before .before .before .before .before .before .before .before .before .before .before .before .before .before .before .before .before .before .before .before .before .before .before .before .before .pre) (C .0) (C .1) (C .2) (A .ensures) (A .kept .1 .1 .1 .1 .1 .1 .1 .1 .0) (sym (c .before .some-restricted .ensures) ∙ not-true _ (c .if2 .taken))
+    answers-all (c .before .before .before .before .before .before .before .before .before .before .before .before .before .before .before .before .before .before .before .before .before .before .before .before .before .before .pre) (C .0) (C .1) (C .2) (A .ensures) (A .kept .1 .1 .1 .1 .1 .1 .1 .1 .0) (sym (c .before .some-restricted .ensures) ∙ not-true _ (c .if2 .taken))
 
 answer-restricted-requires : tie.Need-answer-restricted-requires
 answer-restricted-requires c κs =
-    let s = c .before .before .before .before .before .before .before .before .before .before .before .before .before .before .before .before .before .before .before .before .before .before .before .before .before .before .before .before .before .before .before .before .before .before .before .before .before .before .pre in
+    let s = c .before .before .before .before .before .before .before .before .before .before .before .before .before .before .before .before .before .before .before .before .before .before .before .before .before .before .before .before .before .before .before .before .before .before .before .pre in
     record { sound = s .sound; void = s .void .0; free = s .free; fit = s .fit; rooms = c .before .before .before .before .before .before .before .before .before .before .before .before .before .answer-each .kept .1 .1 .1 .1 .1 .1 .1 .1 .0 ∙ s .rooms }
 
 same-length-2 : tie.Need-same-length-2
@@ -57,19 +47,16 @@ same-length-2 c = c .before .before .answer-restricted .kept .1 .1 .1 .1 .1 .1 .
 
 returns-3 : tie.Need-returns-3
 returns-3 c =
-    let C = c .before .before .before .before .before .before .before .before .before .before .before .before .before .before .before .before .before .before .before .before .before .before .before .before .before .before .complete .ensures in
+    let C = c .before .before .before .before .before .before .before .before .before .before .before .before .before .before .before .before .before .before .before .before .before .before .before .complete .ensures in
     let A = c .before .before .before .before .before .before .before .before .before .before .before .before .before .before .before .before .answer-each in
     let R = c .before .before .answer-restricted in
-    answers-both (c .before .before .before .before .before .before .before .before .before .before .before .before .before .before .before .before .before .before .before .before .before .before .before .before .before .before .before .before .before .before .before .before .before .before .before .before .before .before .before .before .before .pre) (C .0) (C .1) (C .2) (A .ensures) (A .kept .1 .1 .1 .1 .1 .1 .1 .1 .0) {answers = R .last .1 .1 .1 .1 .1 .1 .1 .1 .1 .1 .1 .1 .0} (R .kept .1 .1 .1 .1 .1 .1 .1 .1 .1 .1 .1 .1 .0) (R .ensures)
+    answers-both (c .before .before .before .before .before .before .before .before .before .before .before .before .before .before .before .before .before .before .before .before .before .before .before .before .before .before .before .before .before .before .before .before .before .before .before .before .before .before .pre) (C .0) (C .1) (C .2) (A .ensures) (A .kept .1 .1 .1 .1 .1 .1 .1 .1 .0) {answers = R .last .1 .1 .1 .1 .1 .1 .1 .1 .1 .1 .1 .1 .0} (R .kept .1 .1 .1 .1 .1 .1 .1 .1 .1 .1 .1 .1 .0) (R .ensures)
 
 pub answer-all-spec : {M : Type 1} → statement M
 answer-all-spec =
     tie.close
     (tie.spec
     returns
-    slice-aggregate-complete
-    slice-aggregate-complete-2
-    slice-aggregate-complete-3
     complete-requires
     answer-each-requires
     some-restricted-requires

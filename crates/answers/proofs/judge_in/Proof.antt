@@ -32,9 +32,9 @@ slice-aggregate-answer-all c = sym (c .before .before .before .before .before .b
 
 answer-all-requires : tie.Need-answer-all-requires
 answer-all-requires c κs =
-    let s = c .before .before .before .before .before .before .before .before .before .before .before .before .before .before .before .before .before .before .before .before .before .before .before .before .before .before .before .before .before .before .before .before .before .before .before .before .before .before .before .pre in
-    let O = c .before .before .before .before .before .before .before .before .before .before .before .before .before .before .before .before .before .before .settle .ensures .0 .free _ _ (c .before .before .before .before .before .before .before .before .settled2 .given .1) in
-    record { sound = s .sound; void = c .before .before .before .before .before .before .before .before .before .before .before .before .before .before .before .before .before .before .before .before .before .before .before .before .before .before .before .before .before .before .mark-voids .ensures; free = O .is; fit = s .fit; rooms = s .answers-long; stepped = c .before .before .before .before .before .before .before .before .before .before .before .before .before .before .before .before .before .before .settle .ensures .1 .free _ _ (c .before .before .before .before .before .before .before .before .settled2 .given .1); parts = O .parts; toward = O .toward }
+    let s = c .before .before .before .before .before .before .before .before .before .before .before .before .before .before .before .before .before .before .before .before .before .before .before .before .before .before .before .before .before .before .before .before .before .before .before .before .before .before .before .before .before .before .pre in
+    let O = c .before .before .before .before .before .before .before .before .before .before .before .before .before .before .before .before .before .before .before .before .before .settle .ensures .0 .free _ _ (c .before .before .before .before .before .before .before .before .before .before .before .settled2 .given .1) in
+    record { sound = s .sound; void = c .before .before .before .before .before .before .before .before .before .before .before .before .before .before .before .before .before .before .before .before .before .before .before .before .before .before .before .before .before .before .before .before .before .mark-voids .ensures; free = O .is; fit = s .fit; rooms = s .answers-long; stepped = c .before .before .before .before .before .before .before .before .before .before .before .before .before .before .before .before .before .before .before .before .before .settle .ensures .1 .free _ _ (c .before .before .before .before .before .before .before .before .before .before .before .settled2 .given .1); parts = O .parts; toward = O .toward }
 
 same-length : tie.Need-same-length
 same-length c = c .before .before .before .before .before .before .before .before .clear-index .kept .0 ∙ c .before .before .before .before .before .before .before .before .before .before .before .before .before .before .before .before .before .before .before .before .before .before .before .before .settle .kept .1 .1 .1 .1 .1 .1 .1 .1 .0
@@ -56,26 +56,26 @@ returns c =
     (cleared-at (S .kept .1 .1 .1 .1 .1 .1 .1 .1 .0 ∙ s .parens-long) (S .kept .1 .1 .1 .1 .1 .1 .1 .1 .1 .0 ∙ s .marks-long) (S .kept .1 .1 .1 .1 .1 .1 .1 .1 .1 .1 .0 ∙ s .shadows-long) (S .kept .1 .1 .1 .1 .1 .1 .1 .1 .1 .1 .1 .0 ∙ s .places-long) (c .before .before .before .before .before .before .before .before .clear-index .ensures))
 
 same-length-5 : tie.Need-same-length-5
-same-length-5 c = c .before .before .before .before .before .before .before .before .before .before .before .before .before .before .before .before .before .before .before .before .before .settle .kept .1 .1 .1 .1 .1 .1 .1 .1 .0
+same-length-5 c = c .before .before .before .before .before .before .before .before .before .before .before .before .before .before .before .before .before .before .before .before .before .before .before .before .settle .kept .1 .1 .1 .1 .1 .1 .1 .1 .0
 
 same-length-6 : tie.Need-same-length-6
-same-length-6 c = c .before .before .before .before .before .before .before .before .before .before .before .before .before .before .before .before .before .before .before .before .before .settle .kept .1 .1 .1 .1 .1 .1 .1 .1 .1 .0
+same-length-6 c = c .before .before .before .before .before .before .before .before .before .before .before .before .before .before .before .before .before .before .before .before .before .before .before .before .settle .kept .1 .1 .1 .1 .1 .1 .1 .1 .1 .0
 
 same-length-7 : tie.Need-same-length-7
-same-length-7 c = c .before .before .before .before .before .before .before .before .before .before .before .before .before .before .before .before .before .before .before .before .before .settle .kept .1 .1 .1 .1 .1 .1 .1 .1 .1 .1 .0
+same-length-7 c = c .before .before .before .before .before .before .before .before .before .before .before .before .before .before .before .before .before .before .before .before .before .before .before .before .settle .kept .1 .1 .1 .1 .1 .1 .1 .1 .1 .1 .0
 
 same-length-8 : tie.Need-same-length-8
-same-length-8 c = c .before .before .before .before .before .before .before .before .before .before .before .before .before .before .before .before .before .before .before .before .before .settle .kept .1 .1 .1 .1 .1 .1 .1 .1 .1 .1 .1 .0
+same-length-8 c = c .before .before .before .before .before .before .before .before .before .before .before .before .before .before .before .before .before .before .before .before .before .before .before .before .settle .kept .1 .1 .1 .1 .1 .1 .1 .1 .1 .1 .1 .0
 
 same-length-9 : tie.Need-same-length-9
-same-length-9 c = c .before .before .answer-all .kept .1 .1 .1 .1 .1 .1 .1 .1 .1 .0
+same-length-9 c = c .before .before .answer-all .kept .1 .1 .1 .1 .1 .1 .1 .1 .1 .1 .1 .1 .0
 
 returns-2 : tie.Need-returns-2
 returns-2 c =
-    let s = c .before .before .before .before .before .before .before .before .before .before .before .before .before .before .before .before .before .before .before .before .before .before .before .before .before .before .before .before .before .before .before .before .before .before .before .before .before .before .before .before .before .before .pre in
-    let S = c .before .before .before .before .before .before .before .before .before .before .before .before .before .before .before .before .before .before .before .before .before .settle in
+    let s = c .before .before .before .before .before .before .before .before .before .before .before .before .before .before .before .before .before .before .before .before .before .before .before .before .before .before .before .before .before .before .before .before .before .before .before .before .before .before .before .before .before .before .before .before .before .pre in
+    let S = c .before .before .before .before .before .before .before .before .before .before .before .before .before .before .before .before .before .before .before .before .before .before .before .before .settle in
     judged-accepted _ _ _ _ s _ _ _ _ _ _ _ _ _ (S .kept .1 .1 .1 .1 .1 .1 .1 .1 .0 ∙ s .parens-long) (S .kept .1 .1 .1 .1 .1 .1 .1 .1 .1 .0 ∙ s .marks-long) (S .kept .1 .1 .1 .1 .1 .1 .1 .1 .1 .1 .0 ∙ s .shadows-long) (S .kept .1 .1 .1 .1 .1 .1 .1 .1 .1 .1 .1 .0 ∙ s .places-long)
-    (rw (c .before .before .before .before .before .before .before .before .before .before .before .before .before .before .before .before .before .before .before .before .before .before .before .before .before .before .before .before .before .before .before .before .before .mark-voids .ensures .1) at (S .ensures .0 .free _ _ (c .before .before .before .before .before .before .before .before .before .before .before .settled2 .given .1))) (S .ensures .2 .free _ _ (c .before .before .before .before .before .before .before .before .before .before .before .settled2 .given .1)) (c .before .before .answer-all .ensures)
+    (rw (c .before .before .before .before .before .before .before .before .before .before .before .before .before .before .before .before .before .before .before .before .before .before .before .before .before .before .before .before .before .before .before .before .before .before .before .before .mark-voids .ensures .1) at (S .ensures .0 .free _ _ (c .before .before .before .before .before .before .before .before .before .before .before .before .before .before .settled2 .given .1))) (S .ensures .2 .free _ _ (c .before .before .before .before .before .before .before .before .before .before .before .before .before .before .settled2 .given .1)) (c .before .before .answer-all .ensures)
 
 pub judge-in-spec : {M : Type 1} → statement M
 judge-in-spec =

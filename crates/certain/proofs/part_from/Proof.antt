@@ -16,11 +16,11 @@ Inv-loop run g d m₀ n i₀ m i = (n ≡ length run / 6) × (i ≤ n) × (lengt
 abbrev μ-loop : tie.MeasureT-loop
 μ-loop run g d m₀ n i₀ m i = n - i
 
-clear-requires : tie.Need-clear-requires Inv-loop μ-loop
-clear-requires c κs = search needs
+clear-rows-requires : tie.Need-clear-rows-requires Inv-loop μ-loop
+clear-rows-requires c κs = search needs
 
 loop-holds : tie.Need-loop-holds Inv-loop μ-loop
-loop-holds c = (refl, search needs, search needs, parted-none _ _ _ _ (length (c .before .before .before .before .before .before .before .args .m .now)) (c .before .before .clear .ensures))
+loop-holds c = (refl, search needs, search needs, parted-none _ _ _ _ (c .before .before .clear-rows .ensures))
 
 record-at-requires : tie.Need-record-at-requires Inv-loop μ-loop
 record-at-requires c κs = search needs
@@ -58,7 +58,7 @@ part-from-spec =
     (tie.spec
     Inv-loop
     μ-loop
-    clear-requires
+    clear-rows-requires
     loop-holds
     record-at-requires
     part-record-requires

@@ -50,7 +50,7 @@ record-at-requires : tie.Need-record-at-requires
 record-at-requires c κs = search needs
 
 judge-requires : tie.Need-judge-requires
-judge-requires c κs = let k = claim-ok _ _ (sym (c .before .before .before .before .check-claims .ensures) ∙ c .before .before .enum-told .given .1) (c .before .before .before .before .before .if2 .left) _ (c .before .record-at .ensures) in (sym (c .before .before .before .before .before .before .before .before .before .check-book .ensures) ∙ c .before .before .before .before .before .before .before .checked2 .given .1, k .0, k .1, omega arith)
+judge-requires c κs = let k = claim-ok _ _ (sym (c .before .before .before .before .before .before .before .check-claims .ensures) ∙ c .before .before .before .before .before .enum-told .given .1) (c .before .before .before .before .before .before .before .before .if2 .left) _ (c .before .before .before .before .record-at .ensures) in (sym (c .before .before .before .before .before .before .before .before .before .before .before .before .check-book .ensures) ∙ c .before .before .before .before .before .before .before .before .before .before .checked2 .given .1, k .0, k .1, omega arith)
 
 returns-3 : tie.Need-returns-3
 returns-3 c = call-book _ _ _ (omega arith) _ _ _ (c .refuse2 .ensures) (sym (c .before .before .before .before .check-book .ensures) ∙ c .before .before .checked .given .1)
@@ -62,7 +62,7 @@ same-length : tie.Need-same-length
 same-length c = search needs
 
 returns-5 : tie.Need-returns-5
-returns-5 c = call-judged _ _ _ (omega arith) _ (sym (c .before .before .before .before .before .before .before .before .before .before .before .before .check-book .ensures) ∙ c .before .before .before .before .before .before .before .before .before .before .checked2 .given .1) (c .before .before .before .before .before .before .before .before .if2 .left) (sym (c .before .before .before .before .before .before .before .check-claims .ensures) ∙ c .before .before .before .before .before .enum-told .given .1) _ (rw (c .before .before .before .before .record-at .ensures) at (c .before .before .judge .ensures))
+returns-5 c = call-judged _ _ _ (omega arith) _ (sym (c .before .before .before .before .before .before .before .before .before .before .before .before .before .before .before .check-book .ensures) ∙ c .before .before .before .before .before .before .before .before .before .before .before .before .before .checked2 .given .1) (c .before .before .before .before .before .before .before .before .before .before .before .if2 .left) (sym (c .before .before .before .before .before .before .before .before .before .before .check-claims .ensures) ∙ c .before .before .before .before .before .before .before .before .enum-told .given .1) _ (rw (c .before .before .before .before .before .before .before .record-at .ensures) at (c .before .before .judge .ensures))
 
 pub write-chain-spec : {M : Type 1} → statement M
 write-chain-spec =

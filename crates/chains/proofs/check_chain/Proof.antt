@@ -20,7 +20,7 @@ enum-known-judged : tie.Need-enum-known-judged
 enum-known-judged c = search needs
 
 check-accepted-requires : tie.Need-check-accepted-requires
-check-accepted-requires c κs = (fresh-sound _ (sym (c .before .before .before .judge-run .ensures) ∙ c .before .judged .given .1), c .before .before .before .before .if1 .left)
+check-accepted-requires c κs = (fresh-sound _ (sym (c .before .before .before .judge-run .ensures) ∙ c .before .judged .given .1), c .before .before .before .before .before .before .before .before .before .before .if1 .left)
 
 returns-2 : tie.Need-returns-2
 returns-2 c = passes-refused _ _ _ _ _ (sym (c .before .before .judge-run .ensures) ∙ c .enum-told .given .1)

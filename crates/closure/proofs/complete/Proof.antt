@@ -1,6 +1,5 @@
 -- `closure::complete` meets its contract: U is the diagonal joined against the steps. Assumes nothing.
 use borrow.Author.Needs.{needs}
-use lib.ListN.{length}
 use Rattle.storing.proofs.Holding.{whole-holds}
 use Rattle.closure.proofs.complete.Statement.{statement}
 use Rattle.closure.proofs.complete.Tie as tie
@@ -11,8 +10,8 @@ parting-requires c κs = search needs
 outing-requires : tie.Need-outing-requires
 outing-requires c κs = search needs
 
-clear-requires : tie.Need-clear-requires
-clear-requires c κs = search needs
+clear-rows-requires : tie.Need-clear-rows-requires
+clear-rows-requires c κs = search needs
 
 diagonal-requires : tie.Need-diagonal-requires
 diagonal-requires c κs = search needs
@@ -32,7 +31,7 @@ same-length-3 c = search needs
 returns : tie.Need-returns
 returns c =
     let P = c .before .before .before .before .before .before .before .before .before .before .before .before .before .before .before .before .before .before .before .before .before .before .before .before .before .before .before .before .before .before .before .before .pre in (
-      whole-holds _ _ (length (c .before .before .before .before .before .before .before .before .before .before .before .before .before .before .before .before .outing .last .1 .1 .1 .1 .1 .1 .1 .0)) (c .before .before .before .before .before .before .before .before .before .before .clear .ensures) (search needs) (c .before .before .before .before .before .before .diagonal .ensures) (c .before .before .join-wholes .ensures _ (P .0) (P .2)),
+      whole-holds _ _ (P .0 .fits) (c .before .before .before .before .before .before .before .before .before .before .clear-rows .ensures) (search needs) (c .before .before .before .before .before .before .diagonal .ensures) (c .before .before .join-wholes .ensures _ (P .0) (P .2)),
       c .before .before .before .before .before .before .before .before .before .before .before .before .before .before .before .before .before .before .before .before .before .before .parting .ensures,
       c .before .before .before .before .before .before .before .before .before .before .before .before .before .before .before .before .outing .ensures,
     )
@@ -43,7 +42,7 @@ complete-spec =
     (tie.spec
     parting-requires
     outing-requires
-    clear-requires
+    clear-rows-requires
     diagonal-requires
     join-wholes-requires
     same-length

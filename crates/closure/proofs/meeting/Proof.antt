@@ -16,7 +16,7 @@ same-length c = search needs
 returns : tie.Need-returns
 returns c =
     let P = c .before .before .before .before .before .before .before .before .before .before .before .before .before .before .pre in
-    toward-holds _ _ (P .0 .within) _ (search needs) (c .before .before .before .before .before .before .meets .ensures) (c .before .before .join-parts .ensures _ (P .0) (P .2))
+    toward-holds _ _ _ (search needs) (c .before .before .before .before .before .before .meets .ensures) (c .before .before .join-parts .ensures _ (P .0) (P .2))
 
 pub meeting-spec : {M : Type 1} → statement M
 meeting-spec = tie.close (tie.spec meets-requires join-parts-requires same-length returns)

@@ -1,7 +1,7 @@
 -- `closure::outing` meets its contract: what is joined along the steps is N and M·P, by `spread`. Assumes nothing.
 use mathlib.Core.Path.{_∙_}
 use lib.Dec.{lit≤}
-use Rattle.storing.proofs.Holding.{below-2048, out-holds}
+use Rattle.storing.proofs.Holding.{out-holds}
 use Rattle.closure.proofs.outing.Statement.{statement}
 use Rattle.closure.proofs.outing.Tie as tie
 
@@ -9,7 +9,7 @@ meets-requires : tie.Need-meets-requires
 meets-requires c κs = let P = c .before .before .before .before .before .before .before .before .before .pre in (P .0, P .1, P .4)
 
 store-requires : tie.Need-store-requires
-store-requires c κs = let P = c .before .before .before .before .before .before .before .before .before .before .before .before .before .pre in (P .5, lit≤ tt, lit≤ tt, below-2048 (P .0))
+store-requires c κs = let P = c .before .before .before .before .before .before .before .before .before .before .before .before .before .pre in (P .5, lit≤ tt, lit≤ tt, P .0)
 
 product-requires : tie.Need-product-requires
 product-requires c κs =
@@ -25,7 +25,7 @@ same-length : tie.Need-same-length
 same-length c = c .before .before .before .before .before .before .before .before .before .before .before .before .before .before .before .meets .kept .1 .1 .1 .0
 
 same-length-2 : tie.Need-same-length-2
-same-length-2 c = c .before .before .join-parts .kept .1 .1 .1 .1 .0 ∙ c .before .before .before .before .before .before .product .kept .0 ∙ c .before .before .before .before .before .before .before .before .before .before .before .store .kept .1 .1 .1 .1 .0
+same-length-2 c = c .before .before .join-parts .kept .1 .1 .1 .1 .0 ∙ c .before .before .before .before .before .before .product .kept .0 ∙ c .before .before .before .before .before .before .before .before .before .before .before .store .kept .1 .1 .1 .1 .1 .0
 
 returns : tie.Need-returns
 returns c =

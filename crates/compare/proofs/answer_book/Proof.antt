@@ -20,14 +20,14 @@ slice-aggregate-judge-in-4 c = sym (length-replicate {A = ℕ} 2048 0)
 
 judge-in-requires : tie.Need-judge-in-requires
 judge-in-requires c κs =
-    let P = c .before .before .before .before .before .before .before .before .before .before .before .pre in
+    let P = c .before .before .before .before .before .before .before .before .before .before .before .before .before .before .pre in
     record { sound = P .counted; fit = P .fit; parens-long = length-replicate {A = ℕ} 2560 0; marks-long = length-replicate {A = ℕ} 1280 0; shadows-long = length-replicate {A = ℕ} 8192 0; places-long = length-replicate {A = ℕ} 2048 0; answers-long = P .rooms }
 
 same-length : tie.Need-same-length
-same-length c = c .before .before .before .before .before .before .judge-in .kept .1 .1 .1 .1 .1 .1 .1 .1 .1 .1 .0
+same-length c = c .before .before .before .before .before .before .judge-in .kept .1 .1 .1 .1 .1 .1 .1 .1 .1 .1 .1 .1 .1 .0
 
 returns : tie.Need-returns
-returns c = answers-left _ _ _ _ _ _ (c .before .before .before .before .before .before .before .before .before .before .before .before .before .before .before .before .before .before .pre .rooms) (c .before .before .before .before .before .before .judge-in .ensures)
+returns c = answers-left _ _ _ _ _ _ (c .before .before .before .before .before .before .before .before .before .before .before .before .before .before .before .before .before .before .before .before .before .pre .rooms) (c .before .before .before .before .before .before .judge-in .ensures)
 
 pub answer-book-spec : {M : Type 1} → statement M
 answer-book-spec =

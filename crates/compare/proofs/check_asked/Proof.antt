@@ -36,12 +36,12 @@ slice-aggregate-judge-both-2 : tie.Need-slice-aggregate-judge-both-2
 slice-aggregate-judge-both-2 c = sym (asked-long _ _ (c .before .before .before .before .check-claims .ensures) (c .before .before .enum-told .given .1))
 
 judge-both-requires : tie.Need-judge-both-requires
-judge-both-requires c κs = (asked-ready _ _ (c .before .before .before .before .before .check-claims .ensures) (c .before .before .before .enum-told .given .1) (c .before .before .before .before .before .before .larger .ensures) (c .before .before .before .before .before .before .before .before .before .before .before .before .pre), asked-long _ _ (c .before .before .before .before .before .check-claims .ensures) (c .before .before .before .enum-told .given .1), asked-long _ _ (c .before .before .before .before .before .check-claims .ensures) (c .before .before .before .enum-told .given .1))
+judge-both-requires c κs = (asked-ready _ _ (c .before .before .before .before .before .before .before .before .before .before .before .check-claims .ensures) (c .before .before .before .before .before .before .before .before .before .enum-told .given .1) (c .before .before .before .before .before .before .before .before .before .before .before .before .larger .ensures) (c .before .before .before .before .before .before .before .before .before .before .before .before .before .before .before .before .before .before .pre), asked-long _ _ (c .before .before .before .before .before .before .before .before .before .before .before .check-claims .ensures) (c .before .before .before .before .before .before .before .before .before .enum-told .given .1), asked-long _ _ (c .before .before .before .before .before .before .before .before .before .before .before .check-claims .ensures) (c .before .before .before .before .before .before .before .before .before .enum-told .given .1))
 
 returns : tie.Need-returns
 returns c =
-    let P = c .before .before .before .before .before .before .before .before .before .before .before .before .pre in
-    asked-refused _ _ _ _ (P .first) (P .second) _ _ (rw (c .before .before .before .before .before .before .larger .ensures) at (sym (c .before .before .before .before .before .check-claims .ensures) ∙ c .before .before .before .fit .given .1)) (c .before .after .ensures) (c .after2 .ensures)
+    let P = c .before .before .before .before .before .before .before .before .before .before .before .before .before .before .before .before .before .before .before .before .before .before .before .before .pre in
+    asked-refused _ _ _ _ (P .first) (P .second) _ _ (rw (c .before .before .before .before .before .before .before .before .before .before .before .before .before .before .before .before .before .before .larger .ensures) at (sym (c .before .before .before .before .before .before .before .before .before .before .before .before .before .before .before .before .before .check-claims .ensures) ∙ c .before .before .before .before .before .before .before .before .before .before .before .before .before .before .before .fit .given .1)) (c .before .before .before .before .before .before .before .after .ensures) (c .after2 .ensures)
 
 same-length : tie.Need-same-length
 same-length c = c .before .before .before .before .judge-both .kept .1 .1 .1 .1 .1 .1 .1 .1 .0

@@ -28,9 +28,9 @@ enum-known-other-2 c = c .match2 .keys2
 
 check-asked-requires : tie.Need-check-asked-requires
 check-asked-requires c κs =
-    let P = c .before .before .before .before .before .before .before .before .before .before .before .before .before .before .pre in
-    let first = sym (c .before .before .before .before .before .before .before .before .check-book .ensures) ∙ c .before .before .before .before .before .before .checked2 .given .1 in
-    let second = sym (c .before .before .before .before .check-book2 .ensures) ∙ c .before .before .other2 .given .1 in
+    let P = c .before .before .before .before .before .before .before .before .before .before .before .before .before .before .before .before .before .before .before .before .pre in
+    let first = sym (c .before .before .before .before .before .before .before .before .before .before .before .before .before .before .check-book .ensures) ∙ c .before .before .before .before .before .before .before .before .before .before .before .before .checked2 .given .1 in
+    let second = sym (c .before .before .before .before .before .before .before .before .before .before .check-book2 .ensures) ∙ c .before .before .before .before .before .before .before .before .other2 .given .1 in
     let short = short-books _ _ _ _ first second in
     record { first = first; second = second; joint = P .0 .are (short .0) (short .1); rooms = P .1 }
 
@@ -38,7 +38,7 @@ returns : tie.Need-returns
 returns c = first-refused _ _ _ _ (sym (c .before .before .before .check-book .ensures) ∙ c .before .checked .given .1)
 
 returns-2 : tie.Need-returns-2
-returns-2 c = second-refused _ _ _ _ _ (sym (c .before .before .before .before .check-book2 .ensures) ∙ c .before .before .other .given .1) (c .after .ensures)
+returns-2 c = second-refused _ _ _ _ _ (sym (c .before .before .before .before .before .before .before .before .before .before .check-book2 .ensures) ∙ c .before .before .before .before .before .before .before .before .other .given .1) (c .after .ensures)
 
 same-length : tie.Need-same-length
 same-length c = c .before .before .check-asked .kept .1 .1 .1 .1 .1 .1 .0

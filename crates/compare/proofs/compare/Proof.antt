@@ -25,14 +25,14 @@ slice-aggregate-check-books : tie.Need-slice-aggregate-check-books
 slice-aggregate-check-books c = sym (length-take-le _ _ (c .before .join .ensures .fits))
 
 check-books-requires : tie.Need-check-books-requires
-check-books-requires c κs = (c .before .before .join .ensures .front, c .before .before .before .before .if1 .left)
+check-books-requires c κs = (c .before .before .before .before .before .before .before .before .join .ensures .front, c .before .before .before .before .before .before .before .before .before .before .if1 .left)
 
 same-length : tie.Need-same-length
 same-length c = c .before .before .check-books .kept .1 .1 .1 .1 .0
 
 returns-2 : tie.Need-returns-2
 returns-2 c =
-    let D = rows-determined _ _ _ _ _ _ (c .before .before .before .before .before .before .before .if1 .left) (c .before .before .check-books .ensures) in
+    let D = rows-determined _ _ _ _ _ _ (c .before .before .before .before .before .before .before .before .before .before .before .before .before .if1 .left) (c .before .before .check-books .ensures) in
     (D, demanded _ _ _ _ _ _ D)
 
 pub compare-spec : {M : Type 1} → statement M

@@ -10,16 +10,16 @@ use Rattle.contents.proofs.seed.Statement.{statement}
 use Rattle.contents.proofs.seed.Tie as tie
 
 abbrev Inv-loop : tie.InvT-loop
-Inv-loop n lead rows₀ i₀ rows i = (i ≤ n) × (length rows ≡ length rows₀) × Seeded i lead rows
+Inv-loop n lead rows₀ i₀ rows i = (i ≤ n) × (length rows ≡ length rows₀) × Seeded n i lead rows
 
 abbrev μ-loop : tie.MeasureT-loop
 μ-loop n lead rows₀ i₀ rows i = n - i
 
-clear-requires : tie.Need-clear-requires Inv-loop μ-loop
-clear-requires c κs = search needs
+clear-rows-requires : tie.Need-clear-rows-requires Inv-loop μ-loop
+clear-rows-requires c κs = search needs
 
 loop-holds : tie.Need-loop-holds Inv-loop μ-loop
-loop-holds c = (search needs, refl, seeds-none (length (c .before .before .before .before .before .before .args .rows .now)) (c .before .before .clear .ensures))
+loop-holds c = (search needs, refl, seeds-none (c .before .before .clear-rows .ensures))
 
 add-i : tie.Need-add-i Inv-loop μ-loop
 add-i c = search needs
@@ -56,7 +56,7 @@ seed-spec =
     (tie.spec
     Inv-loop
     μ-loop
-    clear-requires
+    clear-rows-requires
     loop-holds
     add-i
     leader-of-requires

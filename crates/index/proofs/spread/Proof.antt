@@ -25,7 +25,7 @@ next-bit-requires c κs = let s = c .before in (s .pre .0 .matrix, inside _ _ _ 
 loop-holds : tie.Need-loop-holds Inv-loop μ-loop
 loop-holds c =
     let s = c .before .before in
-    let N = next-part _ _ _ 1 _ (s .pre .0 .small) one-low (c .next-bit .ensures) in
+    let N = next-part _ _ _ 1 _ (s .pre .1) (s .pre .0 .small) one-low (c .next-bit .ensures) in
     let S = spread-start _ _ (s .args .c) (s .args .parent .now) (s .args .order .now) (s .args .tail) (s .pre .0 .book .some) (none-low _ _ (s .pre .0 .book) (s .args .c) 0 (omega arith)) in
     (N .upto, spread-next _ _ _ _ _ _ 1 _ _ _ _ S N, N .hit)
 
@@ -75,14 +75,14 @@ loop-less : tie.Need-loop-less Inv-loop μ-loop
 loop-less c =
     let L = c .before .before .before .before .before .before .loop in
     let s = c .before .before .before .before .before .before .before .before .before in
-    let N = next-part _ _ _ (L .p + 1) _ (s .pre .0 .small) (next-in _ _ _ (c .before .before .before .before .before .loop-test .taken) (s .pre .0 .small)) (c .next-bit2 .ensures) in
+    let N = next-part _ _ _ (L .p + 1) _ (s .pre .1) (s .pre .0 .small) (next-in _ _ _ (c .before .before .before .before .before .loop-test .taken) (s .pre .0 .small)) (c .next-bit2 .ensures) in
     nearer _ _ _ (inside _ _ _ (c .before .before .before .before .before .loop-test .taken) (s .pre .0 .small)) (N .from)
 
 loop-again : tie.Need-loop-again Inv-loop μ-loop
 loop-again c =
     let L = c .before .before .before .before .before .before .loop in
     let s = c .before .before .before .before .before .before .before .before .before in
-    let N = next-part _ _ _ (L .p + 1) _ (s .pre .0 .small) (next-in _ _ _ (c .before .before .before .before .before .loop-test .taken) (s .pre .0 .small)) (c .next-bit2 .ensures) in
+    let N = next-part _ _ _ (L .p + 1) _ (s .pre .1) (s .pre .0 .small) (next-in _ _ _ (c .before .before .before .before .before .loop-test .taken) (s .pre .0 .small)) (c .next-bit2 .ensures) in
     let S = spread-take _ _ _ _ _ _ (L .parent) (L .order) (L .end) (L .p) (L .inv .1) (c .before .before .before .before .before .loop-test .taken) (c .before .before .before .if1 .taken) (L .inv .2 (c .before .before .before .before .before .loop-test .taken)) (s .pre .2) (s .pre .0 .parRoom) in
     (N .upto, rw (c .before .before .narrow .ensures, c .before .narrow2 .ensures) (spread-next _ _ _ _ _ _ (L .p + 1) _ _ _ _ (S .1) N), N .hit)
 
@@ -96,14 +96,14 @@ loop-less-2 : tie.Need-loop-less-2 Inv-loop μ-loop
 loop-less-2 c =
     let L = c .before .before .before .before .loop in
     let s = c .before .before .before .before .before .before .before in
-    let N = next-part _ _ _ (L .p + 1) _ (s .pre .0 .small) (next-in _ _ _ (c .before .before .before .loop-test .taken) (s .pre .0 .small)) (c .next-bit3 .ensures) in
+    let N = next-part _ _ _ (L .p + 1) _ (s .pre .1) (s .pre .0 .small) (next-in _ _ _ (c .before .before .before .loop-test .taken) (s .pre .0 .small)) (c .next-bit3 .ensures) in
     nearer _ _ _ (inside _ _ _ (c .before .before .before .loop-test .taken) (s .pre .0 .small)) (N .from)
 
 loop-again-2 : tie.Need-loop-again-2 Inv-loop μ-loop
 loop-again-2 c =
     let L = c .before .before .before .before .loop in
     let s = c .before .before .before .before .before .before .before in
-    let N = next-part _ _ _ (L .p + 1) _ (s .pre .0 .small) (next-in _ _ _ (c .before .before .before .loop-test .taken) (s .pre .0 .small)) (c .next-bit3 .ensures) in
+    let N = next-part _ _ _ (L .p + 1) _ (s .pre .1) (s .pre .0 .small) (next-in _ _ _ (c .before .before .before .loop-test .taken) (s .pre .0 .small)) (c .next-bit3 .ensures) in
     (N .upto, spread-next _ _ _ _ _ _ (L .p + 1) _ _ _ _ (spread-met _ _ _ _ _ _ (L .p) (L .parent) (L .order) (L .end) (L .inv .1) (c .before .if1 .left)) N, N .hit)
 
 returns : tie.Need-returns Inv-loop μ-loop

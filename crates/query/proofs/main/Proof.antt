@@ -59,6 +59,15 @@ write-all-requires c κs = search needs
 returns-2 : tie.Need-returns-2
 returns-2 c = tt
 
+slice-aggregate-fail : tie.Need-slice-aggregate-fail
+slice-aggregate-fail c = search needs
+
+fail-requires : tie.Need-fail-requires
+fail-requires c κs = search needs
+
+returns-3 : tie.Need-returns-3
+returns-3 c = tt
+
 pub main-spec : {M : Type 1} → statement M
 main-spec =
     tie.close
@@ -79,4 +88,7 @@ main-spec =
     array-share-prefix-page
     slice-aggregate-write-all
     write-all-requires
-    returns-2)
+    returns-2
+    slice-aggregate-fail
+    fail-requires
+    returns-3)

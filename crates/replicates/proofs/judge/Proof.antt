@@ -46,17 +46,17 @@ slice-aggregate-write-part c = sym (c .before .before .before .before .before .b
 
 write-part-requires : tie.Need-write-part-requires
 write-part-requires c κs =
-    let A = c .before .before .before .before .before .before .before .before .before .before .before .before .before .before .before .before .before .before .before .before .before .before .before .before .before .before .before .args in
-    let O = c .before .before .before .before .before .before .before .before .before .before .before .before .before .before .settle-alone .ensures .0 .free _ _ (c .before .before .before .before .before .before .before .before .before .before .before .before .settled2 .given .1) in
-    let W = c .before .before .before .before .before .before .before .before .before .before .before .before .before .before .settle-alone .ensures .1 .free _ _ (c .before .before .before .before .before .before .before .before .before .before .before .before .settled2 .given .1) in
+    let A = c .before .before .before .before .before .before .before .before .before .before .before .before .before .before .before .before .before .before .before .before .before .before .before .before .before .before .before .before .args in
+    let O = c .before .before .before .before .before .before .before .before .before .before .before .before .before .before .before .settle-alone .ensures .0 .free _ _ (c .before .before .before .before .before .before .before .before .before .before .before .before .before .settled2 .given .1) in
+    let W = c .before .before .before .before .before .before .before .before .before .before .before .before .before .before .before .settle-alone .ensures .1 .free _ _ (c .before .before .before .before .before .before .before .before .before .before .before .before .before .settled2 .given .1) in
     record {
-      sound = c .before .before .before .before .before .before .before .before .before .before .before .before .before .before .before .before .before .before .before .before .before .before .before .before .before .before .before .pre .0;
-      void = c .before .before .before .before .before .before .before .before .before .before .before .before .before .before .before .before .before .before .before .before .before .before .mark-voids .ensures;
+      sound = c .before .before .before .before .before .before .before .before .before .before .before .before .before .before .before .before .before .before .before .before .before .before .before .before .before .before .before .before .pre .0;
+      void = c .before .before .before .before .before .before .before .before .before .before .before .before .before .before .before .before .before .before .before .before .before .before .before .mark-voids .ensures;
       free = O .is;
       steps = W;
       parts = O .parts;
-      fits = passes (A .n) _ _ (A .log .now) (A .window) (sym (c .before .before .before .before .before .before .before .before .before .before .check-part .ensures) ∙ c .before .before .before .before .before .before .before .before .fit2 .given .1) .0;
-      wide = c .before .before .before .before .before .before .before .before .before .before .before .before .before .before .before .before .before .before .before .before .before .before .before .before .before .before .before .pre .1;
+      fits = passes (A .n) _ _ (A .log .now) (A .window) (sym (c .before .before .before .before .before .before .before .before .before .before .before .check-part .ensures) ∙ c .before .before .before .before .before .before .before .before .before .fit2 .given .1) .0;
+      wide = c .before .before .before .before .before .before .before .before .before .before .before .before .before .before .before .before .before .before .before .before .before .before .before .before .before .before .before .before .pre .1;
     }
 
 returns : tie.Need-returns
@@ -73,14 +73,14 @@ returns-2 c =
     (sym (c .before .before .fit .given .1) ∙ c .before .before .before .before .check-part .ensures)
 
 same-length : tie.Need-same-length
-same-length c = c .before .before .write-part .kept .1 .1 .1 .1 .1 .1 .1 .1 .1 .1 .0
+same-length c = c .before .before .write-part .kept .1 .1 .1 .1 .1 .1 .1 .1 .1 .1 .1 .0
 
 returns-3 : tie.Need-returns-3
 returns-3 c =
-    let A = c .before .before .before .before .before .before .before .before .before .before .before .before .before .before .before .before .before .before .before .before .before .before .before .before .before .before .before .before .before .before .args in
-    part-written (A .book .now) (A .n) (c .before .before .before .before .before .before .before .before .before .before .before .before .before .before .before .before .before .before .before .before .before .before .before .before .before .before .before .before .before .before .pre .0) (A .window) (A .log .now) (A .out .now)
-    (rw (c .before .before .before .before .before .before .before .before .before .before .before .before .before .before .before .before .before .before .before .before .before .before .before .before .before .mark-voids .ensures .1) at (c .before .before .before .before .before .before .before .before .before .before .before .before .before .before .before .before .before .settle-alone .ensures .0 .free _ _ (c .before .before .before .before .before .before .before .before .before .before .before .before .before .before .before .settled2 .given .1) .is)) (c .before .before .before .before .before .before .before .before .before .before .before .before .before .before .before .before .before .settle-alone .ensures .2 .free _ _ (c .before .before .before .before .before .before .before .before .before .before .before .before .before .before .before .settled2 .given .1)) _ _ _ _ _
-    (sym (c .before .before .before .before .before .before .before .before .before .before .before .fit2 .given .1) ∙ c .before .before .before .before .before .before .before .before .before .before .before .before .before .check-part .ensures) (c .before .before .write-part .ensures .0) (c .before .before .write-part .ensures .1)
+    let A = c .before .before .before .before .before .before .before .before .before .before .before .before .before .before .before .before .before .before .before .before .before .before .before .before .before .before .before .before .before .before .before .args in
+    part-written (A .book .now) (A .n) (c .before .before .before .before .before .before .before .before .before .before .before .before .before .before .before .before .before .before .before .before .before .before .before .before .before .before .before .before .before .before .before .pre .0) (A .window) (A .log .now) (A .out .now)
+    (rw (c .before .before .before .before .before .before .before .before .before .before .before .before .before .before .before .before .before .before .before .before .before .before .before .before .before .before .mark-voids .ensures .1) at (c .before .before .before .before .before .before .before .before .before .before .before .before .before .before .before .before .before .before .settle-alone .ensures .0 .free _ _ (c .before .before .before .before .before .before .before .before .before .before .before .before .before .before .before .before .settled2 .given .1) .is)) (c .before .before .before .before .before .before .before .before .before .before .before .before .before .before .before .before .before .before .settle-alone .ensures .2 .free _ _ (c .before .before .before .before .before .before .before .before .before .before .before .before .before .before .before .before .settled2 .given .1)) _ _ _ _ _
+    (sym (c .before .before .before .before .before .before .before .before .before .before .before .before .fit2 .given .1) ∙ c .before .before .before .before .before .before .before .before .before .before .before .before .before .before .check-part .ensures) (c .before .before .write-part .ensures .0) (c .before .before .write-part .ensures .1)
 
 pub judge-spec : {M : Type 1} → statement M
 judge-spec =

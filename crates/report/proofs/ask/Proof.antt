@@ -35,14 +35,14 @@ returns c = (long-claims _ _ (omega arith), refl)
 returns-2 : tie.Need-returns-2
 returns-2 c = (short-page _ _ (omega arith), refl)
 
-lay-out-requires : tie.Need-lay-out-requires
-lay-out-requires c κs = search needs
+write-session-requires : tie.Need-write-session-requires
+write-session-requires c κs = search needs
 
 same-length : tie.Need-same-length
 same-length c = search needs
 
 returns-3 : tie.Need-returns-3
-returns-3 c = (enough _ _ (omega arith) (omega arith), c .before .before .lay-out .ensures)
+returns-3 c = (enough _ _ (omega arith) (omega arith), c .before .before .write-session .ensures)
 
 pub ask-spec : {M : Type 1} → statement M
-ask-spec = tie.close (tie.spec returns returns-2 lay-out-requires same-length returns-3)
+ask-spec = tie.close (tie.spec returns returns-2 write-session-requires same-length returns-3)

@@ -1,79 +1,70 @@
--- `runs::write_runs` meets its contract: the bytes before `j` are written. Assumes nothing.
-use mathlib.Core.Path.{_≡_, refl, sym, ap, subst, _∙_}
-use mathlib.Core.List.{_++_}
-use Prim.Native.Nat.{ℕ, _+_, _-_, _≤_, _<_}
-use native.Mathlib.Omega.{arith}
+-- `runs::write_runs` meets its contract. Assumes nothing.
+use mathlib.Core.Path.{refl, sym}
+use lib.Seq.{length-take-le}
+use Rattle.runs.proofs.Runs.{runs-written}
 use borrow.Author.Needs.{needs}
-use denote.Ref.{now}
-use lib.ListN.{length, getD, length-set, length-append}
-use Rattle.parentheses.specs.Padded.{padded}
-use Rattle.index.proofs.Packing.{by-places}
-use Rattle.runs.proofs.Runs.{one-more}
 use Rattle.runs.proofs.write_runs.Statement.{statement}
 use Rattle.runs.proofs.write_runs.Tie as tie
-use Rattle.runs.proofs.write_runs.Reads as reads
-use Rattle.runs.proofs.write_runs.Lts as lts
-use Rattle.runs.proofs.byte_at.Reads as byte-at-reads
 
-abbrev Inv-loop : tie.InvT-loop
-Inv-loop first second out₀ j₀ out j = (j ≤ length out) × (length out ≡ length out₀) × ((i : ℕ) → i < j → getD out i 0 ≡ getD (first ++ second) i 0)
+add-end : tie.Need-add-end
+add-end c = search needs
 
-abbrev μ-loop : tie.MeasureT-loop
-μ-loop first second out₀ j₀ out j = length out - j
+slice-relend-prefix-copy : tie.Need-slice-relend-prefix-copy
+slice-relend-prefix-copy c = search needs
 
--- src/lib.rt:55:5
-loop-holds : tie.Need-loop-holds Inv-loop μ-loop
-loop-holds c = (omega arith, refl, λ i l. absurd (omega arith))
+slice-aggregate-copy : tie.Need-slice-aggregate-copy
+slice-aggregate-copy c = sym (length-take-le _ _ (slice-relend-prefix-copy (c .before)))
 
--- src/lib.rt:56:18
-byte-at-requires : tie.Need-byte-at-requires Inv-loop μ-loop
-byte-at-requires c κs = search needs
+copy-requires : tie.Need-copy-requires
+copy-requires c κs = slice-aggregate-copy c
 
--- src/lib.rt:56:9
-slice-write-out : tie.Need-slice-write-out Inv-loop μ-loop
-slice-write-out c = search needs
+sub-copy : tie.Need-sub-copy
+sub-copy c = search needs
 
--- src/lib.rt:57:9
-add-j : tie.Need-add-j Inv-loop μ-loop
-add-j c = search needs
+part-copy-start : tie.Need-part-copy-start
+part-copy-start c = search needs
 
--- src/lib.rt:55:5
-loop-less : tie.Need-loop-less Inv-loop μ-loop
-loop-less c = simp length-set (omega arith)
+part-copy-end : tie.Need-part-copy-end
+part-copy-end c = search needs
 
--- src/lib.rt:55:5
-loop-again : tie.Need-loop-again Inv-loop μ-loop
-loop-again c =
-    let b = c .before .before in (
-      simp length-set (omega arith),
-      simp length-set (omega arith),
-      one-more (b .loop .out) (now (b .before .before .before .before .args .first) ++ now (b .before .before .before .before .args .second)) (b .loop .j) (c .byte-at .result) (omega arith) (c .byte-at .ensures) (b .loop .inv .2),
-    )
+copy-requires-2 : tie.Need-copy-requires-2
+copy-requires-2 c κs = search needs
 
--- src/lib.rt:50:1
-same-length : tie.Need-same-length Inv-loop μ-loop
+sub-clear : tie.Need-sub-clear
+sub-clear c = search needs
+
+part-clear-start : tie.Need-part-clear-start
+part-clear-start c = search needs
+
+part-clear-end : tie.Need-part-clear-end
+part-clear-end c = search needs
+
+clear-requires : tie.Need-clear-requires
+clear-requires c κs = search needs
+
+same-length : tie.Need-same-length
 same-length c = search needs
 
--- src/lib.rt:50:1
-returns : tie.Need-returns Inv-loop μ-loop
+returns : tie.Need-returns
 returns c =
-    let a = c .before .before .before .before .before in
-    let xs = now (a .args .first) ++ now (a .args .second) in
-    let e : length (c .before .loop .out) ≡ length (now (a .args .out)) = omega arith in
-    by-places 0 (c .before .loop .out) xs (omega (arith, length-append (now (a .args .first)) (now (a .args .second)))) (λ i l. c .before .loop .inv .2 i (omega arith))
-    ∙ ap (λ (n : ℕ). padded 0 n xs) e
+    let b = c .before .before .before .before .before .before .before .before .before .before .before .before .before .before .before in
+    runs-written (b .args .first .now) (b .args .second .now) (b .args .out .now) _ _ _ (b .pre) (c .before .before .before .before .before .before .before .before .before .before .copy .ensures) (c .before .before .before .before .before .before .copy2 .ensures) _ refl (c .before .before .clear .ensures)
 
 pub write-runs-spec : {M : Type 1} → statement M
 write-runs-spec =
     tie.close
     (tie.spec
-    Inv-loop
-    μ-loop
-    loop-holds
-    byte-at-requires
-    slice-write-out
-    add-j
-    loop-less
-    loop-again
+    add-end
+    slice-relend-prefix-copy
+    slice-aggregate-copy
+    copy-requires
+    sub-copy
+    part-copy-start
+    part-copy-end
+    copy-requires-2
+    sub-clear
+    part-clear-start
+    part-clear-end
+    clear-requires
     same-length
     returns)

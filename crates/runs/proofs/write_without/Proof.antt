@@ -1,7 +1,7 @@
 -- `runs::write_without` meets its contract. Assumes nothing.
 use mathlib.Core.Path.{_≡_, sym, ap, _∙_}
 use mathlib.Core.List.{List, _++_}
-use Prim.Native.Nat.{ℕ, _+_, _-_, _*_}
+use Prim.Native.Nat.{ℕ, _+_, _-_}
 use native.Mathlib.Omega.{arith}
 use denote.Ref.{now}
 use lib.ListN.{length, take, drop, length-drop}
@@ -11,31 +11,22 @@ use Rattle.runs.proofs.Runs.{drop-take}
 use borrow.Author.Needs.{needs}
 use Rattle.runs.proofs.write_without.Statement.{statement}
 use Rattle.runs.proofs.write_without.Tie as tie
-use Rattle.runs.proofs.write_without.Reads as reads
-use Rattle.runs.proofs.write_without.Lts as lts
-use Rattle.runs.proofs.write_runs.Reads as write-runs-reads
 
--- src/lib.rt:186:16
 add-next : tie.Need-add-next
 add-next c = search needs
 
--- src/lib.rt:187:16
 slice-aggregate-write-runs : tie.Need-slice-aggregate-write-runs
 slice-aggregate-write-runs c = sym (length-take-le (c .before .before .before .args .at) (c .before .before .before .args .area .now) (omega (arith, c .before .before .before .pre .0, c .before .before .before .pre .1 .0)))
 
--- src/lib.rt:187:29
 sub-write-runs : tie.Need-sub-write-runs
 sub-write-runs c = search needs
 
--- src/lib.rt:187:29
 part-write-runs-start : tie.Need-part-write-runs-start
 part-write-runs-start c = search needs
 
--- src/lib.rt:187:29
 part-write-runs-end : tie.Need-part-write-runs-end
 part-write-runs-end c = search needs
 
--- src/lib.rt:187:5
 write-runs-requires : tie.Need-write-runs-requires
 write-runs-requires c κs =
     let b = c .before .before .before .before .before in
@@ -44,11 +35,9 @@ write-runs-requires c κs =
     let s = b .args .area .now in
     omega (arith, b .pre .0, b .pre .1 .0, b .pre .1 .1, length-take-le at s (omega (arith, b .pre .0, b .pre .1 .0)), length-drop (at + 6) s, length-take-le (end - (at + 6)) (drop (at + 6) s) (omega (arith, b .pre .0, b .pre .1 .0, length-drop (at + 6) s)))
 
--- src/lib.rt:182:1
 same-length : tie.Need-same-length
 same-length c = search needs
 
--- src/lib.rt:182:1
 returns : tie.Need-returns
 returns c =
     let b = c .before .before .before .before .before .before .before .before in

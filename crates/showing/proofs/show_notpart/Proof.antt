@@ -1,19 +1,17 @@
 -- `showing::show_notpart` meets its contract: a base and two containments. Assumes nothing.
-use Rattle.rules.specs.Fact.{factOf}
-use Rattle.showing.proofs.Carries.{notpart-carried}
+use Rattle.showing.proofs.Carries.{notpart-carried, notpart-spans}
 use borrow.Author.Needs.{needs}
 use Rattle.showing.proofs.show_notpart.Statement.{statement}
 use Rattle.showing.proofs.show_notpart.Tie as tie
 
 carry-requires : tie.Need-carry-requires
-carry-requires c κs = let s = c .before .before .before .before in (s .pre .0, s .pre .1, notpart-carried _ _ _ _ _ _ (s .pre .5) (s .pre .6) (s .pre .4) (s .pre .2), s .pre .3, s .pre .5, s .pre .7, s .pre .6, s .pre .4, s .pre .8, s .pre .9, s .pre .10)
+carry-requires c κs = (c .before .before .before .before .pre .0, c .before .before .before .before .pre .1, notpart-carried _ _ _ _ _ _ (c .before .before .before .before .pre .5) (c .before .before .before .before .pre .6) (c .before .before .before .before .pre .4) (c .before .before .before .before .pre .2), c .before .before .before .before .pre .3, c .before .before .before .before .pre .5, c .before .before .before .before .pre .7, c .before .before .before .before .pre .6, c .before .before .before .before .pre .4, c .before .before .before .before .pre .8, c .before .before .before .before .pre .9, c .before .before .before .before .pre .10)
 
 same-length : tie.Need-same-length
 same-length c = search needs
 
 returns : tie.Need-returns
-unfolding factOf
-returns c = c .before .before .carry .ensures
+returns c = notpart-spans (c .before .before .before .before .before .before .before .pre .2) (c .before .before .carry .ensures)
 
 pub show-notpart-spec : {M : Type 1} → statement M
 show-notpart-spec = tie.close (tie.spec carry-requires same-length returns)

@@ -1,7 +1,7 @@
 -- `showing::show_part` meets its contract: the hops, their records, and the steps along them. Assumes nothing.
 use mathlib.Core.Path.{refl}
 use native.Mathlib.Omega.{arith}
-use Rattle.showing.proofs.Linked.{all-wider, sourced, part-reaches, contained-writes}
+use Rattle.showing.proofs.Linked.{all-wider, reaches, contained-reached}
 use borrow.Author.Needs.{needs}
 use Rattle.showing.proofs.show_part.Statement.{statement}
 use Rattle.showing.proofs.show_part.Tie as tie
@@ -22,7 +22,7 @@ slice-aggregate-find-sources-2 : tie.Need-slice-aggregate-find-sources-2
 slice-aggregate-find-sources-2 c = search needs
 
 find-sources-requires : tie.Need-find-sources-requires
-find-sources-requires c κs = let s = c .before .before .before .before .before .before .before .before .before .before in (c .before .before .before .before .find-hops .ensures .sized, refl, s .pre .0 .few, all-wider _ _ (s .pre .0 .small) (s .pre .0 .within))
+find-sources-requires c κs = (c .before .before .before .before .find-hops .ensures .sized, refl, c .before .before .before .before .before .before .before .before .before .before .pre .0 .few, all-wider _ _ (c .before .before .before .before .before .before .before .before .before .before .pre .0 .small) (c .before .before .before .before .before .before .before .before .before .before .pre .0 .within))
 
 slice-aggregate-write-part : tie.Need-slice-aggregate-write-part
 slice-aggregate-write-part c = search needs
@@ -31,13 +31,13 @@ slice-aggregate-write-part-2 : tie.Need-slice-aggregate-write-part-2
 slice-aggregate-write-part-2 c = search needs
 
 write-part-requires : tie.Need-write-part-requires
-write-part-requires c κs = let s = c .before .before .before .before .before .before .before .before .before .before .before .before .before .before .before in (c .before .before .before .before .before .before .before .before .before .find-hops .ensures .sized, c .before .before .before .before .find-sources .ensures .sized, s .pre .4, s .pre .5, omega (arith, s .pre .0 .small, s .pre .1), (part-reaches _ _ _ (s .pre .0 .small) _ (s .pre .0 .within) (omega (arith, s .pre .1)) (s .pre .0 .stepped) _ _ (s .pre .1) (s .pre .2) (c .before .before .before .before .before .before .before .before .before .find-hops .ensures) (s .pre .3)))
+write-part-requires c κs = (c .before .before .before .before .before .before .before .before .before .find-hops .ensures .sized, c .before .before .before .before .find-sources .ensures .sized, c .before .before .before .before .before .before .before .before .before .before .before .before .before .before .before .pre .4, c .before .before .before .before .before .before .before .before .before .before .before .before .before .before .before .pre .5, omega (arith, c .before .before .before .before .before .before .before .before .before .before .before .before .before .before .before .pre .0 .small, c .before .before .before .before .before .before .before .before .before .before .before .before .before .before .before .pre .1), reaches (c .before .before .before .before .before .before .before .before .before .before .before .before .before .before .before .pre .0) (c .before .before .before .before .before .before .before .before .before .before .before .before .before .before .before .pre .1) (c .before .before .before .before .before .before .before .before .before .before .before .before .before .before .before .pre .2) (c .before .before .before .before .before .before .before .before .before .find-hops .ensures) (c .before .before .before .before .before .before .before .before .before .before .before .before .before .before .before .pre .3))
 
 same-length : tie.Need-same-length
 same-length c = search needs
 
 returns : tie.Need-returns
-returns c = let s = c .before .before .before .before .before .before .before .before .before .before .before .before .before .before .before .before .before .before in contained-writes (sourced _ _ _ (s .pre .0 .small) _ _ _ (s .pre .0 .few) (c .before .before .before .before .before .before .before .find-sources .ensures) (s .pre .0 .stepped) _ (s .pre .2) (c .before .before .before .before .before .before .before .before .before .before .before .before .find-hops .ensures)) (part-reaches _ _ _ (s .pre .0 .small) _ (s .pre .0 .within) (omega (arith, s .pre .1)) (s .pre .0 .stepped) _ _ (s .pre .1) (s .pre .2) (c .before .before .before .before .before .before .before .before .before .before .before .before .find-hops .ensures) (s .pre .3)) (s .pre .1) (c .before .before .write-part .ensures)
+returns c = contained-reached (c .before .before .before .before .before .before .before .before .before .before .before .before .before .before .before .before .before .before .pre .0) (c .before .before .before .before .before .before .before .before .before .before .before .before .before .before .before .before .before .before .pre .1) (c .before .before .before .before .before .before .before .before .before .before .before .before .before .before .before .before .before .before .pre .2) (c .before .before .before .before .before .before .before .before .before .before .before .before .find-hops .ensures) (c .before .before .before .before .before .before .before .before .before .before .before .before .before .before .before .before .before .before .pre .3) (c .before .before .before .before .before .before .before .find-sources .ensures) (c .before .before .write-part .ensures)
 
 pub show-part-spec : {M : Type 1} → statement M
 show-part-spec =

@@ -10,16 +10,16 @@ use Rattle.storing.proofs.step_stored.Statement.{statement}
 use Rattle.storing.proofs.step_stored.Tie as tie
 
 abbrev Inv-loop : tie.InvT-loop
-Inv-loop run lead n e₀ count i₀ e i = (count ≡ length run / 6) × (i ≤ count) × (length e ≡ 65536) × Storing run 1 (stepping lead) e i
+Inv-loop run lead n e₀ count i₀ e i = (count ≡ length run / 6) × (i ≤ count) × (length e ≡ 65536) × Storing n run 1 (stepping lead) e i
 
 abbrev μ-loop : tie.MeasureT-loop
 μ-loop run lead n e₀ count i₀ e i = count - i
 
-clear-requires : tie.Need-clear-requires Inv-loop μ-loop
-clear-requires c κs = search needs
+clear-rows-requires : tie.Need-clear-rows-requires Inv-loop μ-loop
+clear-rows-requires c κs = search needs
 
 loop-holds : tie.Need-loop-holds Inv-loop μ-loop
-loop-holds c = (refl, search needs, search needs, storing-none _ _ _ _ (length (c .before .before .before .before .before .before .before .args .e .now)) (c .before .before .clear .ensures))
+loop-holds c = (refl, search needs, search needs, storing-none _ _ _ _ _ (c .before .before .clear-rows .ensures))
 
 record-at-requires : tie.Need-record-at-requires Inv-loop μ-loop
 record-at-requires c κs = search needs
@@ -44,7 +44,7 @@ loop-less c = search needs
 loop-again : tie.Need-loop-again Inv-loop μ-loop
 loop-again c =
     let L = c .before .before .before .before .before .before .loop in
-    (search needs, search needs, search needs, storing-more _ _ _ _ _ _ _ (c .before .before .before .before .record-at .ensures) (L .inv .3) (c .before .before .step-record .ensures))
+    (search needs, search needs, search needs, storing-more _ _ _ _ _ _ _ _ (omega arith) (c .before .before .before .before .record-at .ensures) (L .inv .3) (c .before .before .step-record .ensures))
 
 same-length : tie.Need-same-length Inv-loop μ-loop
 same-length c = search needs
@@ -52,7 +52,7 @@ same-length c = search needs
 returns : tie.Need-returns Inv-loop μ-loop
 returns c =
     let L = c .before .loop in
-    storing-all _ _ _ _ (L .i) (omega arith) (omega arith) (L .inv .2) (omega arith) (L .inv .3)
+    storing-all _ _ _ _ _ (L .i) (omega arith) (omega arith) (L .inv .2) (omega arith) (L .inv .3)
 
 pub step-stored-spec : {M : Type 1} → statement M
 step-stored-spec =
@@ -60,7 +60,7 @@ step-stored-spec =
     (tie.spec
     Inv-loop
     μ-loop
-    clear-requires
+    clear-rows-requires
     loop-holds
     record-at-requires
     step-record-requires

@@ -14,7 +14,7 @@ same-length : tie.Need-same-length
 same-length c = search needs
 
 returns : tie.Need-returns
-returns c = step-holds _ _ _ (search needs) (c .before .before .before .before .before .before .step-stored .ensures) (c .before .before .crown-leaders .ensures)
+returns c = step-holds _ _ (search needs) _ (search needs) (c .before .before .before .before .before .before .step-stored .ensures) (c .before .before .crown-leaders .ensures)
 
 pub steps-spec : {M : Type 1} → statement M
 steps-spec = tie.close (tie.spec step-stored-requires crown-leaders-requires same-length returns)

@@ -34,14 +34,14 @@ answer-claims-requires : tie.Need-answer-claims-requires
 answer-claims-requires c κs = tt
 
 -- src/lib.rt:93:17
-array-read-t21 : tie.Need-array-read-t21
-array-read-t21 c = search needs
+array-read-t33 : tie.Need-array-read-t33
+array-read-t33 c = search needs
 
 -- src/lib.rt:73:1
 returns : tie.Need-returns
 returns c =
     let b = c .before .before .before .before .before in
-    let a = b .before .before .before .before .before .before .before .before in
+    let a = b .before .before .before .before .before .before .before .before .before .before .before .before .before .before in
     let l = b .answer-claims .last .1 .1 in
     on-cleared (now (a .args .run)) (now (a .args .claim)) (a .pre) (b .answer-claims .result) (l .0) (l .1 .0) (l .1 .1 .0) (l .1 .1 .1 .0) (l .1 .1 .1 .1 .0) (b .answer-claims .ensures .0)
 
@@ -55,5 +55,5 @@ answer-run-spec =
     slice-aggregate-answer-claims-4
     slice-aggregate-answer-claims-5
     answer-claims-requires
-    array-read-t21
+    array-read-t33
     returns)

@@ -1,9 +1,8 @@
 -- `derivations::kinds::chain_apart` meets its contract. Assumes nothing.
 use mathlib.Core.Path.{refl, sym, _∙_}
 use mathlib.Core.Logic.{inl, inr}
-use Rattle.rules.specs.Fact.{APART}
-use Rattle.derivations.proofs.Grounds.{book-ok, small, setting, all-within, void-read, apart-none}
-use Rattle.derivations.proofs.Chaining.{chained-none, chained-some, apart-marked, apart-parts}
+use Rattle.derivations.proofs.Grounds.{small, setting, all-within, void-read, apart-none}
+use Rattle.derivations.proofs.Chaining.{chained-none, apart-marked, apart-parts, apart-chained}
 use native.Mathlib.Omega.{arith}
 use borrow.Author.Needs.{needs}
 use Rattle.derivations.proofs.kinds.chain_apart.Statement.{statement}
@@ -13,7 +12,7 @@ has-requires : tie.Need-has-requires
 has-requires c κs = let l = small (c .before .before .before .before .before .before .pre .0) in (c .before .before .before .before .before .before .pre .0 .void .0 .sized, omega (arith, c .before .before .before .before .before .before .pre .1))
 
 void-step-requires : tie.Need-void-step-requires
-void-step-requires c κs = let l = small (c .before .before .before .before .before .before .before .before .before .pre .0) in (void-read (c .before .before .before .before .before .before .before .before .before .pre .0) _ _ (c .before .before .has .ensures) ∙ c .before .if1 .taken, book-ok (c .before .before .before .before .before .before .before .before .before .pre .0) .few, omega (arith, c .before .before .before .before .before .before .before .before .before .pre .1), omega (arith, c .before .before .before .before .before .before .before .before .before .pre .2), c .before .before .before .before .before .before .before .before .before .pre .3)
+void-step-requires c κs = let l = small (c .before .before .before .before .before .before .before .before .before .pre .0) in (void-read (c .before .before .before .before .before .before .before .before .before .pre .0) _ _ (c .before .before .has .ensures) ∙ c .before .if1 .taken, c .before .before .before .before .before .before .before .before .before .pre .0 .few, omega (arith, c .before .before .before .before .before .before .before .before .before .pre .1), omega (arith, c .before .before .before .before .before .before .before .before .before .pre .2), c .before .before .before .before .before .before .before .before .before .pre .3)
 
 same-length : tie.Need-same-length
 same-length c = search needs
@@ -25,7 +24,7 @@ has-requires-2 : tie.Need-has-requires-2
 has-requires-2 c κs = let l = small (c .before .before .before .before .before .before .before .before .pre .0) in (c .before .before .before .before .before .before .before .before .pre .0 .void .0 .sized, omega (arith, c .before .before .before .before .before .before .before .before .pre .2))
 
 void-step-requires-2 : tie.Need-void-step-requires-2
-void-step-requires-2 c κs = let l = small (c .before .before .before .before .before .before .before .before .before .before .before .pre .0) in (void-read (c .before .before .before .before .before .before .before .before .before .before .before .pre .0) _ _ (c .before .before .has2 .ensures) ∙ c .before .if2 .taken, book-ok (c .before .before .before .before .before .before .before .before .before .before .before .pre .0) .few, omega (arith, c .before .before .before .before .before .before .before .before .before .before .before .pre .1), omega (arith, c .before .before .before .before .before .before .before .before .before .before .before .pre .2), c .before .before .before .before .before .before .before .before .before .before .before .pre .3)
+void-step-requires-2 c κs = let l = small (c .before .before .before .before .before .before .before .before .before .before .before .pre .0) in (void-read (c .before .before .before .before .before .before .before .before .before .before .before .pre .0) _ _ (c .before .before .has2 .ensures) ∙ c .before .if2 .taken, c .before .before .before .before .before .before .before .before .before .before .before .pre .0 .few, omega (arith, c .before .before .before .before .before .before .before .before .before .before .before .pre .1), omega (arith, c .before .before .before .before .before .before .before .before .before .before .before .pre .2), c .before .before .before .before .before .before .before .before .before .before .before .pre .3)
 
 same-length-2 : tie.Need-same-length-2
 same-length-2 c = search needs
@@ -49,7 +48,7 @@ same-length-3 : tie.Need-same-length-3
 same-length-3 c = search needs
 
 returns-4 : tie.Need-returns-4
-returns-4 c = chained-some (c .before .before .before .before .before .before .before .before .before .before .before .before .before .before .before .before .before .before .pre .0) (APART _ _) (c .before .before .before .before .before .before .before .before .before .before .before .before .before .before .before .before .before .before .pre .1, c .before .before .before .before .before .before .before .before .before .before .before .before .before .before .before .before .before .before .pre .2) (c .before .before .show-apart .ensures) (omega arith)
+returns-4 c = apart-chained (c .before .before .before .before .before .before .before .before .before .before .before .before .before .before .before .before .before .before .pre .0) (c .before .before .before .before .before .before .before .before .before .before .before .before .before .before .before .before .before .before .pre .1) (c .before .before .before .before .before .before .before .before .before .before .before .before .before .before .before .before .before .before .pre .2) (void-read (c .before .before .before .before .before .before .before .before .before .before .before .before .before .before .before .before .before .before .pre .0) _ _ (c .before .before .before .before .before .before .before .before .before .before .before .has .ensures) ∙ c .before .before .before .before .before .before .before .before .before .before .if1 .left) (c .before .before .before .before .before .cite-record .ensures) (c .before .before .show-apart .ensures)
 
 pub chain-apart-spec : {M : Type 1} → statement M
 chain-apart-spec =

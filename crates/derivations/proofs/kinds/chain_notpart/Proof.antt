@@ -1,8 +1,7 @@
 -- `derivations::kinds::chain_notpart` meets its contract. Assumes nothing.
 use mathlib.Core.Path.{sym, ap, _∙_}
-use Rattle.rules.specs.Fact.{NOTPART}
 use Rattle.derivations.proofs.Grounds.{small, setting, all-within, marks-out, marks-silent, notpart-none}
-use Rattle.derivations.proofs.Chaining.{chained-none, chained-some, notpart-parts}
+use Rattle.derivations.proofs.Chaining.{chained-none, notpart-parts, notpart-chained}
 use native.Mathlib.Omega.{arith}
 use borrow.Author.Needs.{needs}
 use Rattle.derivations.proofs.kinds.chain_notpart.Statement.{statement}
@@ -33,7 +32,7 @@ same-length-2 : tie.Need-same-length-2
 same-length-2 c = search needs
 
 returns-2 : tie.Need-returns-2
-returns-2 c = chained-some (c .before .before .before .before .before .before .before .before .before .before .before .before .before .before .before .before .pre .0) (NOTPART _ _) (c .before .before .before .before .before .before .before .before .before .before .before .before .before .before .before .before .pre .1, c .before .before .before .before .before .before .before .before .before .before .before .before .before .before .before .before .pre .2) (c .before .before .show-notpart .ensures) (omega arith)
+returns-2 c = notpart-chained (c .before .before .before .before .before .before .before .before .before .before .before .before .before .before .before .before .pre .0) (c .before .before .before .before .before .before .before .before .before .before .before .before .before .before .before .before .pre .1) (c .before .before .before .before .before .before .before .before .before .before .before .before .before .before .before .before .pre .2) (c .before .before .before .before .before .cite-record .ensures) (c .before .before .show-notpart .ensures)
 
 find-record-requires-2 : tie.Need-find-record-requires-2
 find-record-requires-2 c κs = let l = small (c .before .before .before .before .before .before .before .before .before .before .pre .0) in (c .before .before .before .before .before .before .before .before .before .before .pre .0 .parts .sized, c .before .before .before .before .before .before .before .before .before .before .pre .0 .toward .sized, omega (arith, c .before .before .before .before .before .before .before .before .before .before .pre .1), omega (arith, c .before .before .before .before .before .before .before .before .before .before .pre .2), all-within (c .before .before .before .before .before .before .before .before .before .before .pre .0))

@@ -1,6 +1,6 @@
 -- `derivations::kinds::chain_outside_void` meets its contract. Assumes nothing.
 use mathlib.Core.Path.{sym, _∙_}
-use Rattle.derivations.proofs.Grounds.{book-ok, small, found-mark}
+use Rattle.derivations.proofs.Grounds.{small, found-mark}
 use Rattle.derivations.proofs.Chaining.{outside-marked}
 use native.Mathlib.Omega.{arith}
 use borrow.Author.Needs.{needs}
@@ -14,7 +14,7 @@ put-step-requires : tie.Need-put-step-requires
 put-step-requires c κs = let l = small (c .before .before .before .before .before .before .before .before .pre .0) in (omega (arith, c .before .before .before .before .before .before .before .before .pre .5), omega (arith, c .before .before .before .before .before .before .before .before .pre .1), omega (arith, c .before .before .before .before .before .before .before .before .pre .1), omega arith, omega arith)
 
 put-step-requires-2 : tie.Need-put-step-requires-2
-put-step-requires-2 c κs = let l = small (c .before .before .before .before .before .before .before .before .before .before .before .before .pre .0) in let f = book-ok (c .before .before .before .before .before .before .before .before .before .before .before .before .pre .0) .few in let k = found-mark (c .before .before .before .before .before .before .before .before .before .before .before .before .pre .0) _ _ (c .before .before .before .before .before .before .before .before .before .before .before .before .pre .4) (c .before .before .before .before .before .find-mark .ensures) in (omega (arith, c .before .before .before .before .before .before .before .before .before .before .before .before .pre .5, c .before .before .before .put-step .ensures .edited .sized), omega (arith, c .before .before .before .before .before .before .before .before .before .before .before .before .pre .2), omega (arith, c .before .before .before .before .before .before .before .before .before .before .before .before .pre .1), omega (arith, k .0), omega arith)
+put-step-requires-2 c κs = let l = small (c .before .before .before .before .before .before .before .before .before .before .before .before .pre .0) in let f = c .before .before .before .before .before .before .before .before .before .before .before .before .pre .0 .few in let k = found-mark (c .before .before .before .before .before .before .before .before .before .before .before .before .pre .0) _ _ (c .before .before .before .before .before .before .before .before .before .before .before .before .pre .4) (c .before .before .before .before .before .find-mark .ensures) in (omega (arith, c .before .before .before .before .before .before .before .before .before .before .before .before .pre .5, c .before .before .before .put-step .ensures .edited .sized), omega (arith, c .before .before .before .before .before .before .before .before .before .before .before .before .pre .2), omega (arith, c .before .before .before .before .before .before .before .before .before .before .before .before .pre .1), omega (arith, k .0), omega arith)
 
 put-step-requires-3 : tie.Need-put-step-requires-3
 put-step-requires-3 c κs = let l = small (c .before .before .before .before .before .before .before .before .before .before .before .before .before .before .before .before .pre .0) in (omega (arith, c .before .before .before .before .before .before .before .before .before .before .before .before .before .before .before .before .pre .5, c .before .before .before .before .before .before .before .put-step .ensures .edited .sized, c .before .before .before .put-step2 .ensures .edited .sized), omega (arith, c .before .before .before .before .before .before .before .before .before .before .before .before .before .before .before .before .pre .1), omega (arith, c .before .before .before .before .before .before .before .before .before .before .before .before .before .before .before .before .pre .2), omega arith, omega arith)

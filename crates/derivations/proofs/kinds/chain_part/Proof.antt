@@ -2,7 +2,7 @@
 use mathlib.Core.Path.{sym, _∙_}
 use borrow.Author.Tests.{not-true, not-false}
 use Rattle.rules.specs.Fact.{PART}
-use Rattle.derivations.proofs.Grounds.{book-ok, small, setting, bit-inside, void-read, found-mark, part-none}
+use Rattle.derivations.proofs.Grounds.{small, setting, bit-inside, void-read, found-mark, part-none}
 use Rattle.derivations.proofs.Chaining.{chained-none, chained-some, part-marked}
 use native.Mathlib.Omega.{arith}
 use borrow.Author.Needs.{needs}
@@ -16,7 +16,7 @@ find-mark-requires : tie.Need-find-mark-requires
 find-mark-requires c κs = search needs
 
 put-step-requires : tie.Need-put-step-requires
-put-step-requires c κs = let l = small (c .before .before .before .before .before .before .before .before .before .before .pre .0) in let f = book-ok (c .before .before .before .before .before .before .before .before .before .before .pre .0) .few in let k = found-mark (c .before .before .before .before .before .before .before .before .before .before .pre .0) _ _ (void-read (c .before .before .before .before .before .before .before .before .before .before .pre .0) _ _ (c .before .before .before .has .ensures) ∙ c .before .before .if1 .taken) (c .before .find-mark .ensures) in (omega (arith, c .before .before .before .before .before .before .before .before .before .before .pre .3), omega (arith, c .before .before .before .before .before .before .before .before .before .before .pre .1), omega (arith, c .before .before .before .before .before .before .before .before .before .before .pre .2), omega (arith, k .0), omega arith)
+put-step-requires c κs = let l = small (c .before .before .before .before .before .before .before .before .before .before .pre .0) in let f = c .before .before .before .before .before .before .before .before .before .before .pre .0 .few in let k = found-mark (c .before .before .before .before .before .before .before .before .before .before .pre .0) _ _ (void-read (c .before .before .before .before .before .before .before .before .before .before .pre .0) _ _ (c .before .before .before .has .ensures) ∙ c .before .before .if1 .taken) (c .before .find-mark .ensures) in (omega (arith, c .before .before .before .before .before .before .before .before .before .before .pre .3), omega (arith, c .before .before .before .before .before .before .before .before .before .before .pre .1), omega (arith, c .before .before .before .before .before .before .before .before .before .before .pre .2), omega (arith, k .0), omega arith)
 
 same-length : tie.Need-same-length
 same-length c = search needs
@@ -37,7 +37,7 @@ same-length-2 : tie.Need-same-length-2
 same-length-2 c = search needs
 
 returns-3 : tie.Need-returns-3
-returns-3 c = chained-some (c .before .before .before .before .before .before .before .before .before .before .before .before .before .before .pre .0) (PART _ _) (c .before .before .before .before .before .before .before .before .before .before .before .before .before .before .pre .1, c .before .before .before .before .before .before .before .before .before .before .before .before .before .before .pre .2) (c .before .before .show-part .ensures) (omega arith)
+returns-3 c = chained-some (c .before .before .before .before .before .before .before .before .before .before .before .before .before .before .pre .0) (PART _ _) (c .before .before .before .before .before .before .before .before .before .before .before .before .before .before .pre .1, c .before .before .before .before .before .before .before .before .before .before .before .before .before .before .pre .2) (c .before .before .show-part .ensures .writes) (c .before .before .show-part .ensures .differ) (omega arith)
 
 pub chain-part-spec : {M : Type 1} → statement M
 chain-part-spec =

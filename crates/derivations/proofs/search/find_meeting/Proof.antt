@@ -30,7 +30,7 @@ cite-record-requires : tie.Need-cite-record-requires
 cite-record-requires c κs = (c .before .before .before .before .before .before .before .before .before .pre .0, c .before .before .before .before .before .before .before .before .before .pre .1, c .before .before .before .before .before .before .before .before .before .pre .2, c .if2 .left, c .before .find-record .ensures .hit (c .if2 .left))
 
 returns-3 : tie.Need-returns-3
-returns-3 c = met-stored (c .before .before .before .before .before .before .before .before .before .before .before .pre .0) (c .before .before .before .before .before .before .before .before .before .before .before .pre .1) (c .before .before .before .before .before .before .before .before .before .before .before .pre .2) _ (c .before .cite-record .ensures)
+returns-3 c = met-stored (c .before .before .before .before .before .before .before .before .before .before .before .pre .0) (c .before .before .before .before .before .before .before .before .before .before .before .pre .1) (c .before .before .before .before .before .before .before .before .before .before .before .pre .2) _ (omega arith) (c .before .before .before .before .before .find-common .ensures) _ (c .before .cite-record .ensures)
 
 pub find-meeting-spec : {M : Type 1} → statement M
 find-meeting-spec =

@@ -29,10 +29,10 @@ mul-result : tie.Need-mul-result
 mul-result c = search needs
 
 returns-3 : tie.Need-returns-3
-returns-3 c = λ h k. mul-comm _ 8 ∙ ap (positionOf _) (sym (c .enum-told .given .1) ∙ c .before .before .enclose .ensures)
+returns-3 c = (λ d. mul-comm _ 8 ∙ ap (positionOf _) (sym (c .enum-told .given .1) ∙ c .before .before .enclose .ensures), λ n. absurd (n (search needs, search needs)))
 
 returns-4 : tie.Need-returns-4
-returns-4 c = λ h k. ap (positionOf _) (sym (c .before .position .given .1) ∙ c .before .before .before .enclose .ensures)
+returns-4 c = (λ d. ap (positionOf _) (sym (c .before .position .given .1) ∙ c .before .before .before .enclose .ensures), λ n. absurd (n (search needs, search needs)))
 
 pub parentheses-enclose-spec : {M : Type 1} → statement M
 parentheses-enclose-spec =

@@ -23,10 +23,10 @@ mul-result : tie.Need-mul-result
 mul-result c = search needs
 
 returns-2 : tie.Need-returns-2
-returns-2 c = λ h. mul-comm _ 8 ∙ ap (positionOf _) (sym (c .enum-told .given .1) ∙ c .before .before .select .ensures)
+returns-2 c = (λ d. mul-comm _ 8 ∙ ap (positionOf _) (sym (c .enum-told .given .1) ∙ c .before .before .select .ensures), λ n. absurd (n (search needs)))
 
 returns-3 : tie.Need-returns-3
-returns-3 c = λ h. ap (positionOf _) (sym (c .before .position .given .1) ∙ c .before .before .before .select .ensures)
+returns-3 c = (λ d. ap (positionOf _) (sym (c .before .position .given .1) ∙ c .before .before .before .select .ensures), λ n. absurd (n (search needs)))
 
 pub parentheses-select-spec : {M : Type 1} → statement M
 parentheses-select-spec =

@@ -1,6 +1,7 @@
 -- `exports::relation_c::relation_meet` meets its contract.
 -- Assumes nothing.
 use Prim.Native.Nat.{ℕ, _+_, _-_, _*_, _≤_, _<_}
+use mathlib.Core.Path.{refl}
 use lib.ListN.{length}
 use native.Mathlib.Omega.{arith}
 use borrow.Author.Needs.{needs}
@@ -8,22 +9,22 @@ use Rattle.exports.proofs.relation_c.relation_meet.Statement.{statement
 use Rattle.exports.proofs.relation_c.relation_meet.Tie as tie
 
 returns : tie.Need-returns
-returns c = (λ h k i j. absurd (omega arith))
+returns c = (λ d. absurd (omega (arith, d .0, d .1, d .2, d .3)), λ n. refl)
 
 returns-2 : tie.Need-returns-2
-returns-2 c = (λ h k i j. absurd (omega arith))
+returns-2 c = (λ d. absurd (omega (arith, d .0, d .1, d .2, d .3)), λ n. refl)
 
 returns-3 : tie.Need-returns-3
-returns-3 c = (λ h k i j. absurd (omega arith))
+returns-3 c = (λ d. absurd (omega (arith, d .0, d .1, d .2, d .3)), λ n. refl)
 
 returns-4 : tie.Need-returns-4
-returns-4 c = (λ h k i j. absurd (omega arith))
+returns-4 c = (λ d. absurd (omega (arith, d .0, d .1, d .2, d .3)), λ n. refl)
 
 meet-requires : tie.Need-meet-requires
 meet-requires c κs = search needs
 
 returns-5 : tie.Need-returns-5
-returns-5 c = search needs
+returns-5 c = (λ d. c .meet .ensures, λ n. absurd (n (search needs, search needs, search needs, search needs)))
 
 pub relation-meet-spec : {M : Type 1} → statement M
 relation-meet-spec =

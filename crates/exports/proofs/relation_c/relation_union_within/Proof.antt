@@ -1,6 +1,7 @@
 -- `exports::relation_c::relation_union_within` meets its contract.
 -- Assumes nothing.
 use Prim.Native.Nat.{ℕ, _+_, _-_, _*_, _≤_, _<_}
+use mathlib.Core.Path.{refl}
 use lib.ListN.{length}
 use native.Mathlib.Omega.{arith}
 use borrow.Author.Needs.{needs}
@@ -8,13 +9,13 @@ use Rattle.exports.proofs.relation_c.relation_union_within.Statement.{s
 use Rattle.exports.proofs.relation_c.relation_union_within.Tie as tie
 
 returns : tie.Need-returns
-returns c = (λ h i j. absurd (omega arith))
+returns c = (λ h i j. absurd (omega arith), λ n. refl)
 
 returns-2 : tie.Need-returns-2
-returns-2 c = (λ h i j. absurd (omega arith))
+returns-2 c = (λ h i j. absurd (omega arith), λ n. refl)
 
 returns-3 : tie.Need-returns-3
-returns-3 c = (λ h i j. absurd (omega arith))
+returns-3 c = (λ h i j. absurd (omega arith), λ n. refl)
 
 union-within-requires : tie.Need-union-within-requires
 union-within-requires c κs = search needs
@@ -23,7 +24,7 @@ same-length : tie.Need-same-length
 same-length c = search needs
 
 returns-4 : tie.Need-returns-4
-returns-4 c = search needs
+returns-4 c = (search needs, λ n. absurd (n (search needs, search needs, search needs)))
 
 pub relation-union-within-spec : {M : Type 1} → statement M
 relation-union-within-spec =

@@ -1,0 +1,31 @@
+-- The text of `inside`, `touching` and `apart`: how many pieces, then one number a line. Assumes nothing.
+use Prim.Native.Nat.{ℕ}
+use mathlib.Core.List.{List, [], _∷_, _++_}
+use lib.ListN.{length, getD, replicate}
+use Rattle.catalog.specs.Lent.{Lent, lent}
+use Rattle.catalog.specs.Call.{listOf, outcome}
+use Rattle.catalog.specs.declared.Listing.{Listing}
+use Rattle.catalog.specs.declared.Listing.the-variants.{Written, Refused}
+use Rattle.pages.specs.Text.{ascii, field, line}
+use Rattle.pages.specs.Decimal.{decimal}
+use Rattle.pages.specs.Lines.{lines}
+use Rattle.sentences.specs.Refusals.{refused}
+
+-- the first n numbers of a list, one a line
+unfoldable pub numberLines : List ℕ → ℕ → List ℕ
+numberLines l n = lines (λ i. field (decimal (getD l i 0)) 10) n
+
+unfoldable pub listLines : List ℕ → List ℕ
+listLines l = line (ascii "PIECES" ∷ decimal (length l) ∷ []) ++ numberLines l (length l)
+
+-- the buffers that are lent to the catalog
+unfoldable pub zeros : Lent
+zeros = lent (replicate 2560 0) (replicate 1280 0) (replicate 8192 0) (replicate 2048 0) (replicate 2048 0) (replicate 16384 0) (replicate 16384 0) (replicate 16384 0)
+
+-- of what a catalog for kind k and piece g comes to, where each record has its line of a text
+unfoldable pub textOf : (book lines : List ℕ) → ℕ → ℕ → Listing → List ℕ
+textOf book lines k g (Written c) = listLines (listOf book (c .pieces) k g)
+textOf book lines k g (Refused r i) = refused r i lines []
+
+unfoldable pub listText : (book lines : List ℕ) → ℕ → ℕ → List ℕ
+listText book lines k g = textOf book lines k g (outcome book k g zeros)

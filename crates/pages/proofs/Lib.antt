@@ -1,0 +1,5 @@
+pub mod Decimals
+pub mod Puts
+pub mod Entries
+pub mod Lined
+pub mod Writing

@@ -1,0 +1,25 @@
+-- `text::showing::show_book` meets its contract. Assumes nothing.
+use borrow.Author.Needs.{needs}
+use Rattle.pages.proofs.Writing.{write-page}
+use Rattle.text.proofs.showing.show_book.Statement.{statement}
+use Rattle.text.proofs.showing.show_book.Tie as tie
+
+slice-aggregate-put-records : tie.Need-slice-aggregate-put-records
+slice-aggregate-put-records c = search needs
+
+put-records-requires : tie.Need-put-records-requires
+put-records-requires c κs = search needs
+
+finish-requires : tie.Need-finish-requires
+finish-requires c κs = search needs
+
+same-length : tie.Need-same-length
+same-length c = search needs
+
+returns : tie.Need-returns
+returns c = write-page _ (c .before .before .before .put-records .ensures) (c .finish .ensures)
+
+pub show-book-spec : {M : Type 1} → statement M
+show-book-spec =
+    tie.close
+    (tie.spec slice-aggregate-put-records put-records-requires finish-requires same-length returns)

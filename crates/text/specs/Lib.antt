@@ -1,0 +1,17 @@
+pub mod Tests
+pub mod Runs
+pub mod Word
+pub mod Number
+pub mod Names
+pub mod Reason
+pub mod Line
+pub mod Lines
+pub mod Entry
+pub mod Text
+pub mod Either
+pub mod Lent
+pub mod Place
+pub mod Shown
+pub mod RoundTrip
+pub mod Examples
+pub mod Reading

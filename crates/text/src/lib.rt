@@ -1,0 +1,47 @@
+// Text read into records, claims or the numbers of a log, and a book shown as text.
+ghost use mathlib.Core.Path.{_≡_};
+ghost use Rattle.text.specs.Reason.{reasonNumber};
+ghost use Rattle.text.specs.Either.{isText};
+
+pub mod lines;
+pub mod reading;
+pub mod showing;
+pub mod words;
+
+// What the lines of a text are.
+pub enum Form {
+    Records,
+    Claims,
+    Log,
+}
+
+// Why a text cannot be read.
+pub enum Reason {
+    NotKind,
+    NotNumber,
+    NotChoice,
+    WordTooMany,
+    TooLong,
+}
+
+pub fn reason_number(reason: Reason) -> u8
+    ensures { λ n. ⌜ n ≡ reasonNumber reason ⌝ }
+{
+    match reason {
+        Reason::NotKind => 1,
+        Reason::NotNumber => 2,
+        Reason::NotChoice => 3,
+        Reason::WordTooMany => 4,
+        Reason::TooLong => 5,
+    }
+}
+
+// Whether a book or a list of claims is text; if not, it is records.
+pub fn is_text(s: &[u8]) -> bool
+    ensures { λ r. ⌜ r ≡ isText (now (s .entry)) ⌝ }
+{
+    if s.len() == 0 {
+        return false;
+    }
+    9 <= s[0]
+}
