@@ -27,7 +27,7 @@ use Rattle.answers.specs.Judging.{afterClaims, afterBook, rowsCheck, Exa
 use Rattle.outcomes.specs.declared.Outcome.{Outcome}
 use Rattle.outcomes.specs.declared.Outcome.the-variants.{Refused}
 use Rattle.outcomes.proofs.Outcomes.{Other, book-other, claims-other, Told, runs-told, passed-outcome}
-use Rattle.answering.proofs.Counts.{own-count}
+use Rattle.claims.proofs.Counts.{own-count}
 use Rattle.outcomes.proofs.Kept.{fitted, kept2, kept3, kept-place, kept-size}
 use Rattle.outcomes.proofs.Buffers.{cut, put-back, Long, left-back}
 

@@ -13,8 +13,8 @@ use Rattle.records.specs.Facts.{facts}
 use Rattle.records.specs.Check.{bookCheck}
 use Rattle.records.specs.declared.BookCheck.the-variants as book
 use Rattle.groups.specs.Groups.{lies, same}
-use Rattle.opening.specs.PartIn.{partIn}
-use Rattle.settling.proofs.Settling.{settleable}
+use Rattle.records.specs.PartIn.{partIn}
+use Rattle.contradiction.proofs.SettlingLaws.{settleable}
 use Rattle.outcomes.specs.Call.{pairsOf}
 use Rattle.answers.specs.Circles.{Circled, CirclesDerived}
 

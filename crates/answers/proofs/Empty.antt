@@ -33,11 +33,11 @@ use Rattle.index.specs.Index.{parenthesesOf, visitsOf}
 use Rattle.groups.specs.Groups as groups
 use Rattle.groups.specs.Index.{edges, bookParens, bookVisits, bookPlaces}
 use Rattle.lists.specs.Tally.{tally}
-use Rattle.opening.specs.PartIn.{partIn}
+use Rattle.records.specs.PartIn.{partIn}
 use Rattle.parentheses.specs.Forest.{enc}
 use Rattle.parentheses.specs.Padded.{padded}
 use Rattle.outcomes.specs.Lent.{Lent, lent, shortLent}
-use Rattle.answering.specs.Claimed.{claimed, answersTo}
+use Rattle.records.specs.Claimed.{claimed, answersTo}
 use Rattle.outcomes.specs.Call.{byRuns, byClaims, byBook, outcome, indexed, left}
 use Rattle.outcomes.specs.Outcome.{number}
 use Rattle.outcomes.specs.declared.Outcome.{Outcome}

@@ -29,8 +29,8 @@ use Rattle.index.specs.Parts.{isShadow, shadows}
 use Rattle.index.specs.Index.{visitsOf}
 use Rattle.groups.specs.Groups as groups
 use Rattle.groups.specs.Index.{edges, bookVisits}
-use Rattle.opening.specs.PartIn.{partIn}
-use Rattle.answering.specs.Claimed.{claimed, answersTo}
+use Rattle.records.specs.PartIn.{partIn}
+use Rattle.records.specs.Claimed.{claimed, answersTo}
 use Rattle.outcomes.specs.Lent.{Lent, shortLent}
 use Rattle.outcomes.specs.Call.{byRuns, byClaims, byBook, outcome, indexed, cleared, left}
 use Rattle.outcomes.specs.Fresh.{freshCall}

@@ -16,17 +16,17 @@ use Rattle.records.specs.declared.Refusal.the-variants.{Contradiction}
 use Rattle.groups.specs.Index.{bookParens, bookVisits, bookPlaces, BookIndex}
 use Rattle.parentheses.specs.Padded.{padded}
 use Rattle.index.specs.Parts as on
-use Rattle.opening.specs.Opened.{Opened}
-use Rattle.opening.specs.Settleable.{Settleable}
-use Rattle.settling.specs.Settled.{Clashed}
-use Rattle.settling.proofs.Settling.{settleable-in, free-beyond, clashed-within}
+use Rattle.contradiction.specs.Opened.{Opened}
+use Rattle.contradiction.specs.Settleable.{Settleable}
+use Rattle.contradiction.specs.Settled.{Clashed}
+use Rattle.contradiction.proofs.SettlingLaws.{settleable-in, free-beyond, clashed-within}
 use Rattle.outcomes.specs.Lent.{Lent, lent}
-use Rattle.answering.specs.Claimed.{answersTo}
+use Rattle.records.specs.Claimed.{answersTo}
 use Rattle.outcomes.specs.Call.{pairsOf, byRuns, indexed, cleared, left}
-use Rattle.storing.specs.Counted.{Counted}
+use Rattle.closure.specs.Counted.{Counted}
 use Rattle.answers.specs.Judging.{Cleared, Exact, Judged}
 use Rattle.outcomes.specs.declared.Outcome.the-variants.{Accepted, Refused}
-use Rattle.answering.proofs.Counts.{counted-settleable, counted-unmarked}
+use Rattle.claims.proofs.Counts.{counted-settleable, counted-unmarked}
 use Rattle.outcomes.proofs.Buffers.{front-whole, packed-long, answers-long, same-lent}
 
 module _ (s : List ℕ) (n : ℕ) (sound : Counted s n) where

@@ -17,7 +17,7 @@ use Rattle.records.specs.declared.BookCheck.the-variants as book
 use Rattle.records.specs.declared.ClaimsCheck.{ClaimsCheck}
 use Rattle.records.specs.declared.ClaimsCheck.the-variants as claims
 use Rattle.records.proofs.Rows.{refused-positive}
-use Rattle.checks.specs.CheckNumbers.{bookNumber, bookPlace, bookPieces, claimsNumber, claimsPlace}
+use Rattle.records.specs.CheckNumbers.{bookNumber, bookPlace, bookPieces, claimsNumber, claimsPlace}
 use Rattle.index.specs.Parts as on
 use Rattle.groups.specs.Index.{bookVisits}
 use Rattle.outcomes.specs.Lent.{Lent, shortLent}

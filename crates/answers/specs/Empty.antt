@@ -7,7 +7,7 @@ use lib.ListN.{replicate}
 use Rattle.lists.specs.Front.{front}
 use Rattle.records.specs.Check.{claimsCheck}
 use Rattle.records.specs.declared.ClaimsCheck.the-variants as claims
-use Rattle.answering.specs.Claimed.{answersTo}
+use Rattle.records.specs.Claimed.{answersTo}
 use Rattle.outcomes.specs.Lent.{Lent, lent, shortLent}
 use Rattle.outcomes.specs.Call.{outcome, left}
 use Rattle.outcomes.specs.Outcome.{number}

@@ -9,7 +9,7 @@ use Rattle.records.specs.declared.BookCheck.{BookCheck}
 use Rattle.records.specs.declared.BookCheck.the-variants as book
 use Rattle.records.specs.declared.ClaimsCheck.{ClaimsCheck}
 use Rattle.records.specs.declared.ClaimsCheck.the-variants as claims
-use Rattle.storing.specs.Counted.{Counted}
+use Rattle.closure.specs.Counted.{Counted}
 use Rattle.outcomes.specs.Lent.{Lent}
 use Rattle.outcomes.specs.Call.{byRuns, left}
 use Rattle.outcomes.specs.declared.Outcome.{Outcome}

@@ -4,7 +4,7 @@ use mathlib.Core.Path.{_≡_}
 use mathlib.Core.Bool.{false}
 use mathlib.Core.List.{List}
 use Rattle.records.specs.Check.{bookCheck, claimsCheck}
-use Rattle.checks.specs.CheckNumbers.{bookNumber, bookPlace, bookPieces, claimsNumber, claimsPlace}
+use Rattle.records.specs.CheckNumbers.{bookNumber, bookPlace, bookPieces, claimsNumber, claimsPlace}
 use Rattle.outcomes.specs.Lent.{Lent, shortLent}
 use Rattle.outcomes.specs.Call.{outcome}
 use Rattle.outcomes.specs.Outcome.{number, place}

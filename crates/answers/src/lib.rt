@@ -11,11 +11,11 @@ ghost use Rattle.outcomes.specs.Outcome.{number, place, nodeCount};
 ghost use Rattle.outcomes.specs.Demands.{Demand2, Demand3, Contradicted};
 ghost use Rattle.outcomes.specs.Fitting.{Fitting};
 ghost use Rattle.answers.specs.Judging.{rowsCheck, Cleared, Exact, Judged};
+use contradiction::Settled;
 use outcomes::Outcome;
 use records::BookCheck;
 use records::ClaimsCheck;
 use records::Refusal;
-use settling::Settled;
 
 // Zeroes the four parts of the index.
 pub fn clear_index(parens: &mut [u8], marks: &mut [u8], shadows: &mut [u16], places: &mut [u16])
@@ -49,10 +49,10 @@ pub fn judge_in(
     ensures { λ r. ⌜ Judged (now (book .entry)) n (now (claims .entry)) (lent (now (parens .entry)) (now (marks .entry)) (now (shadows .entry)) (now (places .entry)) (now (answers .entry))) r (lent (now (parens .exit)) (now (marks .exit)) (now (shadows .exit)) (now (places .exit)) (now (answers .exit))) ⌝ }
 {
     let mut voids = [0u64; 32];
-    storing::marking::mark_voids(book, &mut voids);
+    closure::marking::mark_voids(book, &mut voids);
     let mut order = [0u16; 2048];
     let mut lead = [0u16; 2048];
-    let settled = settling::settle(
+    let settled = contradiction::settle(
         book,
         n,
         &voids,
@@ -72,7 +72,7 @@ pub fn judge_in(
             Outcome::Refused(Refusal::Contradiction, place)
         }
         Settled::Free(nodes, shadowed) => {
-            answering::answer_all(
+            claims::answer_all(
                 book,
                 n,
                 &voids,
@@ -122,11 +122,11 @@ pub fn short(
 fn check_rows(book: &[u8], claims: &[u8]) -> BookCheck
     ensures { λ r. ⌜ r ≡ rowsCheck (now (book .entry)) (now (claims .entry)) ⌝ }
 {
-    let checked = checks::check_book(book);
+    let checked = records::check_book(book);
     match checked {
         BookCheck::Refused(refusal, place) => BookCheck::Refused(refusal, place),
         BookCheck::Accepted(n) => {
-            let fit = checks::check_claims(claims, n);
+            let fit = records::check_claims(claims, n);
             match fit {
                 ClaimsCheck::Refused(refusal, place) => BookCheck::Refused(refusal, place),
                 ClaimsCheck::Accepted => BookCheck::Accepted(n),

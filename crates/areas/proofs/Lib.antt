@@ -7,3 +7,6 @@ pub mod Crosses
 pub mod Sources
 pub mod Sorted
 pub mod Session
+pub mod Subtrees
+pub mod Searches
+pub mod Filled

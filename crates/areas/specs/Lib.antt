@@ -1,2 +1,5 @@
 pub mod Area
 pub mod Tables
+pub mod Between
+pub mod Subtree
+pub mod Question

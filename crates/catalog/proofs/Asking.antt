@@ -18,8 +18,8 @@ use Rattle.records.specs.Check.{bookCheck}
 use Rattle.records.specs.declared.BookCheck.the-variants as book
 use Rattle.lists.specs.Passing.{passing}
 use Rattle.areas.specs.Area.{unorderedKind, rowOf, columnOf, numberOf, stored, pairs, filled}
-use Rattle.ranges.specs.Between.{within, inside, between}
-use Rattle.ranges.specs.Question.{Answers, storedBetween}
+use Rattle.areas.specs.Between.{within, inside, between}
+use Rattle.areas.specs.Question.{Answers, storedBetween}
 use Rattle.catalog.specs.Call.{placesOf, areaOf}
 use Rattle.catalog.specs.Questions.{AnswersStored}
 use Rattle.lists.proofs.Passed.{passing-at, passing-back, passing-less}

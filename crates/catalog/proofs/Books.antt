@@ -26,9 +26,9 @@ use Rattle.index.specs.Tree.{visits, whole}
 use Rattle.index.specs.Parts as on
 use Rattle.index.proofs.Packing.{padded-at}
 use Rattle.index.proofs.Standing.{place-small}
-use Rattle.storing.specs.Bounded.{Bounded}
-use Rattle.opening.proofs.GroupIndex as of
-use Rattle.settling.proofs.Settling.{settleable, settled-room}
+use Rattle.closure.specs.Bounded.{Bounded}
+use Rattle.contradiction.proofs.GroupIndex as of
+use Rattle.contradiction.proofs.SettlingLaws.{settleable, settled-room}
 use Rattle.outcomes.specs.Call.{pairsOf}
 use Rattle.lists.specs.Passing.{passing}
 use Rattle.areas.specs.Area.{pairs, filled}

@@ -18,7 +18,7 @@ use Rattle.records.specs.declared.BookCheck.the-variants as book
 use Rattle.records.specs.declared.ClaimsCheck.the-variants as claims
 use Rattle.outcomes.specs.Lent.{shortLent}
 use Rattle.outcomes.specs.Lent as lending
-use Rattle.answering.specs.Claimed.{answersTo}
+use Rattle.records.specs.Claimed.{answersTo}
 use Rattle.outcomes.specs.Call.{byRuns, Passed}
 use Rattle.outcomes.specs.Call as call
 use Rattle.answers.specs.Judging as judging

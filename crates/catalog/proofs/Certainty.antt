@@ -25,7 +25,7 @@ use Rattle.records.specs.declared.BookCheck.{BookCheck}
 use Rattle.records.specs.declared.BookCheck.the-variants as book
 use Rattle.records.proofs.Rows.{refused-positive}
 use Rattle.records.proofs.Accepted.{accepted}
-use Rattle.settling.proofs.Settling.{settleable, whole-unmarked, beyond-free, free-consistent}
+use Rattle.contradiction.proofs.SettlingLaws.{settleable, whole-unmarked, beyond-free, free-consistent}
 use Rattle.outcomes.specs.Call as answers
 use Rattle.catalog.specs.Lent.{Lent}
 use Rattle.catalog.specs.Outcome.{number}
@@ -34,7 +34,7 @@ use Rattle.catalog.specs.Certain.{Certain, AllCertain}
 use Rattle.catalog.specs.Filling.{Asked}
 use Rattle.catalog.specs.declared.Listing.{Listing}
 use Rattle.catalog.proofs.Calls.{asked-by}
-use Rattle.certain.proofs.Telling.{claim-within}
+use Rattle.catalog.proofs.Telling.{claim-within}
 use Rattle.lists.proofs.Passed.{passing-at, passing-back, passing-less, passing-rises}
 
 -- a row that does not refuse

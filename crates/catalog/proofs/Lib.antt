@@ -1,3 +1,4 @@
+pub mod Telling
 pub mod Books
 pub mod Calls
 pub mod Asking

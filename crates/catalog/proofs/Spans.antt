@@ -11,7 +11,7 @@ use Rattle.lists.proofs.Tabs.{tab-at}
 use Rattle.records.specs.Facts.{facts}
 use Rattle.records.specs.Check.{bookCheck}
 use Rattle.records.specs.declared.BookCheck.the-variants as book
-use Rattle.packed.specs.Bits.{bits}
+use Rattle.parentheses.specs.Bits.{bits}
 use Rattle.parentheses.specs.Padded.{padded}
 use Rattle.parentheses.specs.Forest.{size, children}
 use Rattle.parentheses.specs.Subtree.{after}
@@ -25,15 +25,15 @@ use Rattle.index.specs.Parts as on
 use Rattle.index.proofs.Packing.{packed-is, padded-at}
 use Rattle.index.proofs.Ranges.{ones-parens}
 use Rattle.index.proofs.Standing.{place-small}
-use Rattle.opening.proofs.GroupIndex as of
-use Rattle.settling.proofs.Settling.{settleable, settled-room}
+use Rattle.contradiction.proofs.GroupIndex as of
+use Rattle.contradiction.proofs.SettlingLaws.{settleable, settled-room}
 use Rattle.outcomes.specs.Call.{pairsOf}
 use Rattle.outcomes.proofs.Buffers.{packed-long}
 use Rattle.catalog.specs.Call.{placesOf}
-use Rattle.ranges.specs.Subtree.{endOf, rangeFrom, rangeTo, Spanned}
+use Rattle.areas.specs.Subtree.{endOf, rangeFrom, rangeTo, Spanned}
 use Rattle.catalog.specs.Questions.{SubtreesSpanned}
 use Rattle.catalog.proofs.Books.{places-long}
-use Rattle.ranges.proofs.Subtrees.{end-there, range-some}
+use Rattle.areas.proofs.Subtrees.{end-there, range-some}
 
 -- what is written at the front of a buffer
 front-long : (k : ℕ) (xs old : List ℕ) → length xs ≡ k → k ≤ length (front xs old)

@@ -13,10 +13,10 @@ use Rattle.records.specs.declared.Refusal.{Refusal}
 use Rattle.records.specs.declared.Refusal.the-variants.{ClaimFormat, ClaimPiece}
 use Rattle.records.specs.declared.BookCheck.{BookCheck}
 use Rattle.records.specs.declared.BookCheck.the-variants as book
-use Rattle.storing.specs.Void.{voidOf}
-use Rattle.storing.specs.Closed.{Holds, partBit, towardBit}
+use Rattle.closure.specs.Void.{voidOf}
+use Rattle.closure.specs.Closed.{Holds, partBit, towardBit}
 use Rattle.outcomes.specs.Call.{byRuns}
-use Rattle.storing.specs.Counted.{MarksOf}
+use Rattle.closure.specs.Counted.{MarksOf}
 use Rattle.answers.specs.Judging.{Exact}
 use Rattle.areas.specs.Area.{filled}
 use Rattle.catalog.specs.Lent.{Lent}

@@ -1,3 +1,4 @@
+pub mod Tells
 pub mod Lent
 pub mod Call
 pub mod Filling

@@ -12,8 +12,8 @@ use Rattle.index.specs.Parts as on
 use Rattle.groups.specs.Groups.{number, groups}
 use Rattle.groups.specs.Index.{edges, bookParens}
 use Rattle.areas.specs.Area.{unorderedKind, filled}
-use Rattle.ranges.specs.Question.{Answers, storedBetween}
-use Rattle.ranges.specs.Subtree.{rangeFrom, rangeTo, Spanned}
+use Rattle.areas.specs.Question.{Answers, storedBetween}
+use Rattle.areas.specs.Subtree.{rangeFrom, rangeTo, Spanned}
 use Rattle.outcomes.specs.Call.{pairsOf}
 use Rattle.catalog.specs.Call.{placesOf, areaOf}
 

@@ -12,6 +12,8 @@ ghost use Rattle.catalog.specs.Filling.{asked, Roomy, Asked, Settled, Fi
 use records::BookCheck;
 use records::Refusal;
 
+pub mod certain;
+
 // The counts of pieces, nodes, shadows and listed pieces, and of the pairs of each area.
 pub struct Counts {
     pub pieces: usize,
@@ -87,10 +89,10 @@ fn judge(
     ensures { λ r. ⌜ Judged (now (book .entry)) kind g n (lent (now (parens .entry)) (now (marks .entry)) (now (shadows .entry)) (now (places .entry)) (now (list .entry)) (now (meets .entry)) (now (apart .entry)) (now (notpart .entry))) r (lent (now (parens .exit)) (now (marks .exit)) (now (shadows .exit)) (now (places .exit)) (now (list .exit)) (now (meets .exit)) (now (apart .exit)) (now (notpart .exit))) ⌝ }
 {
     let mut voids = [0u64; 32];
-    storing::marking::mark_voids(book, &mut voids);
+    closure::marking::mark_voids(book, &mut voids);
     let mut order = [0u16; 2048];
     let mut lead = [0u16; 2048];
-    let settled = settling::settle(
+    let settled = contradiction::settle(
         book,
         n,
         &voids,
@@ -105,11 +107,11 @@ fn judge(
         places,
     );
     match settled {
-        settling::Settled::Clash(place) => {
+        contradiction::Settled::Clash(place) => {
             answers::clear_index(parens, marks, shadows, places);
             Listing::Refused(Refusal::Contradiction, place)
         }
-        settling::Settled::Free(nodes, shadowed) => {
+        contradiction::Settled::Free(nodes, shadowed) => {
             let counts = fill(
                 book,
                 n,
@@ -136,7 +138,7 @@ fn judge(
 fn check_asked(book: &[u8], kind: usize, g: usize) -> BookCheck
     ensures { λ r. ⌜ r ≡ asked kind g (bookCheck (now (book .entry))) ⌝ }
 {
-    let checked = checks::check_book(book);
+    let checked = records::check_book(book);
     match checked {
         BookCheck::Refused(refusal, place) => BookCheck::Refused(refusal, place),
         BookCheck::Accepted(n) => {

@@ -19,7 +19,7 @@ use Rattle.outcomes.specs.Call.{byClaims}
 use Rattle.outcomes.specs.One.{refuseIf, byOne}
 use Rattle.outcomes.specs.declared.Outcome.{Outcome}
 use Rattle.outcomes.specs.declared.Outcome.the-variants as call
-use Rattle.passing.specs.Call.{asked, passes}
+use Rattle.chain_check.specs.Call.{asked, passes}
 use Rattle.chain_writing.specs.Call.{replyOf, reply, shown, Written}
 use Rattle.chain_writing.specs.declared.Reply.{Reply}
 use Rattle.chain_writing.specs.declared.Reply.the-variants.{Answered, Refused}

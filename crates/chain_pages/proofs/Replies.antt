@@ -9,11 +9,11 @@ use Rattle.records.specs.Record.{recordAt}
 use Rattle.records.specs.declared.Refusal.{Refusal}
 use Rattle.verdicts.specs.declared.Answer.{Answer}
 use Rattle.verdicts.specs.Answers.{answerByte}
-use Rattle.steps.specs.Step.{steps}
+use Rattle.chain_format.specs.Step.{steps}
 use Rattle.sentences.specs.Refusals as line
-use Rattle.chain_lines.specs.StepLine.{stepLines}
-use Rattle.chain_lines.specs.AnswerLine.{answerLine}
-use Rattle.chain_lines.proofs.Rooms.{steps-width, answer-line-width}
+use Rattle.chain_pages.specs.StepLine.{stepLines}
+use Rattle.chain_pages.specs.AnswerLine.{answerLine}
+use Rattle.chain_pages.proofs.Rooms.{steps-width, answer-line-width}
 use Rattle.chain_writing.specs.declared.Reply.{Reply}
 use Rattle.chain_writing.specs.declared.Reply.the-variants.{Answered, Refused}
 use Rattle.chain_pages.specs.WhyText.{whyText}

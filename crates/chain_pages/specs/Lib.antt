@@ -1,2 +1,4 @@
+pub mod StepLine
+pub mod AnswerLine
 pub mod WhyText
 pub mod Why

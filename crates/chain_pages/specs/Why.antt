@@ -6,7 +6,7 @@ use Prim.Native.Nat.{ℕ, _≤_, _<_}
 use lib.ListN.{length, getD}
 use Rattle.records.specs.Record.{recordAt}
 use Rattle.verdicts.specs.declared.Answer.{Answer}
-use Rattle.passing.specs.Call.{asked, passes}
+use Rattle.chain_check.specs.Call.{asked, passes}
 use Rattle.chain_writing.specs.Call.{replyOf, shown}
 use Rattle.chain_writing.specs.declared.Reply.{Reply}
 use Rattle.chain_writing.specs.declared.Reply.the-variants.{Answered}

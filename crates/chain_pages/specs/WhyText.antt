@@ -3,10 +3,10 @@ use Prim.Native.Nat.{ℕ}
 use mathlib.Core.List.{List, [], _++_}
 use Rattle.records.specs.declared.Record.{Record}
 use Rattle.verdicts.specs.Answers.{answerByte}
-use Rattle.steps.specs.Step.{steps}
+use Rattle.chain_format.specs.Step.{steps}
 use Rattle.sentences.specs.Refusals.{refused}
-use Rattle.chain_lines.specs.StepLine.{stepLines}
-use Rattle.chain_lines.specs.AnswerLine.{answerLine}
+use Rattle.chain_pages.specs.StepLine.{stepLines}
+use Rattle.chain_pages.specs.AnswerLine.{answerLine}
 use Rattle.chain_writing.specs.declared.Reply.{Reply}
 use Rattle.chain_writing.specs.declared.Reply.the-variants.{Answered, Refused}
 

@@ -11,6 +11,8 @@ use chain_writing::Reply;
 use pages::Written;
 use verdicts::Answer;
 
+pub mod lines;
+
 // Document 01's byte of an answer.
 fn byte_of(answer: Answer) -> u8
     ensures { λ r. ⌜ r ≡ answerByte answer ⌝ }
@@ -39,8 +41,8 @@ fn put_why(page: &mut [u8], claim: &[u8], lines: &[u32], reply: Reply, c: &[u8])
         ),
         Reply::Answered(answer) => {
             let r = records::record_at(claim, 0);
-            let at = chain_lines::put_answered(page, 0, r, byte_of(answer));
-            chain_lines::put_steps(page, at, c)
+            let at = lines::put_answered(page, 0, r, byte_of(answer));
+            lines::put_steps(page, at, c)
         }
     }
 }

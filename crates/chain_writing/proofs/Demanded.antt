@@ -12,15 +12,15 @@ use Rattle.records.specs.Pieces.{pieceCount}
 use Rattle.records.specs.declared.Refusal.the-variants.{ShortSteps}
 use Rattle.records.proofs.Accepted.{accepted}
 use Rattle.records.proofs.Rows.{refused-positive}
-use Rattle.answering.specs.Claimed.{claimed, pickedFacts}
-use Rattle.answering.proofs.Counts.{own-count}
+use Rattle.records.specs.Claimed.{claimed, pickedFacts}
+use Rattle.claims.proofs.Counts.{own-count}
 use Rattle.outcomes.specs.Demands.{Derived, Entailed}
 use Rattle.outcomes.specs.One.{refuseIf}
 use Rattle.outcomes.specs.declared.Outcome.{Outcome}
 use Rattle.outcomes.specs.declared.Outcome.the-variants as call
 use Rattle.outcomes.proofs.Counts.{derived, entailed}
-use Rattle.passing.specs.Call.{asked}
-use Rattle.passing.proofs.Asking.{asked-passed, runs-consistent}
+use Rattle.chain_check.specs.Call.{asked}
+use Rattle.chain_check.proofs.Asking.{asked-passed, runs-consistent}
 use Rattle.chain_writing.specs.Call.{answerTo, replyOf, reply}
 use Rattle.chain_writing.specs.ReplyNumbers.{number, answer}
 use Rattle.chain_writing.specs.ReplyDemands.{ReplyDemanded}

@@ -28,35 +28,35 @@ use Rattle.records.specs.Kept.{picked}
 use Rattle.records.specs.Marked.{marked}
 use Rattle.records.specs.Check.{bookCheck, claimsCheck}
 use Rattle.records.proofs.Accepted.{accepted, accepted-claims, says-left, says-right}
-use Rattle.storing.specs.Void.{voidOf}
-use Rattle.storing.specs.Stored.{edgeBit}
-use Rattle.storing.specs.Closed.{Holds}
-use Rattle.opening.specs.Opened.{Opened}
-use Rattle.settling.specs.Settled.{Clashed}
-use Rattle.settling.proofs.Settling.{settleable}
+use Rattle.closure.specs.Void.{voidOf}
+use Rattle.closure.specs.Stored.{edgeBit}
+use Rattle.closure.specs.Closed.{Holds}
+use Rattle.contradiction.specs.Opened.{Opened}
+use Rattle.contradiction.specs.Settled.{Clashed}
+use Rattle.contradiction.proofs.SettlingLaws.{settleable}
 use Rattle.verdicts.specs.Answers.{answerByte}
 use Rattle.verdicts.specs.declared.Answer.{Answer}
 use Rattle.verdicts.specs.declared.Answer.the-variants.{Follows, Denied, Open}
-use Rattle.storing.specs.Counted.{MarksOf}
-use Rattle.answering.proofs.Counts.{own-count}
+use Rattle.closure.specs.Counted.{MarksOf}
+use Rattle.claims.proofs.Counts.{own-count}
 use Rattle.outcomes.specs.Call.{byRuns}
 use Rattle.outcomes.specs.One.{refuseIf}
 use Rattle.outcomes.specs.declared.Outcome.the-variants as call
 use Rattle.answers.proofs.Judges.{refuses, accepts}
-use Rattle.steps.specs.declared.Step.{Step}
-use Rattle.steps.specs.Step.{stepAt, steps, showing, shows}
-use Rattle.steps.specs.Citing.{Cited, citing}
-use Rattle.chain_steps.specs.Chain.{allOk, concludes, chainOk}
-use Rattle.chain_steps.specs.Twice.{alike, Differ, NoneTwice}
-use Rattle.passing.specs.Call.{asked, passes}
-use Rattle.chain_steps.proofs.Kept.{step-kept, all-kept}
-use Rattle.chain_steps.proofs.Passing.{all-none}
-use Rattle.passing.proofs.Asking.{asked-refused, asked-misfit, asked-claim, asked-runs, passes-chain}
+use Rattle.chain_format.specs.declared.steps.Step.{Step}
+use Rattle.chain_format.specs.Step.{stepAt, steps, showing, shows}
+use Rattle.chain_format.specs.Citing.{Cited, citing}
+use Rattle.chain_format.specs.Chain.{allOk, concludes, chainOk}
+use Rattle.chain_format.specs.Twice.{alike, Differ, NoneTwice}
+use Rattle.chain_check.specs.Call.{asked, passes}
+use Rattle.chain_format.proofs.Kept.{step-kept, all-kept}
+use Rattle.chain_format.proofs.Passing.{all-none}
+use Rattle.chain_check.proofs.Asking.{asked-refused, asked-misfit, asked-claim, asked-runs, passes-chain}
 use Rattle.chain_writing.specs.declared.Reply.{Reply}
 use Rattle.chain_writing.specs.declared.Reply.the-variants.{Answered, Refused}
 use Rattle.chain_writing.specs.declared.Chain.{Chain}
-use Rattle.part_steps.specs.Written.{Edited}
-use Rattle.showing.specs.Shown.{Writes}
+use Rattle.derivations.specs.Written.{Edited}
+use Rattle.derivations.specs.Shown.{Writes}
 use Rattle.derivations.specs.Found.{Ground, Chained}
 use Rattle.chain_writing.specs.Call.{answerFor, answerTo, replyOf, reply, shown, Steps, Written, Answering, Judged}
 

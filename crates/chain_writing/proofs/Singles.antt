@@ -21,14 +21,14 @@ use Rattle.records.specs.Marked.{marked}
 use Rattle.records.specs.Check.{bookCheck}
 use Rattle.records.proofs.Keeps.{picked-all}
 use Rattle.records.proofs.Accepted.{accepted, accepted-within, accepted-positive, says-kind, says-left, says-right}
-use Rattle.settling.proofs.Settling.{whole-unmarked}
+use Rattle.contradiction.proofs.SettlingLaws.{whole-unmarked}
 use Rattle.verdicts.specs.declared.Answer.the-variants.{Follows, Denied}
-use Rattle.steps.specs.Step.{shows}
-use Rattle.steps.specs.Citing.{citing}
-use Rattle.chain_steps.specs.Twice.{Differ}
-use Rattle.part_steps.specs.Written.{Put}
-use Rattle.showing.specs.Shown.{Writes}
-use Rattle.showing.proofs.Composed.{writes-one}
+use Rattle.chain_format.specs.Step.{shows}
+use Rattle.chain_format.specs.Citing.{citing}
+use Rattle.chain_format.specs.Twice.{Differ}
+use Rattle.derivations.specs.Written.{Put}
+use Rattle.derivations.specs.Shown.{Writes}
+use Rattle.derivations.proofs.Composed.{writes-one}
 use Rattle.derivations.specs.declared.search.Single.{Single}
 use Rattle.derivations.specs.Found.{Singly}
 use Rattle.derivations.proofs.Grounds.{written-follows}

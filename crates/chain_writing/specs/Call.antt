@@ -20,10 +20,10 @@ use Rattle.outcomes.specs.Call.{byRuns}
 use Rattle.outcomes.specs.One.{refuseIf}
 use Rattle.outcomes.specs.declared.Outcome.{Outcome}
 use Rattle.outcomes.specs.declared.Outcome.the-variants as call
-use Rattle.steps.specs.Citing.{citing}
-use Rattle.chain_steps.specs.Chain.{chainOk}
-use Rattle.chain_steps.specs.Twice.{NoneTwice}
-use Rattle.passing.specs.Call.{asked, passes}
+use Rattle.chain_format.specs.Citing.{citing}
+use Rattle.chain_format.specs.Chain.{chainOk}
+use Rattle.chain_format.specs.Twice.{NoneTwice}
+use Rattle.chain_check.specs.Call.{asked, passes}
 use Rattle.chain_writing.specs.declared.Reply.{Reply}
 use Rattle.chain_writing.specs.declared.Reply.the-variants.{Answered, Refused}
 use Rattle.chain_writing.specs.declared.Chain.{Chain}

@@ -4,7 +4,7 @@ use mathlib.Core.Path.{_≡_}
 use mathlib.Core.List.{List}
 use Rattle.records.specs.Marked.{marked}
 use Rattle.records.specs.Pieces.{pieceCount}
-use Rattle.answering.specs.Claimed.{claimed, pickedFacts}
+use Rattle.records.specs.Claimed.{claimed, pickedFacts}
 use Rattle.outcomes.specs.Demands.{Derived, Entailed}
 use Rattle.chain_writing.specs.Call.{reply}
 use Rattle.chain_writing.specs.ReplyNumbers.{number, answer}

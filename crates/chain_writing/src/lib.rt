@@ -10,17 +10,17 @@ ghost use Rattle.records.specs.Facts.{saying, facts};
 ghost use Rattle.records.specs.Marked.{marked};
 ghost use Rattle.records.specs.Check.{bookCheck};
 ghost use Rattle.records.specs.declared.BookCheck.the-variants as is;
-ghost use Rattle.storing.specs.Counted.{MarksOf};
+ghost use Rattle.closure.specs.Counted.{MarksOf};
 ghost use Rattle.derivations.specs.Found.{Ground};
 ghost use Rattle.chain_writing.specs.declared.Reply.the-variants.{Refused};
-ghost use Rattle.opening.specs.Opened.{Opened};
-ghost use Rattle.storing.specs.Void.{voidOf};
+ghost use Rattle.contradiction.specs.Opened.{Opened};
+ghost use Rattle.closure.specs.Void.{voidOf};
 ghost use Rattle.chain_writing.specs.Call.{Answering, Judged, Written};
+use contradiction::Settled;
 use records::BookCheck;
 use records::ClaimsCheck;
 use records::Record;
 use records::Refusal;
-use settling::Settled;
 use verdicts::Answer;
 
 // What the call says: the answer, or the refusal and its place.
@@ -92,7 +92,7 @@ fn write_whole(
     let single = derivations::search::find_single(n, claim, book, kind, a, b);
     if single.found {
         let step = single.step;
-        part_steps::writing::put_step(c, 0, step);
+        derivations::writing::put_step(c, 0, step);
         return Chain {
             reply: Reply::Answered(Answer::Follows),
             steps: 1,
@@ -101,13 +101,13 @@ fn write_whole(
     let other = derivations::search::find_single(n, claim, book, 5 - kind, a, b);
     if other.found {
         let step = other.step;
-        part_steps::writing::put_step(c, 0, step);
+        derivations::writing::put_step(c, 0, step);
         return Chain {
             reply: Reply::Answered(Answer::Denied),
             steps: 1,
         };
     }
-    storing::edges(book, n, e);
+    closure::edges(book, n, e);
     write_found(n, claim, book, voids, e, d, t, c)
 }
 
@@ -130,8 +130,8 @@ fn write_restricted(
     let mut lead = [0u16; 2048];
     let length = records::keep_sheets(book, &mut kept);
     let run = &kept[..length];
-    settling::settle_alone(run, n, voids, e, &mut order, &mut lead, d, t);
-    storing::edges(run, n, e);
+    contradiction::settle_alone(run, n, voids, e, &mut order, &mut lead, d, t);
+    closure::edges(run, n, e);
     write_found(n, claim, book, voids, e, d, t, c)
 }
 
@@ -158,10 +158,10 @@ fn judge(
     ensures { λ r. ⌜ Judged n claim (now (book .entry)) (now (c .entry)) r (now (c .exit)) ⌝ }
 {
     let mut voids = [0u64; 32];
-    storing::marking::mark_voids(book, &mut voids);
+    closure::marking::mark_voids(book, &mut voids);
     let mut order = [0u16; 2048];
     let mut lead = [0u16; 2048];
-    let settled = settling::settle_alone(book, n, &voids, e, &mut order, &mut lead, d, t);
+    let settled = contradiction::settle_alone(book, n, &voids, e, &mut order, &mut lead, d, t);
     match settled {
         Settled::Clash(place) => refuse(Refusal::Contradiction, place),
         Settled::Free(_, _) => {
@@ -187,14 +187,14 @@ pub fn write_chain(
     if steps.len() < 164000 {
         return refuse(Refusal::ShortSteps, 0);
     }
-    let checked = checks::check_book(book);
+    let checked = records::check_book(book);
     match checked {
         BookCheck::Refused(refusal, place) => refuse(refusal, place),
         BookCheck::Accepted(n) => {
             if claim.len() != 6 {
                 return refuse(Refusal::ClaimsLength, 0);
             }
-            let fit = checks::check_claims(claim, n);
+            let fit = records::check_claims(claim, n);
             match fit {
                 ClaimsCheck::Refused(refusal, place) => refuse(refusal, place),
                 ClaimsCheck::Accepted => judge(

@@ -10,18 +10,18 @@ use Rattle.records.specs.declared.Record.{Record}
 use Rattle.records.specs.Record.{recordAt}
 use Rattle.records.specs.Pieces.{stated, pieceCount}
 use Rattle.records.specs.Facts.{saying, facts}
-use Rattle.storing.specs.Void.{voidOf}
-use Rattle.storing.specs.Bounded.{Bounded}
-use Rattle.storing.specs.Stored.{edgeBit}
-use Rattle.storing.specs.Closed.{Holds}
-use Rattle.storing.specs.Counted.{MarksOf}
-use Rattle.opening.specs.Settleable.{Settleable}
-use Rattle.settling.specs.Settled.{Settles}
-use Rattle.settling.specs.declared.Settled.{Settled}
-use Rattle.steps.specs.declared.Step.{Step}
-use Rattle.steps.specs.Step.{stepAt, showing}
-use Rattle.steps.specs.Citing.{citing}
-use Rattle.chain_steps.specs.Chain.{chainOk}
+use Rattle.closure.specs.Void.{voidOf}
+use Rattle.closure.specs.Bounded.{Bounded}
+use Rattle.closure.specs.Stored.{edgeBit}
+use Rattle.closure.specs.Closed.{Holds}
+use Rattle.closure.specs.Counted.{MarksOf}
+use Rattle.contradiction.specs.Settleable.{Settleable}
+use Rattle.contradiction.specs.Settled.{Settles}
+use Rattle.contradiction.specs.declared.settling.Settled.{Settled}
+use Rattle.chain_format.specs.declared.steps.Step.{Step}
+use Rattle.chain_format.specs.Step.{stepAt, showing}
+use Rattle.chain_format.specs.Citing.{citing}
+use Rattle.chain_format.specs.Chain.{chainOk}
 use Rattle.chain_writing.proofs.Replies.{claim-ends}
 use Rattle.derivations.specs.Found.{Ground, Chained}
 use Rattle.clash.specs.Clash.{unrestricted, clashOk}

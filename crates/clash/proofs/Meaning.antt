@@ -21,11 +21,11 @@ use Rattle.records.proofs.Keeps.{picked-all}
 use Rattle.outcomes.specs.Fresh.{freshCall}
 use Rattle.outcomes.specs.declared.Outcome.{Outcome}
 use Rattle.outcomes.specs.declared.Outcome.the-variants.{Accepted, Refused}
-use Rattle.steps.specs.Step.{stepAt, steps, shows}
-use Rattle.chain_steps.specs.Chain.{chainOk, citedBy}
-use Rattle.chain_steps.proofs.Sound.{Given, shown-derives, cited-listed}
-use Rattle.chain_steps.proofs.Givens.{given}
-use Rattle.passing.proofs.Meaning.{chain-ok, cited-among}
+use Rattle.chain_format.specs.Step.{stepAt, steps, shows}
+use Rattle.chain_format.specs.Chain.{chainOk, citedBy}
+use Rattle.chain_format.proofs.Sound.{Given, shown-derives, cited-listed}
+use Rattle.chain_format.proofs.Givens.{given}
+use Rattle.chain_check.proofs.Meaning.{chain-ok, cited-among}
 use Rattle.clash.specs.Clash.{factAt, unrestricted, citedBefore, clashOk, passing, passes}
 use Rattle.clash.specs.Silenced.{silenced, Clashes}
 use Rattle.clash.specs.Derived.{citedIn, Contradicted, ClashDerives}

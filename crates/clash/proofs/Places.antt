@@ -27,27 +27,27 @@ use Rattle.records.specs.Marked.{marked}
 use Rattle.records.proofs.Runs.{run-records, run-record, fact-here, fact-from}
 use Rattle.records.proofs.Keeps.{picked-all}
 use Rattle.records.proofs.Accepted.{AcceptedBook, accepted}
-use Rattle.storing.specs.Void.{voidOf}
-use Rattle.storing.specs.Bounded.{Bounded}
-use Rattle.storing.specs.Stored.{edgeBit}
-use Rattle.storing.specs.Closed.{Holds}
-use Rattle.storing.specs.Counted.{MarksOf}
-use Rattle.opening.specs.Opened.{Opened}
-use Rattle.opening.specs.Settleable.{Settleable}
-use Rattle.opening.proofs.Halving.{run-bounded}
-use Rattle.settling.specs.Settled.{Clashed, Settles}
-use Rattle.settling.specs.Contradiction as row14
-use Rattle.settling.specs.declared.Settled.{Settled}
-use Rattle.settling.specs.declared.Settled.the-variants.{Free, Clash}
-use Rattle.settling.proofs.Settling.{settleable, whole-unmarked, clashed-first}
-use Rattle.answering.proofs.Counts.{own-count, counted-clashed}
+use Rattle.closure.specs.Void.{voidOf}
+use Rattle.closure.specs.Bounded.{Bounded}
+use Rattle.closure.specs.Stored.{edgeBit}
+use Rattle.closure.specs.Closed.{Holds}
+use Rattle.closure.specs.Counted.{MarksOf}
+use Rattle.contradiction.specs.Opened.{Opened}
+use Rattle.contradiction.specs.Settleable.{Settleable}
+use Rattle.contradiction.proofs.Halving.{run-bounded}
+use Rattle.contradiction.specs.Settled.{Clashed, Settles}
+use Rattle.records.specs.Contradiction as row14
+use Rattle.contradiction.specs.declared.settling.Settled.{Settled}
+use Rattle.contradiction.specs.declared.settling.Settled.the-variants.{Free, Clash}
+use Rattle.contradiction.proofs.SettlingLaws.{settleable, whole-unmarked, clashed-first}
+use Rattle.claims.proofs.Counts.{own-count, counted-clashed}
 use Rattle.outcomes.specs.Lent.{lent}
 use Rattle.outcomes.specs.Fresh.{freshCall}
 use Rattle.outcomes.specs.declared.Outcome.the-variants as call
 use Rattle.outcomes.proofs.Outcomes.{Told, told}
 use Rattle.answers.proofs.Fresh.{fresh-is, roomy-long}
 use Rattle.answers.proofs.Judges.{refuses}
-use Rattle.passing.proofs.Asking.{fresh-runs}
+use Rattle.chain_check.proofs.Asking.{fresh-runs}
 use Rattle.derivations.specs.Found.{Ground}
 use Rattle.clash.specs.Clash.{factAt, unrestricted}
 use Rattle.clash.specs.Silenced.{silenced, Clashes}

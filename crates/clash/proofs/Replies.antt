@@ -27,28 +27,28 @@ use Rattle.records.specs.Marked.{marked}
 use Rattle.records.specs.Check.{bookCheck}
 use Rattle.records.proofs.Accepted.{accepted}
 use Rattle.records.proofs.Keeps.{picked-all}
-use Rattle.storing.specs.Void.{voidOf}
-use Rattle.storing.specs.Counted.{MarksOf}
-use Rattle.opening.specs.Opened.{Opened}
-use Rattle.settling.specs.Settled.{Clashed}
-use Rattle.answering.proofs.Counts.{own-count}
+use Rattle.closure.specs.Void.{voidOf}
+use Rattle.closure.specs.Counted.{MarksOf}
+use Rattle.contradiction.specs.Opened.{Opened}
+use Rattle.contradiction.specs.Settled.{Clashed}
+use Rattle.claims.proofs.Counts.{own-count}
 use Rattle.outcomes.specs.Call.{byBook}
 use Rattle.outcomes.specs.Fresh.{freshCall}
 use Rattle.outcomes.proofs.Outcomes.{book-other}
 use Rattle.answers.proofs.Judges.{accepts}
-use Rattle.passing.proofs.Asking.{fresh-runs}
+use Rattle.chain_check.proofs.Asking.{fresh-runs}
 use Rattle.outcomes.specs.One.{refuseIf}
 use Rattle.outcomes.specs.declared.Outcome.the-variants as call
-use Rattle.steps.specs.declared.Step.{Step}
-use Rattle.steps.specs.Step.{stepAt, steps, showing, shows}
-use Rattle.steps.specs.Citing.{Cited, citing}
-use Rattle.chain_steps.specs.Chain.{chainOk}
-use Rattle.chain_steps.proofs.Kept.{step-kept}
-use Rattle.chain_steps.proofs.Passing.{all-none}
-use Rattle.showing.specs.Shown.{Writes}
+use Rattle.chain_format.specs.declared.steps.Step.{Step}
+use Rattle.chain_format.specs.Step.{stepAt, steps, showing, shows}
+use Rattle.chain_format.specs.Citing.{Cited, citing}
+use Rattle.chain_format.specs.Chain.{chainOk}
+use Rattle.chain_format.proofs.Kept.{step-kept}
+use Rattle.chain_format.proofs.Passing.{all-none}
+use Rattle.derivations.specs.Shown.{Writes}
 use Rattle.derivations.specs.Found.{Chained}
 use Rattle.chain_writing.proofs.Replies.{kind-of, cut-behind, cut-chain, cut-twice, opposite-of, shows-opposite}
-use Rattle.passing.proofs.Meaning.{chain-ok}
+use Rattle.chain_check.proofs.Meaning.{chain-ok}
 use Rattle.clash.specs.Clash.{factAt, unrestricted, citedBefore, clashOk, passing, passes, replyOf, reply, shown, Written}
 use Rattle.clash.specs.Silenced.{silenced, Clashes, Placed, Behind}
 use Rattle.clash.specs.declared.Reply.{Reply}

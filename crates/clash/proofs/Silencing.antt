@@ -21,8 +21,8 @@ use Rattle.records.specs.Facts.{saying, facts}
 use Rattle.records.specs.Marked.{marked}
 use Rattle.records.proofs.Runs.{run-records, run-record, fact-here, fact-from}
 use Rattle.records.proofs.Marks.{mark-silent, marked-from, marked-here}
-use Rattle.steps.specs.Citing.{none, citedOf, citing}
-use Rattle.steps.proofs.Citings.{cited-none}
+use Rattle.chain_format.specs.Citing.{none, citedOf, citing}
+use Rattle.chain_format.proofs.Citings.{cited-none}
 use Rattle.clash.specs.Clash.{unrestricted, citedAt, citedBefore}
 use Rattle.clash.specs.Silenced.{silences, silencedByte, silenced}
 

@@ -18,10 +18,10 @@ use Rattle.outcomes.specs.Fresh.{freshCall}
 use Rattle.outcomes.specs.One.{refuseIf}
 use Rattle.outcomes.specs.declared.Outcome.{Outcome}
 use Rattle.outcomes.specs.declared.Outcome.the-variants as call
-use Rattle.steps.specs.Step.{stepAt, steps, shows}
-use Rattle.steps.specs.Citing.{Cited, none, citedOf}
-use Rattle.chain_steps.specs.Chain.{chainOk}
-use Rattle.chain_steps.specs.Twice.{NoneTwice}
+use Rattle.chain_format.specs.Step.{stepAt, steps, shows}
+use Rattle.chain_format.specs.Citing.{Cited, none, citedOf}
+use Rattle.chain_format.specs.Chain.{chainOk}
+use Rattle.chain_format.specs.Twice.{NoneTwice}
 use Rattle.clash.specs.declared.Reply.{Reply}
 use Rattle.clash.specs.declared.Reply.the-variants.{Free, Refused}
 use Rattle.clash.specs.declared.Clash.{Clash}

@@ -12,9 +12,9 @@ use Rattle.records.specs.Pieces.{pieceCount}
 use Rattle.records.specs.Marked.{marked}
 use Rattle.records.specs.Check.{bookCheck}
 use Rattle.records.specs.declared.BookCheck.the-variants as book
-use Rattle.storing.specs.Counted.{MarksOf}
-use Rattle.settling.specs.Settled.{Clashed}
-use Rattle.chain_steps.specs.Twice.{NoneTwice}
+use Rattle.closure.specs.Counted.{MarksOf}
+use Rattle.contradiction.specs.Settled.{Clashed}
+use Rattle.chain_format.specs.Twice.{NoneTwice}
 use Rattle.clash.specs.Clash.{clashOk}
 
 -- byte p is the kind of a record from number i on, and states a fact

@@ -8,10 +8,10 @@ ghost use Rattle.records.specs.declared.BookCheck.the-variants as is;
 ghost use Rattle.clash.specs.declared.Reply.the-variants.{Refused};
 ghost use Rattle.clash.specs.Clash.{unrestricted, clashOk, passes, Written};
 ghost use Rattle.clash.specs.Silenced.{silencedByte, silenced, Placed, Behind};
+use contradiction::Settled;
 use records::BookCheck;
 use records::Record;
 use records::Refusal;
-use settling::Settled;
 
 // The kinds 1 to this state a fact.
 const LAST_FACT: u8 = 4;
@@ -106,8 +106,8 @@ fn write_behind(
     silence(book, place, &mut copy);
     let length = book.len();
     let run = &copy[..length];
-    settling::settle_alone(run, n, voids, e, order, lead, d, t);
-    storing::edges(run, n, e);
+    contradiction::settle_alone(run, n, voids, e, order, lead, d, t);
+    closure::edges(run, n, e);
     let claim = claim_at(book, place);
     derivations::kinds::chain_for(
         n,
@@ -137,10 +137,10 @@ fn judge(
     ensures { λ r. ⌜ Written (now (book .entry)) (now (c .entry)) r (now (c .exit)) ⌝ }
 {
     let mut voids = [0u64; 32];
-    storing::marking::mark_voids(book, &mut voids);
+    closure::marking::mark_voids(book, &mut voids);
     let mut order = [0u16; 2048];
     let mut lead = [0u16; 2048];
-    let settled = settling::settle_alone(book, n, &voids, e, &mut order, &mut lead, d, t);
+    let settled = contradiction::settle_alone(book, n, &voids, e, &mut order, &mut lead, d, t);
     match settled {
         Settled::Free(_, _) => Clash {
             reply: Reply::Free,
@@ -178,7 +178,7 @@ pub fn write_clash(
     if steps.len() < CHAIN_BYTES {
         return refuse(Refusal::ShortSteps, 0);
     }
-    let checked = checks::check_book(book);
+    let checked = records::check_book(book);
     match checked {
         BookCheck::Refused(refusal, place) => refuse(refusal, place),
         BookCheck::Accepted(n) => judge(book, n, steps, e, d, t),
@@ -195,11 +195,11 @@ fn check_behind(book: &[u8], place: usize, n: usize, voids: &[u64], c: &[u8]) ->
     let length = book.len();
     let run = &copy[..length];
     let claim = claim_at(book, place);
-    if !chain_steps::check_steps(run, n, voids, claim, c) {
+    if !chain_format::check_steps(run, n, voids, claim, c) {
         return false;
     }
-    let last = steps::step_at(c, c.len() / 10 - 1);
-    steps::shows(last, 5 - claim.kind, claim.a, claim.b)
+    let last = chain_format::step_at(c, c.len() / 10 - 1);
+    chain_format::shows(last, 5 - claim.kind, claim.a, claim.b)
 }
 
 // Row 14 and the steps, for a book of n pieces that passes the rows before.
@@ -215,10 +215,10 @@ fn check_sound(
     ensures { λ r. ⌜ r ≡ passes (now (book .entry)) (now (steps .entry)) ⌝ }
 {
     let mut voids = [0u64; 32];
-    storing::marking::mark_voids(book, &mut voids);
+    closure::marking::mark_voids(book, &mut voids);
     let mut order = [0u16; 2048];
     let mut lead = [0u16; 2048];
-    let settled = settling::settle_alone(book, n, &voids, e, &mut order, &mut lead, d, t);
+    let settled = contradiction::settle_alone(book, n, &voids, e, &mut order, &mut lead, d, t);
     match settled {
         Settled::Free(_, _) => false,
         Settled::Clash(place) => check_behind(book, place, n, &voids, steps),
@@ -235,7 +235,7 @@ pub fn check_clash(
 ) -> bool
     ensures { λ r. ⌜ r ≡ passes (now (book .entry)) (now (steps .entry)) ⌝ }
 {
-    let checked = checks::check_book(book);
+    let checked = records::check_book(book);
     match checked {
         BookCheck::Refused(_, _) => false,
         BookCheck::Accepted(n) => check_sound(book, n, steps, e, d, t),

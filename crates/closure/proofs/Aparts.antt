@@ -10,8 +10,8 @@ use borrow.Author.Tests.{eqb-true, eq-eqb, ne-eqb, lt-ltb, le-ltb}
 use lib.Dec.{eqb, ltb}
 use lib.ListN.{length}
 use Rattle.lists.proofs.Bools.{and-both, both-and, or-either, left-or, right-or, same-truth, Known, is-true, is-false, known}
-use Rattle.relation.specs.Matrix.{bitOf, through, Blank, Multiplied}
-use Rattle.joins.specs.Flow.{Carried}
+use Rattle.matrices.specs.Matrix.{bitOf, through, Blank, Multiplied}
+use Rattle.matrices.specs.Flow.{Carried}
 use Rattle.rules.specs.Fact.{Fact, APART, factOf, unmarked}
 use Rattle.rules.specs.Follows.{storing, turned, clash}
 use Rattle.rules.proofs.Paths.{Path, here, top}
@@ -19,13 +19,13 @@ use Rattle.rules.proofs.Reach.{path-shows, shows-path}
 use Rattle.rules.proofs.Decides.{turned-find, apart-hit, either-in}
 use Rattle.rules.proofs.Marks.{with-marks, without-marks}
 use Rattle.rules.proofs.Plain.{inside, plain, neat, follows-plain}
-use Rattle.storing.specs.Stored.{storedBit}
-use Rattle.storing.specs.Bounded.{Bounded}
-use Rattle.storing.specs.Closed.{Holds, Grown, partBit, wholeBit}
+use Rattle.closure.specs.Stored.{storedBit}
+use Rattle.closure.specs.Bounded.{Bounded}
+use Rattle.closure.specs.Closed.{Holds, Grown, partBit, wholeBit}
 use Rattle.closure.specs.Apart.{markedApart, apartBit, Aparts}
-use Rattle.storing.proofs.StoredBits.{either-find, either-hit}
-use Rattle.storing.proofs.Products.{prod, prod-find, prod-hit, path-above, d-path, path-d, u-path, path-u}
-use Rattle.storing.proofs.Holding.{through-holds, stored-column}
+use Rattle.closure.proofs.StoredBits.{either-find, either-hit}
+use Rattle.closure.proofs.Products.{prod, prod-find, prod-hit, path-above, d-path, path-d, u-path, path-u}
+use Rattle.closure.proofs.Holding.{through-holds, stored-column}
 
 -- ---- the marks, piece by piece
 

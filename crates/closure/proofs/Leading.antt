@@ -10,18 +10,18 @@ use borrow.Author.Tests.{eqb-true, eqb-false, eq-eqb, ne-eqb, ltb-true, lt-ltb}
 use lib.Dec.{eqb, ltb}
 use lib.ListN.{length, getD}
 use Rattle.lists.proofs.Bools.{and-both, both-and, or-either, left-or, right-or, not-is-true}
-use Rattle.relation.specs.Matrix.{bitOf}
-use Rattle.joins.specs.Flow.{along, against}
-use Rattle.joins.specs.Led.{Led}
+use Rattle.matrices.specs.Matrix.{bitOf}
+use Rattle.matrices.specs.Flow.{along, against}
+use Rattle.matrices.specs.Led.{Led}
 use Rattle.rules.specs.Fact.{Fact, PART, factOf, unmarked}
 use Rattle.rules.specs.Follows.{storing}
 use Rattle.rules.proofs.Facts.{storing-find, storing-hit}
 use Rattle.rules.proofs.Paths.{Path, here, top, up, leap, path-trans, path-below}
-use Rattle.storing.specs.Stored.{stepping, stepBit}
-use Rattle.storing.specs.Bounded.{Bounded}
+use Rattle.closure.specs.Stored.{stepping, stepBit}
+use Rattle.closure.specs.Bounded.{Bounded}
 use Rattle.closure.specs.Stepped.{Stepped}
-use Rattle.storing.specs.Closed.{Holds, partBit, wholeBit}
-use Rattle.storing.proofs.Products.{path-above, d-path, path-d}
+use Rattle.closure.specs.Closed.{Holds, partBit, wholeBit}
+use Rattle.closure.proofs.Products.{path-above, d-path, path-d}
 use Rattle.closure.proofs.Spans.{Spanned}
 
 module _ (n : ℕ) (fs : List Fact) (B : Bounded n fs) where

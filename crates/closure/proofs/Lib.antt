@@ -1,3 +1,10 @@
+pub mod StoredBits
+pub mod Runs
+pub mod Grows
+pub mod StoringLaws
+pub mod Products
+pub mod Holding
+pub mod VoidRows
 pub mod Leading
 pub mod Spans
 pub mod Aparts

@@ -13,9 +13,9 @@ use lib.ListN.{getD}
 use Rattle.lists.specs.Any.{anyBelow}
 use Rattle.lists.proofs.Bools.{and-both, both-and, or-either, left-or, right-or, eqb-self, same-truth, not-true}
 use Rattle.lists.proofs.Anys.{below-find, below-hit}
-use Rattle.relation.specs.Matrix.{bitOf}
-use Rattle.joins.specs.Flow.{Reached, Carried}
-use Rattle.joins.specs.Led.{Led, Pooled, Shared}
+use Rattle.matrices.specs.Matrix.{bitOf}
+use Rattle.matrices.specs.Flow.{Reached, Carried}
+use Rattle.matrices.specs.Led.{Led, Pooled, Shared}
 
 -- the relation d, which orders the pieces below n and holds between a piece and its leader, is made up of steps s between leaders
 pub record Spanned (s d : ℕ → ℕ → Bool) (n : ℕ) (lead : List ℕ) : Type 0 where

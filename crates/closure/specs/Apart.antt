@@ -5,10 +5,10 @@ use mathlib.Core.Bool.{Bool, true, _&&_, _||_}
 use mathlib.Core.List.{List}
 use lib.Dec.{eqb, ltb}
 use lib.ListN.{length}
-use Rattle.relation.specs.Matrix.{bitOf}
+use Rattle.matrices.specs.Matrix.{bitOf}
 use Rattle.rules.specs.Fact.{Fact, APART}
 use Rattle.rules.specs.Follows.{follows}
-use Rattle.storing.specs.Stored.{storedBit}
+use Rattle.closure.specs.Stored.{storedBit}
 
 -- one of x and y is piece 0, and the other is a marked piece below n
 abbrev pub markedApart : (ℕ → Bool) → ℕ → ℕ → ℕ → Bool

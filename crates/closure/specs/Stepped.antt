@@ -4,11 +4,11 @@ use mathlib.Core.Path.{_≡_}
 use mathlib.Core.Bool.{true}
 use mathlib.Core.List.{List}
 use lib.ListN.{length, getD}
-use Rattle.relation.specs.Matrix.{bitOf}
-use Rattle.joins.specs.Flow.{Sorted}
-use Rattle.joins.specs.Led.{Led}
+use Rattle.matrices.specs.Matrix.{bitOf}
+use Rattle.matrices.specs.Flow.{Sorted}
+use Rattle.matrices.specs.Led.{Led}
 use Rattle.rules.specs.Fact.{Fact}
-use Rattle.storing.specs.Closed.{partBit}
+use Rattle.closure.specs.Closed.{partBit}
 
 pub record Stepped (n : ℕ) (fs : List Fact) (e order lead : List ℕ) : Type 0 where
   pub sized : length e ≡ 65536

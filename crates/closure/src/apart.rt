@@ -5,11 +5,12 @@ ghost use Prim.Native.Nat.{_<_, _≤_};
 ghost use lib.ListN.{length};
 ghost use Rattle.rules.specs.Follows.{clash};
 ghost use Rattle.records.specs.Facts.{facts};
-ghost use Rattle.storing.specs.Void.{voidOf, Voids};
-ghost use Rattle.storing.specs.Bounded.{Bounded};
+ghost use Rattle.closure.specs.Void.{voidOf, Voids};
+ghost use Rattle.closure.specs.Bounded.{Bounded};
 ghost use Rattle.closure.specs.Stepped.{Stepped};
-ghost use Rattle.storing.specs.Closed.{Grown, Holds, partBit};
+ghost use Rattle.closure.specs.Closed.{Grown, Holds, partBit};
 ghost use Rattle.closure.specs.Apart.{markedApart, apartBit, Aparts};
+use crate::storing;
 
 // Each marked piece as apart from piece 0, in both orders.
 fn part_marked(n: usize, voids: &[u64], m: &mut [u64])
@@ -18,7 +19,7 @@ fn part_marked(n: usize, voids: &[u64], m: &mut [u64])
 {
     let mut i: usize = 0;
     while i < n {
-        let on = relation::has(voids, i);
+        let on = matrices::has(voids, i);
         storing::insert_where(on, m, 0, i);
         storing::insert_where(on, m, i, 0);
         i += 1;
@@ -50,7 +51,7 @@ pub fn apart_rows(
     ensures { λ _. ⌜ Aparts (voidOf (now (voids .entry))) n (facts (now (run .entry))) (now (a .exit)) ⌝ }
 {
     apart_told(run, n, voids, m);
-    relation::clear_rows(a, n);
-    joins::product(a, m, d, n);
+    matrices::clear_rows(a, n);
+    matrices::product(a, m, d, n);
     crate::join_wholes(n, e, order, lead, a);
 }

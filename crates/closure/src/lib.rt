@@ -7,15 +7,20 @@ ghost use lib.ListN.{length};
 ghost use Rattle.rules.specs.Fact.{Fact};
 ghost use Rattle.rules.specs.Follows.{storing};
 ghost use Rattle.records.specs.Facts.{facts};
-ghost use Rattle.storing.specs.Void.{voidOf, Voids};
-ghost use Rattle.storing.specs.Stored.{meetBit};
-ghost use Rattle.storing.specs.Closed.{Holds, partBit, wholeBit, towardBit, awayBit, outBit};
-ghost use Rattle.storing.specs.Bounded.{Bounded};
-ghost use Rattle.joins.specs.Flow.{Sorted, Carried};
-ghost use Rattle.joins.specs.Led.{Led};
+ghost use Rattle.closure.specs.Void.{voidOf, Voids};
+ghost use Rattle.closure.specs.Stored.{meetBit};
+ghost use Rattle.closure.specs.Closed.{Holds, partBit, wholeBit, towardBit, awayBit, outBit};
+ghost use Rattle.closure.specs.Bounded.{Bounded};
+ghost use Rattle.matrices.specs.Flow.{Sorted, Carried};
+ghost use Rattle.matrices.specs.Led.{Led};
 ghost use Rattle.closure.specs.Stepped.{Stepped};
+pub use storing::edges;
+pub use storing::step_stored;
+pub use storing::steps;
 
 pub mod apart;
+pub mod marking;
+pub mod storing;
 
 // M: the stored MEETS, and each piece that is not marked with itself.
 fn meets(run: &[u8], n: usize, voids: &[u64], m: &mut [u64])
@@ -31,9 +36,9 @@ fn join_parts(n: usize, e: &[u64], order: &[u16], lead: &[u16], m: &mut [u64])
     requires { ⌜ (length (now m) ≡ 65536) × (length (now e) ≡ 65536) × (n ≤ 2048) × Sorted (now e) n (now order) × Led n (now lead) ⌝ }
     ensures { λ _. ⌜ ((fs : List Fact) → Bounded n fs → Stepped n fs (now (e .entry)) (now (order .entry)) (now (lead .entry)) → Carried (partBit n fs) n (now (m .entry)) (now (m .exit))) ⌝ }
 {
-    joins::pool_rows(lead, n, m);
-    joins::join_along(e, order, n, m);
-    joins::share_rows(lead, n, m);
+    matrices::pool_rows(lead, n, m);
+    matrices::join_along(e, order, n, m);
+    matrices::share_rows(lead, n, m);
 }
 
 // Each row below n becomes the union of the rows of what it is part of.
@@ -41,9 +46,9 @@ fn join_wholes(n: usize, e: &[u64], order: &[u16], lead: &[u16], m: &mut [u64])
     requires { ⌜ (length (now m) ≡ 65536) × (length (now e) ≡ 65536) × (n ≤ 2048) × Sorted (now e) n (now order) × Led n (now lead) ⌝ }
     ensures { λ _. ⌜ ((fs : List Fact) → Bounded n fs → Stepped n fs (now (e .entry)) (now (order .entry)) (now (lead .entry)) → Carried (wholeBit n fs) n (now (m .entry)) (now (m .exit))) ⌝ }
 {
-    joins::pool_rows(lead, n, m);
-    joins::join_against(e, order, n, m);
-    joins::share_rows(lead, n, m);
+    matrices::pool_rows(lead, n, m);
+    matrices::join_against(e, order, n, m);
+    matrices::share_rows(lead, n, m);
 }
 
 // T = D·M.
@@ -89,7 +94,7 @@ fn outing(
 {
     meets(run, n, voids, m);
     storing::store(run, n, 4, true, false, q);
-    joins::product(q, m, p, n);
+    matrices::product(q, m, p, n);
     join_parts(n, e, order, lead, q);
 }
 
@@ -110,7 +115,7 @@ pub fn complete(
 {
     parting(run, n, e, order, lead, p);
     outing(run, n, voids, e, order, lead, p, u, q);
-    relation::clear_rows(u, n);
+    matrices::clear_rows(u, n);
     storing::diagonal(n, u);
     join_wholes(n, e, order, lead, u);
 }

@@ -24,19 +24,19 @@ use Rattle.records.specs.declared.BookCheck.the-variants as book
 use Rattle.records.specs.declared.ClaimsCheck.{ClaimsCheck}
 use Rattle.records.specs.declared.ClaimsCheck.the-variants as claims
 use Rattle.records.proofs.Rows.{refused-positive}
-use Rattle.joint.specs.Joint.{pieces, laid, eitherMarked}
-use Rattle.joint.specs.Agreement.{agreement}
-use Rattle.joint.proofs.Joining.{joint-pieces}
-use Rattle.joint.proofs.Threes.{threes-length, threes-at}
-use Rattle.settling.proofs.Settling.{free-consistent}
+use Rattle.compare.specs.Joint.{pieces, laid, eitherMarked}
+use Rattle.compare.specs.Agreement.{agreement}
+use Rattle.compare.proofs.JointJoining.{joint-pieces}
+use Rattle.compare.proofs.Threes.{threes-length, threes-at}
+use Rattle.contradiction.proofs.SettlingLaws.{free-consistent}
 use Rattle.outcomes.specs.Call.{byRuns}
 use Rattle.outcomes.specs.Fresh.{freshCall}
-use Rattle.storing.specs.Counted.{Counted}
+use Rattle.closure.specs.Counted.{Counted}
 use Rattle.outcomes.specs.Outcome as of
 use Rattle.outcomes.specs.declared.Outcome.{Outcome}
 use Rattle.outcomes.specs.declared.Outcome.the-variants as on
 use Rattle.answers.proofs.Fresh.{fresh-sound}
-use Rattle.answering.proofs.Counts.{own-count, counted-settleable, counted-unmarked, counted-free}
+use Rattle.claims.proofs.Counts.{own-count, counted-settleable, counted-unmarked, counted-free}
 use Rattle.outcomes.proofs.Counts.{runs-refused, derived, entailed}
 use Rattle.compare.specs.declared.Comparison.{Comparison}
 use Rattle.compare.specs.declared.Comparison.the-variants.{Compared, Refused}

@@ -20,12 +20,12 @@ use Rattle.records.specs.declared.BookCheck.the-variants as book
 use Rattle.records.proofs.Orders.{found-before, found-behind, facts-found}
 use Rattle.records.proofs.Marks.{marked-append}
 use Rattle.records.proofs.Accepted.{accepted, accepted-positive, accepted-pieces}
-use Rattle.storing.specs.Void.{Markable}
-use Rattle.opening.specs.Settleable.{Settleable}
-use Rattle.storing.proofs.VoidRows.{accepted-markable}
-use Rattle.settling.proofs.Settling.{free-model, free-consistent}
-use Rattle.joint.specs.Joint.{pieces, jointRun, laid, eitherMarked}
-use Rattle.joint.proofs.Joining.{either-marked, fact-split, joint-clash, joint-pieces, within}
+use Rattle.closure.specs.Void.{Markable}
+use Rattle.contradiction.specs.Settleable.{Settleable}
+use Rattle.closure.proofs.VoidRows.{accepted-markable}
+use Rattle.contradiction.proofs.SettlingLaws.{free-model, free-consistent}
+use Rattle.compare.specs.Joint.{pieces, jointRun, laid, eitherMarked}
+use Rattle.compare.proofs.JointJoining.{either-marked, fact-split, joint-clash, joint-pieces, within}
 use Rattle.compare.specs.Judging.{Layable}
 
 module _ (s t : List ℕ) (a b : ℕ) (first : bookCheck s ≡ book.Accepted a) (second : bookCheck t ≡ book.Accepted b) where

@@ -1,3 +1,6 @@
+pub mod JointJoining
+pub mod Threes
+pub mod Pasting
 pub mod Joining
 pub mod Rows
 pub mod Judges

@@ -28,12 +28,12 @@ use Rattle.records.proofs.Keeps.{picked-among}
 use Rattle.records.proofs.Accepted.{accepted}
 use Rattle.records.proofs.Orders.{Found, found-before, found-behind, facts-found}
 use Rattle.records.proofs.Marks.{marked-append}
-use Rattle.joint.specs.Joint.{pieces, same, has, jointRun, laid}
-use Rattle.joint.specs.Agreement.{agreement, threes}
-use Rattle.joint.proofs.Joining.{joint-pieces}
-use Rattle.joint.proofs.Threes.{threes-at}
+use Rattle.compare.specs.Joint.{pieces, same, has, jointRun, laid}
+use Rattle.compare.specs.Agreement.{agreement, threes}
+use Rattle.compare.proofs.JointJoining.{joint-pieces}
+use Rattle.compare.proofs.Threes.{threes-at}
 use Rattle.outcomes.specs.Call as calls
-use Rattle.answering.specs.Claimed.{claimed, pickedFacts}
+use Rattle.records.specs.Claimed.{claimed, pickedFacts}
 use Rattle.outcomes.specs.Call.{byRuns}
 use Rattle.outcomes.specs.Fresh.{freshCall}
 use Rattle.outcomes.proofs.Counts.{claim-within}

@@ -25,19 +25,19 @@ use Rattle.records.specs.declared.BookCheck.the-variants as book
 use Rattle.records.specs.declared.ClaimsCheck.the-variants as claims
 use Rattle.records.proofs.Accepted.{accepted, accepted-within, accepted-positive, accepted-pieces}
 use Rattle.records.proofs.Marks.{accepted-whole-unmarked}
-use Rattle.joint.specs.Joint.{pieces, laid}
-use Rattle.joint.specs.Agreement.{threes}
-use Rattle.joint.proofs.Joining.{joint-pieces}
-use Rattle.joint.proofs.Threes.{threes-same}
+use Rattle.compare.specs.Joint.{pieces, laid}
+use Rattle.compare.specs.Agreement.{threes}
+use Rattle.compare.proofs.JointJoining.{joint-pieces}
+use Rattle.compare.proofs.Threes.{threes-same}
 use Rattle.groups.specs.Index.{bookVisits}
 use Rattle.index.specs.Parts as parts
 use Rattle.outcomes.specs.Call as calls
-use Rattle.answering.specs.Claimed.{answersTo, claimed, pickedFacts}
+use Rattle.records.specs.Claimed.{answersTo, claimed, pickedFacts}
 use Rattle.outcomes.specs.Call.{pairsOf, byRuns}
 use Rattle.outcomes.specs.Fresh.{freshCall}
 use Rattle.outcomes.specs.Lent.{Lent}
 use Rattle.answers.specs.Judging as judging
-use Rattle.storing.specs.Counted.{Counted}
+use Rattle.closure.specs.Counted.{Counted}
 use Rattle.outcomes.specs.declared.Outcome.{Outcome}
 use Rattle.outcomes.specs.declared.Outcome.the-variants as on
 use Rattle.outcomes.proofs.Buffers.{front-whole}

@@ -4,9 +4,9 @@ use mathlib.Core.List.{List}
 use Rattle.rules.specs.Verdict.{verdict}
 use Rattle.records.specs.Record.{records}
 use Rattle.records.specs.Marked.{marked}
-use Rattle.joint.specs.Joint.{pieces}
-use Rattle.joint.specs.Agreement.{threes}
-use Rattle.answering.specs.Claimed.{claimed, pickedFacts}
+use Rattle.compare.specs.Joint.{pieces}
+use Rattle.compare.specs.Agreement.{threes}
+use Rattle.records.specs.Claimed.{claimed, pickedFacts}
 
 -- a book's answer to claim i among n pieces, with its own marks and the facts of it that the claim picks
 unfoldable pub answerOf : List ℕ → ℕ → List ℕ → ℕ → ℕ

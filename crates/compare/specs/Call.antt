@@ -11,7 +11,7 @@ use Rattle.records.specs.Check.{claimsCheck}
 use Rattle.records.specs.declared.Refusal.the-variants.{ShortBuffer}
 use Rattle.records.specs.declared.ClaimsCheck.{ClaimsCheck}
 use Rattle.records.specs.declared.ClaimsCheck.the-variants as claims
-use Rattle.joint.specs.Joint.{pieces, laid}
+use Rattle.compare.specs.Joint.{pieces, laid}
 use Rattle.outcomes.specs.Fresh.{freshCall}
 use Rattle.outcomes.specs.declared.Outcome.{Outcome}
 use Rattle.outcomes.specs.declared.Outcome.the-variants as on

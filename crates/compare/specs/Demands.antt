@@ -10,9 +10,9 @@ use Rattle.records.specs.Facts.{facts}
 use Rattle.records.specs.Marked.{marked}
 use Rattle.records.specs.Check.{bookCheck}
 use Rattle.records.specs.declared.BookCheck.the-variants as on
-use Rattle.joint.specs.Joint.{pieces, eitherMarked}
-use Rattle.joint.specs.Agreement.{agreement}
-use Rattle.answering.specs.Claimed.{claimed, pickedFacts}
+use Rattle.compare.specs.Joint.{pieces, eitherMarked}
+use Rattle.compare.specs.Agreement.{agreement}
+use Rattle.records.specs.Claimed.{claimed, pickedFacts}
 use Rattle.outcomes.specs.Demands.{Derived, Entailed}
 use Rattle.compare.specs.declared.Comparison.{Comparison}
 use Rattle.compare.specs.Outcome.{number, book, together}

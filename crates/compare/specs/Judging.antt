@@ -6,11 +6,11 @@ use Rattle.records.specs.Record.{records}
 use Rattle.records.specs.Check.{bookCheck, claimsCheck}
 use Rattle.records.specs.declared.BookCheck.the-variants as book
 use Rattle.records.specs.declared.ClaimsCheck.the-variants as claims
-use Rattle.storing.specs.Void.{Markable}
-use Rattle.opening.specs.Settleable.{Settleable}
-use Rattle.answering.specs.Claimed.{answersTo}
+use Rattle.closure.specs.Void.{Markable}
+use Rattle.contradiction.specs.Settleable.{Settleable}
+use Rattle.records.specs.Claimed.{answersTo}
 use Rattle.outcomes.specs.Call.{byRuns}
-use Rattle.storing.specs.Counted.{Counted}
+use Rattle.closure.specs.Counted.{Counted}
 use Rattle.outcomes.specs.declared.Outcome.{Outcome}
 use Rattle.outcomes.specs.declared.Outcome.the-variants as on
 use Rattle.compare.specs.declared.Comparison.{Comparison}

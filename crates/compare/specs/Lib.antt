@@ -1,3 +1,6 @@
+pub mod Joint
+pub mod Agreement
+pub mod Together
 pub mod Answers
 pub mod Call
 pub mod Outcome

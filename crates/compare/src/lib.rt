@@ -8,7 +8,7 @@ ghost use Rattle.rules.specs.Follows.{clash};
 ghost use Rattle.records.specs.Record.{records};
 ghost use Rattle.records.specs.Facts.{facts};
 ghost use Rattle.records.specs.Marked.{marked};
-ghost use Rattle.joint.specs.Together.{Together};
+ghost use Rattle.compare.specs.Together.{Together};
 ghost use Rattle.outcomes.specs.Fresh.{freshCall};
 ghost use Rattle.compare.specs.Call.{byBook, Determined};
 ghost use Rattle.compare.specs.Demands.{Demanded};
@@ -17,6 +17,8 @@ use outcomes::Outcome;
 use records::BookCheck;
 use records::ClaimsCheck;
 use records::Refusal;
+
+pub mod joint;
 
 // What a comparison comes to: whether both books can be laid together, or the refusal of a book, 1 or 2, or of buffers and claims, 0, and its place.
 pub enum Comparison {
@@ -36,8 +38,8 @@ fn can_be_laid(
     ensures { λ r. ⌜ r ≡ not (clash (marked (now (run .entry))) n (facts (now (run .entry)))) ⌝ }
 {
     let mut voids = [0u64; 32];
-    storing::marking::mark_voids(run, &mut voids);
-    !opening::contradicts(run, n, &voids, e, d, t)
+    closure::marking::mark_voids(run, &mut voids);
+    !contradiction::contradicts(run, n, &voids, e, d, t)
 }
 
 // Row 14 of a book and its answers, among n pieces. The matrices are scratch.
@@ -154,7 +156,7 @@ fn check_asked(
     requires { ⌜ Sound (now first) own (now second) count (now run) (now claims) (length (now out)) ⌝ }
     ensures { λ r. ⌜ Judged (now (first .entry)) (now (second .entry)) (now (claims .entry)) (now (out .entry)) r (now (out .exit)) ⌝ }
 {
-    let fit = checks::check_claims(claims, joint::larger(own, count));
+    let fit = records::check_claims(claims, joint::larger(own, count));
     match fit {
         ClaimsCheck::Refused(refusal, place) => {
             let rest = after(
@@ -212,11 +214,11 @@ fn check_books(
     requires { ⌜ Together (now first) (now second) (now run) × (3 * records (now claims) ≤ length (now out)) ⌝ }
     ensures { λ r. ⌜ Judged (now (first .entry)) (now (second .entry)) (now (claims .entry)) (now (out .entry)) r (now (out .exit)) ⌝ }
 {
-    let checked = checks::check_book(first);
+    let checked = records::check_book(first);
     match checked {
         BookCheck::Refused(refusal, place) => Comparison::Refused(1, refusal, place),
         BookCheck::Accepted(own) => {
-            let other = checks::check_book(second);
+            let other = records::check_book(second);
             match other {
                 BookCheck::Refused(refusal, place) => {
                     after(

@@ -13,10 +13,10 @@ use lib.Seq.{getD-set-same, getD-set-other}
 use Rattle.lists.proofs.Firsts.{found}
 use Rattle.lists.proofs.Searches.{Sought, sought-next}
 use Rattle.lists.specs.Tally.{num}
-use Rattle.packed.specs.Rank.{rank, select}
-use Rattle.packed.specs.Close.{balanced, close}
+use Rattle.parentheses.specs.Rank.{rank, select}
+use Rattle.parentheses.specs.Close.{balanced, close}
 use Rattle.parentheses.specs.Subtree.{after}
-use Rattle.packed.proofs.Ranks.{rank-suc, rank-one}
+use Rattle.parentheses.proofs.Ranks.{rank-suc, rank-one}
 use Rattle.parentheses.proofs.Selects.{select-rank}
 use Rattle.parentheses.proofs.Subtrees.{after-closed, after-unclosed, close-later}
 

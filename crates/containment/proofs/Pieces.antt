@@ -9,8 +9,8 @@ use borrow.Author.Count.{below-more}
 use lib.ListN.{length, getD, set}
 use lib.Seq.{getD-set-same, getD-set-other}
 use Rattle.lists.specs.Tally.{num}
-use Rattle.packed.specs.Rank.{rank}
-use Rattle.packed.proofs.Ranks.{rank-suc, rank-zero}
+use Rattle.parentheses.specs.Rank.{rank}
+use Rattle.parentheses.proofs.Ranks.{rank-suc, rank-zero}
 use Rattle.containment.specs.Contents.{leads, Turnable, StandsFor}
 
 -- ---- nodes

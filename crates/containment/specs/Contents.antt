@@ -5,11 +5,11 @@ use mathlib.Core.Bool.{Bool, true, false}
 use mathlib.Core.List.{List}
 use Prim.Native.Nat.{ℕ, _≤_, _<_}
 use lib.ListN.{length, getD}
-use Rattle.packed.specs.Bits.{bits}
+use Rattle.parentheses.specs.Bits.{bits}
 use Rattle.parentheses.specs.Padded.{padded}
-use Rattle.packed.specs.Rank.{rank}
-use Rattle.relation.specs.Matrix.{bitOf}
-use Rattle.joins.specs.Led.{Led}
+use Rattle.parentheses.specs.Rank.{rank}
+use Rattle.matrices.specs.Matrix.{bitOf}
+use Rattle.matrices.specs.Led.{Led}
 use Rattle.index.specs.Pairs.{Book}
 use Rattle.index.specs.Parts as on
 use Rattle.index.specs.Index.{parenthesesOf, visitsOf, Room}

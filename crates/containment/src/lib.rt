@@ -1,16 +1,19 @@
-// An index read back: the piece at each place, and the first place past its subtree.
+// An index read back: the piece at each place, the first place past its subtree, and D, the row of each piece from the rows of its parts.
 ghost use mathlib.Core.Path.{_≡_};
 ghost use mathlib.Core.Bool.{true, false, not};
 ghost use Prim.Native.Nat.{ℕ, _+_, _*_, _<_, _≤_};
 ghost use lib.ListN.{length, getD, set};
 ghost use Rattle.containment.specs.Contents.{leads, Turnable, StandsFor};
-ghost use Rattle.packed.specs.Rank.{rank};
+ghost use Rattle.parentheses.specs.Rank.{rank};
 ghost use Rattle.parentheses.specs.Ranked.{Ranked};
 ghost use Rattle.parentheses.specs.Subtree.{after};
-ghost use Rattle.packed.specs.Bits.{bits};
+ghost use Rattle.parentheses.specs.Bits.{bits};
 use index::DatasetId;
 use index::TreeId;
 use parentheses::Found;
+pub use within::contents;
+
+pub mod within;
 
 // The piece that stands for all pieces at the place of g.
 pub fn leader_of(lead: &[u16], g: DatasetId) -> DatasetId

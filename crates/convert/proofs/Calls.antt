@@ -23,9 +23,9 @@ use Rattle.records.specs.Check.{formerCheck, claimsCheck}
 use Rattle.records.specs.declared.BookCheck.the-variants as book
 use Rattle.records.specs.declared.ClaimsCheck.the-variants as claims
 use Rattle.records.proofs.Accepted.{accepted-claims}
-use Rattle.settling.proofs.Settling.{settleable, whole-unmarked, free-beyond}
+use Rattle.contradiction.proofs.SettlingLaws.{settleable, whole-unmarked, free-beyond}
 use Rattle.outcomes.specs.Lent.{Lent, shortLent}
-use Rattle.answering.specs.Claimed.{pickedFacts, claimed, answersTo}
+use Rattle.records.specs.Claimed.{pickedFacts, claimed, answersTo}
 use Rattle.outcomes.specs.Call.{byRuns, outcome, Passed}
 use Rattle.outcomes.specs.Outcome.{number}
 use Rattle.outcomes.proofs.Outcomes.{passed-outcome}

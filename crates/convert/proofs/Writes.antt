@@ -24,11 +24,11 @@ use Rattle.records.specs.Check.{formerCheck}
 use Rattle.records.proofs.Rows.{refused-positive}
 use Rattle.records.proofs.Keeps.{Written, written-all, kept-fewer, kept-whole, kept-shorter}
 use Rattle.records.proofs.Accepted.{accepted-by, accepted-within, accepted-positive, accepted-pieces}
-use Rattle.storing.specs.Void.{voidOf}
-use Rattle.opening.specs.Settleable.{Settleable}
-use Rattle.settling.specs.Settled.{Clashed}
-use Rattle.storing.proofs.VoidRows.{cleared-voids}
-use Rattle.settling.proofs.Settling.{free-beyond, clashed-within}
+use Rattle.closure.specs.Void.{voidOf}
+use Rattle.contradiction.specs.Settleable.{Settleable}
+use Rattle.contradiction.specs.Settled.{Clashed}
+use Rattle.closure.proofs.VoidRows.{cleared-voids}
+use Rattle.contradiction.proofs.SettlingLaws.{free-beyond, clashed-within}
 use Rattle.convert.specs.Converted.{noTray, noTrays, inWhole, converted}
 use Rattle.convert.specs.Writing.{FormerBook}
 use Rattle.convert.specs.Conversion.{number, byRuns, byBook, conversion, left, Determined}

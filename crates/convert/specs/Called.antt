@@ -7,7 +7,7 @@ use Rattle.records.specs.Pieces.{pieceCount}
 use Rattle.records.specs.Check.{formerCheck, claimsCheck}
 use Rattle.records.specs.declared.BookCheck.the-variants as book
 use Rattle.records.specs.declared.ClaimsCheck.the-variants as claims
-use Rattle.answering.specs.Claimed.{answersTo}
+use Rattle.records.specs.Claimed.{answersTo}
 use Rattle.outcomes.specs.Lent.{Lent, shortLent}
 use Rattle.outcomes.specs.Call.{outcome}
 use Rattle.outcomes.specs.Outcome.{number}

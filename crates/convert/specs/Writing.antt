@@ -9,9 +9,9 @@ use Rattle.rules.specs.Follows as on
 use Rattle.records.specs.Facts.{facts}
 use Rattle.records.specs.Check.{formerCheck}
 use Rattle.records.specs.declared.BookCheck.the-variants as book
-use Rattle.settling.specs.Settled.{Clashed}
-use Rattle.settling.specs.declared.Settled.{Settled}
-use Rattle.settling.specs.declared.Settled.the-variants.{Free, Clash}
+use Rattle.contradiction.specs.Settled.{Clashed}
+use Rattle.contradiction.specs.declared.settling.Settled.{Settled}
+use Rattle.contradiction.specs.declared.settling.Settled.the-variants.{Free, Clash}
 
 -- a book of n pieces by the former edition
 abbrev pub FormerBook : List ℕ → ℕ → Type 0

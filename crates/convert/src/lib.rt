@@ -7,9 +7,9 @@ ghost use Rattle.convert.specs.Converted.{noTrays, converted};
 ghost use Rattle.convert.specs.Conversion.{number, Determined};
 ghost use Rattle.convert.specs.Same.{InForce, SameAnswers};
 ghost use Rattle.convert.specs.Writing.{FormerBook, Judged, Room};
+use contradiction::Settled;
 use records::BookCheck;
 use records::Refusal;
-use settling::Settled;
 
 // What a conversion comes to: how many bytes were written, or the refusal and its place.
 pub enum Conversion {
@@ -60,7 +60,7 @@ fn settle(
     let voids = [0u64; 32];
     let mut order = [0u16; 2048];
     let mut lead = [0u16; 2048];
-    settling::settle_alone(book, n, &voids, e, &mut order, &mut lead, d, t)
+    contradiction::settle_alone(book, n, &voids, e, &mut order, &mut lead, d, t)
 }
 
 // Converts a book of the former edition to the one in force.
@@ -78,7 +78,7 @@ pub fn convert(
     if out.len() < book.len() {
         return Conversion::Refused(Refusal::ShortBuffer, 0);
     }
-    let checked = checks::check_former(book);
+    let checked = records::check_former(book);
     match checked {
         BookCheck::Refused(refusal, place) => Conversion::Refused(refusal, place),
         BookCheck::Accepted(n) => {

@@ -7,7 +7,7 @@ use mathlib.Core.List.{List}
 use native.Mathlib.Omega.{arith}
 use lib.ListN.{length, getD}
 use Rattle.lists.proofs.Bools.{and-both, not-is-true}
-use Rattle.relation.specs.Matrix.{bitOf, common}
+use Rattle.matrices.specs.Matrix.{bitOf, common}
 use borrow.Author.Tests.{ne-eqb}
 use Rattle.rules.specs.Fact.{Fact, PART, APART, MEETS, NOTPART, factOf, Within}
 use Rattle.rules.specs.Derives.{rule-e′}
@@ -17,28 +17,28 @@ use Rattle.records.specs.Record.{recordAt, records}
 use Rattle.records.specs.Facts.{facts}
 use Rattle.records.specs.Kept.{picked}
 use Rattle.records.specs.Marked.{marks, marked}
-use Rattle.storing.specs.Void.{voidOf}
-use Rattle.steps.specs.declared.Step.{Step}
-use Rattle.steps.specs.Step.{stepAt, showing, shows}
-use Rattle.steps.specs.Citing.{citing, none, marksPiece, marksSome}
-use Rattle.chain_steps.specs.Chain.{allOk}
-use Rattle.chain_steps.specs.Twice.{alike, Differ}
-use Rattle.part_steps.proofs.Distincts.{unlike-kind, distinct-one, distinct-kept, distinct-join}
-use Rattle.chain_steps.proofs.Showing.{straight, ends-show}
-use Rattle.steps.proofs.Citings.{marks-same}
+use Rattle.closure.specs.Void.{voidOf}
+use Rattle.chain_format.specs.declared.steps.Step.{Step}
+use Rattle.chain_format.specs.Step.{stepAt, showing, shows}
+use Rattle.chain_format.specs.Citing.{citing, none, marksPiece, marksSome}
+use Rattle.chain_format.specs.Chain.{allOk}
+use Rattle.chain_format.specs.Twice.{alike, Differ}
+use Rattle.derivations.proofs.Distincts.{unlike-kind, distinct-one, distinct-kept, distinct-join}
+use Rattle.chain_format.proofs.Showing.{straight, ends-show}
+use Rattle.chain_format.proofs.Citings.{marks-same}
 use Rattle.derivations.specs.declared.search.Aim.the-variants.{Apart, Meets, NotPart, Outside}
 use Rattle.derivations.specs.declared.search.Witness.{Witness}
 use Rattle.derivations.specs.declared.search.Meeting.{Meeting}
 use Rattle.derivations.specs.Aim.{joining, serving}
-use Rattle.part_steps.specs.Written.{Put}
-use Rattle.showing.specs.Shown.{Writes}
-use Rattle.showing.specs.Lifts.{Inside, Grounded, Spans, Outlies}
-use Rattle.showing.specs.Commons.{Joined}
+use Rattle.derivations.specs.Written.{Put}
+use Rattle.derivations.specs.Shown.{Writes}
+use Rattle.derivations.specs.Lifts.{Inside, Grounded, Spans, Outlies}
+use Rattle.derivations.specs.Commons.{Joined}
 use Rattle.derivations.specs.Found as of
 use Rattle.derivations.specs.Found.{Found, Ground, Witnessed, Met, Voided, Chained}
-use Rattle.showing.proofs.Carries.{saying, as-said, itself-grounded, void-grounded, empty-grounded}
-use Rattle.showing.proofs.Joining.{justified-d′}
-use Rattle.showing.proofs.Composed.{still-shown, put-shown, writes-one, writes-after, writes-put}
+use Rattle.derivations.proofs.Carries.{saying, as-said, itself-grounded, void-grounded, empty-grounded}
+use Rattle.derivations.proofs.Joining.{justified-d′}
+use Rattle.derivations.proofs.Composed.{still-shown, put-shown, writes-one, writes-after, writes-put}
 use Rattle.derivations.proofs.Ways.{cited-derives, apart-disjoint, notpart-disjoint, meets-disjoint, meets-unmarked, outside-disjoint}
 use Rattle.derivations.proofs.Grounds.{small, bit-inside, common-meets, writes-follows, marks-cited, found-mark, meets-none}
 

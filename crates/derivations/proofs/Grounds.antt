@@ -12,7 +12,7 @@ use borrow.Author.Tests.{eqb-true, eq-eqb, lt-ltb, le-leb}
 use Rattle.lists.specs.Any.{anyBelow}
 use Rattle.lists.proofs.Bools.{and-both, both-and, or-either, left-or, right-or, not-true, not-is-true}
 use Rattle.lists.proofs.Anys.{below-find}
-use Rattle.relation.specs.Matrix.{bitOf, common}
+use Rattle.matrices.specs.Matrix.{bitOf, common}
 use Rattle.rules.specs.Fact.{Fact, PART, APART, MEETS, NOTPART, kind, left, right, factOf, unmarked, Within, AllWithin}
 use Rattle.rules.specs.Follows.{storing, turned, meets, follows, derived}
 use Rattle.rules.proofs.Facts.{storing-find}
@@ -27,25 +27,25 @@ use Rattle.records.specs.Marked.{marks, marked}
 use Rattle.records.proofs.Keeps.{picked-among}
 use Rattle.records.proofs.Marks.{marks-from, marks-here, marked-from}
 use Rattle.records.proofs.Accepted.{says-kind, says-left, says-right}
-use Rattle.storing.specs.Void.{voidOf}
-use Rattle.storing.specs.Bounded.{Bounded}
-use Rattle.storing.specs.Stored.{storedBit, edgeBit}
-use Rattle.storing.specs.Closed.{Holds, partBit}
+use Rattle.closure.specs.Void.{voidOf}
+use Rattle.closure.specs.Bounded.{Bounded}
+use Rattle.closure.specs.Stored.{storedBit, edgeBit}
+use Rattle.closure.specs.Closed.{Holds, partBit}
 use Rattle.verdicts.specs.ByMarks.{byMarks}
-use Rattle.storing.proofs.StoredBits.{swapped-hit}
+use Rattle.closure.proofs.StoredBits.{swapped-hit}
 use Rattle.verdicts.proofs.Answering.{part-told, meets-told}
-use Rattle.steps.specs.Step.{stepAt, unordered, shows}
-use Rattle.steps.specs.Citing.{fact, none, lets, citing, marksPiece}
-use Rattle.chain_steps.proofs.Passing.{all-none}
-use Rattle.steps.proofs.Citings.{citing-says, cited-picked, picked-cited, marked-cited}
-use Rattle.chain_steps.proofs.Sound.{shown-derives}
-use Rattle.chain_steps.proofs.Givens.{given}
+use Rattle.chain_format.specs.Step.{stepAt, unordered, shows}
+use Rattle.chain_format.specs.Citing.{fact, none, lets, citing, marksPiece}
+use Rattle.chain_format.proofs.Passing.{all-none}
+use Rattle.chain_format.proofs.Citings.{citing-says, cited-picked, picked-cited, marked-cited}
+use Rattle.chain_format.proofs.Sound.{shown-derives}
+use Rattle.chain_format.proofs.Givens.{given}
 use Rattle.derivations.specs.declared.search.Aim.{Aim}
 use Rattle.derivations.specs.declared.search.Aim.the-variants.{Apart, Meets, NotPart, Outside}
 use Rattle.derivations.specs.Aim.{kindFor, joining, serving}
-use Rattle.part_steps.specs.Sources.{Stepped}
-use Rattle.showing.specs.Lifts.{Setting, Telling, Inside}
-use Rattle.showing.specs.Shown.{Writes}
+use Rattle.derivations.specs.Sources.{Stepped}
+use Rattle.derivations.specs.Lifts.{Setting, Telling, Inside}
+use Rattle.derivations.specs.Shown.{Writes}
 use Rattle.derivations.specs.Found.{Ground, Found}
 
 -- a search for a mark that is there finds it

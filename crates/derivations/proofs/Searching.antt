@@ -5,8 +5,8 @@ use mathlib.Core.Bool.{Bool, true, false, not, _&&_}
 use mathlib.Core.List.{List}
 use native.Mathlib.Omega.{arith}
 use native.Mathlib.Decide.{ℕ-discrete}
-use Rattle.relation.specs.Matrix.{bitOf}
-use Rattle.storing.specs.Void.{voidOf}
+use Rattle.matrices.specs.Matrix.{bitOf}
+use Rattle.closure.specs.Void.{voidOf}
 use Rattle.derivations.specs.Found.{Found}
 
 -- no place below i passes

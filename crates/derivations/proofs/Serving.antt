@@ -9,25 +9,25 @@ use lib.Dec.{eqb}
 use lib.ListN.{getD}
 use borrow.Author.Tests.{eq-eqb, ne-eqb, eqb-true, le-leb}
 use Rattle.lists.proofs.Bools.{and-both, both-and, or-either}
-use Rattle.relation.specs.Matrix.{bitOf, common}
+use Rattle.matrices.specs.Matrix.{bitOf, common}
 use Rattle.rules.specs.Fact.{AllWithin}
 use Rattle.records.specs.Facts.{facts}
 use Rattle.records.specs.declared.Record.{Record}
 use Rattle.records.specs.Record.{recordAt, records}
 use Rattle.records.specs.Pieces.{stated}
-use Rattle.storing.proofs.Runs.{record-within}
-use Rattle.steps.specs.declared.Step.{Step}
-use Rattle.steps.specs.Step.{unordered, showing, shows}
-use Rattle.steps.specs.Citing.{lets, citing, none}
-use Rattle.steps.specs.Justified.{cites}
-use Rattle.steps.proofs.Computed.{brings-fact}
+use Rattle.closure.proofs.Runs.{record-within}
+use Rattle.chain_format.specs.declared.steps.Step.{Step}
+use Rattle.chain_format.specs.Step.{unordered, showing, shows}
+use Rattle.chain_format.specs.Citing.{lets, citing, none}
+use Rattle.chain_format.specs.Justified.{cites}
+use Rattle.chain_format.proofs.Computed.{brings-fact}
 use Rattle.derivations.specs.declared.search.Aim.{Aim}
 use Rattle.derivations.specs.declared.search.Aim.the-variants.{Apart, Meets, NotPart, Outside}
 use Rattle.derivations.specs.declared.search.Witness.{Witness}
 use Rattle.derivations.specs.Aim.{kindFor, joining, serving}
-use Rattle.showing.specs.Lifts.{Grounded}
+use Rattle.derivations.specs.Lifts.{Grounded}
 use Rattle.derivations.specs.Found.{Ground, Witnessed}
-use Rattle.showing.proofs.Carries.{saying, as-said, turned-said, stored-grounded}
+use Rattle.derivations.proofs.Carries.{saying, as-said, turned-said, stored-grounded}
 use Rattle.derivations.proofs.Grounds.{small}
 
 -- ---- which pieces lead to the fact

@@ -5,13 +5,13 @@ use mathlib.Core.Bool.{true, false, false≢true}
 use mathlib.Core.List.{List}
 use native.Mathlib.Omega.{arith}
 use lib.ListN.{getD}
-use Rattle.steps.specs.declared.Step.{Step}
-use Rattle.steps.specs.Step.{showing}
-use Rattle.steps.specs.Citing.{Cited, none}
-use Rattle.steps.specs.Justified.{cites}
-use Rattle.chain_steps.proofs.Stepping.{by-f}
-use Rattle.part_steps.proofs.Hopping.{justify}
-use Rattle.showing.proofs.Carries.{saying, as-said, stored-grounded}
+use Rattle.chain_format.specs.declared.steps.Step.{Step}
+use Rattle.chain_format.specs.Step.{showing}
+use Rattle.chain_format.specs.Citing.{Cited, none}
+use Rattle.chain_format.specs.Justified.{cites}
+use Rattle.chain_format.proofs.Stepping.{by-f}
+use Rattle.derivations.proofs.Hopping.{justify}
+use Rattle.derivations.proofs.Carries.{saying, as-said, stored-grounded}
 use Rattle.derivations.specs.Found.{Singly}
 
 module _ {n : ℕ} {es : List Cited} {k a b : ℕ} (small : n ≤ 2048) (la : a < n) (lb : b < n) where

@@ -5,7 +5,7 @@ use mathlib.Core.Bool.{Bool, true, false, not, _&&_, false≢true}
 use mathlib.Core.List.{List, List·Memᴰ}
 use lib.ListN.{getD}
 use Rattle.lists.proofs.Bools.{Known, is-true, is-false, known, and-both, both-and}
-use Rattle.relation.specs.Matrix.{bitOf}
+use Rattle.matrices.specs.Matrix.{bitOf}
 use Rattle.rules.specs.Fact.{Fact, PART, APART, MEETS, NOTPART, unmarked}
 use Rattle.rules.specs.Model.{Model, keeps, keepsAll}
 use Rattle.rules.specs.Derives.{Derives, stored}
@@ -17,14 +17,14 @@ use Rattle.records.specs.declared.Record.{Record}
 use Rattle.records.specs.Facts.{facts}
 use Rattle.records.specs.Kept.{picked}
 use Rattle.records.specs.Marked.{marked}
-use Rattle.storing.specs.Void.{voidOf}
-use Rattle.steps.specs.declared.Step.{Step}
-use Rattle.steps.specs.Step.{shows}
-use Rattle.steps.specs.Citing.{Cited, fact, mark, none, citing}
-use Rattle.steps.specs.Justified.{cites}
-use Rattle.steps.proofs.Citings.{cited-picked, marks-same}
-use Rattle.chain_steps.proofs.Showing.{shown-same}
-use Rattle.showing.specs.Lifts.{Unmarked, Inside, Between, Disjoint}
+use Rattle.closure.specs.Void.{voidOf}
+use Rattle.chain_format.specs.declared.steps.Step.{Step}
+use Rattle.chain_format.specs.Step.{shows}
+use Rattle.chain_format.specs.Citing.{Cited, fact, mark, none, citing}
+use Rattle.chain_format.specs.Justified.{cites}
+use Rattle.chain_format.proofs.Citings.{cited-picked, marks-same}
+use Rattle.chain_format.proofs.Showing.{shown-same}
+use Rattle.derivations.specs.Lifts.{Unmarked, Inside, Between, Disjoint}
 use Rattle.derivations.specs.Found.{Ground}
 use Rattle.derivations.proofs.Grounds.{positive, within, bare, telling}
 

@@ -3,10 +3,10 @@ use Prim.Native.Nat.{ℕ}
 use mathlib.Core.Bool.{Bool, _&&_, _||_}
 use mathlib.Core.List.{List}
 use lib.Dec.{eqb}
-use Rattle.relation.specs.Matrix.{bitOf, common}
+use Rattle.matrices.specs.Matrix.{bitOf, common}
 use Rattle.records.specs.declared.Record.{Record}
-use Rattle.steps.specs.Step.{unordered}
-use Rattle.steps.specs.Citing.{lets}
+use Rattle.chain_format.specs.Step.{unordered}
+use Rattle.chain_format.specs.Citing.{lets}
 use Rattle.derivations.specs.declared.search.Aim.{Aim}
 use Rattle.derivations.specs.declared.search.Aim.the-variants.{Apart, Meets, NotPart, Outside}
 

@@ -12,22 +12,22 @@ use Rattle.records.specs.Facts.{facts}
 use Rattle.records.specs.Kept.{picked}
 use Rattle.records.specs.Record.{recordAt, records}
 use Rattle.records.specs.Marked.{marks, marked}
-use Rattle.storing.specs.Bounded.{Bounded}
-use Rattle.storing.specs.Stored.{edgeBit}
-use Rattle.storing.specs.Closed.{Holds, partBit, towardBit}
-use Rattle.storing.specs.Counted.{MarksOf}
-use Rattle.steps.specs.Step.{showing}
-use Rattle.steps.specs.Citing.{Cited, none, citing}
-use Rattle.steps.specs.Justified.{cites}
-use Rattle.chain_steps.specs.Twice.{Differ}
+use Rattle.closure.specs.Bounded.{Bounded}
+use Rattle.closure.specs.Stored.{edgeBit}
+use Rattle.closure.specs.Closed.{Holds, partBit, towardBit}
+use Rattle.closure.specs.Counted.{MarksOf}
+use Rattle.chain_format.specs.Step.{showing}
+use Rattle.chain_format.specs.Citing.{Cited, none, citing}
+use Rattle.chain_format.specs.Justified.{cites}
+use Rattle.chain_format.specs.Twice.{Differ}
 use Rattle.derivations.specs.declared.search.Aim.{Aim}
 use Rattle.derivations.specs.declared.search.Witness.{Witness}
 use Rattle.derivations.specs.declared.search.Meeting.{Meeting}
 use Rattle.derivations.specs.declared.search.Single.{Single}
 use Rattle.derivations.specs.Aim.{kindFor, joining}
-use Rattle.showing.specs.Lifts.{Unmarked, Inside, Disjoint, Grounded}
-use Rattle.part_steps.specs.Written.{Put}
-use Rattle.showing.specs.Shown.{Writes}
+use Rattle.derivations.specs.Lifts.{Unmarked, Inside, Disjoint, Grounded}
+use Rattle.derivations.specs.Written.{Put}
+use Rattle.derivations.specs.Shown.{Writes}
 
 -- a place below m that passes, or m where none does
 pub record Found (test : ℕ → Bool) (m r : ℕ) : Type 0 where

@@ -1,2 +1,11 @@
+pub mod Climbs
+pub mod Distinct
+pub mod Hops
+pub mod Queue
+pub mod Sources
+pub mod Written
+pub mod Lifts
+pub mod Shown
+pub mod Commons
 pub mod Aim
 pub mod Found

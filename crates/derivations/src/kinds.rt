@@ -10,8 +10,9 @@ ghost use Rattle.derivations.specs.Aim.{serving};
 ghost use Rattle.derivations.specs.declared.search.Aim.the-variants.{Outside};
 ghost use Rattle.derivations.specs.Found.{Ground, Voided, Chained};
 use crate::search::Aim;
+use crate::showing;
+use chain_format::Step;
 use records::Record;
-use steps::Step;
 
 // a PART b: by a mark of a, or along stored PARTs.
 fn chain_part(
@@ -29,9 +30,9 @@ fn chain_part(
     requires { ⌜ Ground n claim (now book) (now voids) (now e) (now d) (now t) × (a < n) × (b < n) × (164000 ≤ length (now c)) ⌝ }
     ensures { λ r. ⌜ Chained n claim (now (book .entry)) (fact.PART a b) (now (c .entry)) (now (c .exit)) r ⌝ }
 {
-    if relation::has(voids, a) {
+    if matrices::has(voids, a) {
         let i = crate::search::find_mark(book, a);
-        part_steps::writing::put_step(
+        crate::writing::put_step(
             c,
             0,
             Step {
@@ -45,7 +46,7 @@ fn chain_part(
         );
         return 1;
     }
-    if !relation::test(d, b, a) {
+    if !matrices::test(d, b, a) {
         return 0;
     }
     showing::show_part(book, n, claim, e, a, b, c, 0)
@@ -57,7 +58,7 @@ fn void_step(book: &[u8], g: usize, a: usize, b: usize, c: &mut [u8]) -> usize
     ensures { λ r. ⌜ Voided (now (book .entry)) g a b (now (c .entry)) (now (c .exit)) r ⌝ }
 {
     let i = crate::search::find_mark(book, g);
-    part_steps::writing::put_step(
+    crate::writing::put_step(
         c,
         0,
         Step {
@@ -88,10 +89,10 @@ fn chain_apart(
     requires { ⌜ Ground n claim (now book) (now voids) (now e) (now d) (now t) × (a < n) × (b < n) × (164000 ≤ length (now c)) ⌝ }
     ensures { λ r. ⌜ Chained n claim (now (book .entry)) (fact.APART a b) (now (c .entry)) (now (c .exit)) r ⌝ }
 {
-    if relation::has(voids, a) {
+    if matrices::has(voids, a) {
         return void_step(book, a, a, b, c);
     }
-    if relation::has(voids, b) {
+    if matrices::has(voids, b) {
         return void_step(book, b, a, b, c);
     }
     let i = crate::search::find_record(Aim::Apart, claim, book, d, t, a, b);
@@ -144,7 +145,7 @@ fn chain_outside_void(
     ensures { λ r. ⌜ Chained n claim (now (book .entry)) (fact.NOTPART a b) (now (c .entry)) (now (c .exit)) r ⌝ }
 {
     let i = crate::search::find_mark(book, b);
-    part_steps::writing::put_step(
+    crate::writing::put_step(
         c,
         0,
         Step {
@@ -156,7 +157,7 @@ fn chain_outside_void(
             second: 0,
         },
     );
-    part_steps::writing::put_step(
+    crate::writing::put_step(
         c,
         1,
         Step {
@@ -168,7 +169,7 @@ fn chain_outside_void(
             second: 0,
         },
     );
-    part_steps::writing::put_step(
+    crate::writing::put_step(
         c,
         2,
         Step {

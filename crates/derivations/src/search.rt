@@ -3,17 +3,17 @@ ghost use mathlib.Core.Path.{_≡_};
 ghost use mathlib.Core.Bool.{true, false, not, _&&_};
 ghost use Prim.Native.Nat.{_+_, _<_, _≤_};
 ghost use lib.ListN.{length};
-ghost use Rattle.relation.specs.Matrix.{bitOf};
+ghost use Rattle.matrices.specs.Matrix.{bitOf};
 ghost use Rattle.rules.specs.Fact.{AllWithin};
 ghost use Rattle.records.specs.Record.{recordAt, records};
 ghost use Rattle.records.specs.Facts.{facts};
 ghost use Rattle.records.specs.Marked.{marks};
-ghost use Rattle.storing.specs.Void.{voidOf};
-ghost use Rattle.steps.specs.Citing.{citing};
+ghost use Rattle.closure.specs.Void.{voidOf};
+ghost use Rattle.chain_format.specs.Citing.{citing};
 ghost use Rattle.derivations.specs.Aim.{kindFor, joining, serving};
 ghost use Rattle.derivations.specs.Found.{Found, Singly, Ground, Witnessed, Met};
+use chain_format::Step;
 use records::Record;
-use steps::Step;
 
 // What a record is searched for: the three kinds of stored facts, and an APART that shows NOTPART by rule (d').
 pub enum Aim {
@@ -49,10 +49,10 @@ fn both(d: &[u64], r: usize, i: usize, s: usize, j: usize) -> bool
     requires { ⌜ (length (now d) ≡ 65536) × (r < 2048) × (i < 2048) × (s < 2048) × (j < 2048) ⌝ }
     ensures { λ b. ⌜ b ≡ (bitOf (now (d .entry)) r i && bitOf (now (d .entry)) s j) ⌝ }
 {
-    if !relation::test(d, r, i) {
+    if !matrices::test(d, r, i) {
         return false;
     }
-    relation::test(d, s, j)
+    matrices::test(d, s, j)
 }
 
 // Whether the pieces x and y of a record lead to a fact about a and b.
@@ -65,10 +65,10 @@ fn joins(aim: Aim, d: &[u64], t: &[u64], a: usize, b: usize, x: usize, y: usize)
         Aim::Meets => both(d, a, x, b, y),
         Aim::NotPart => both(d, a, x, y, b),
         Aim::Outside => {
-            if !relation::test(d, x, b) {
+            if !matrices::test(d, x, b) {
                 return false;
             }
-            relation::meet(t, a, d, y)
+            matrices::meet(t, a, d, y)
         }
     }
 }
@@ -92,7 +92,7 @@ fn serves(aim: Aim, claim: Record, d: &[u64], t: &[u64], a: usize, b: usize, r: 
     if r.kind != kind_for(aim) {
         return false;
     }
-    if !steps::lets(claim, r) {
+    if !chain_format::lets(claim, r) {
         return false;
     }
     if joins(aim, d, t, a, b, r.a, r.b) {
@@ -182,7 +182,7 @@ pub fn find_single(n: usize, claim: Record, book: &[u8], kind: u8, a: usize, b: 
         first: 0,
         second: 0,
     };
-    if steps::shows(step, 1, a, 0) {
+    if chain_format::shows(step, 1, a, 0) {
         return Single { found: true, step };
     }
     let m = book.len() / 6;
@@ -196,7 +196,7 @@ pub fn find_single(n: usize, claim: Record, book: &[u8], kind: u8, a: usize, b: 
             first: i,
             second: 0,
         };
-        if steps::cites(claim, book, step) {
+        if chain_format::cites(claim, book, step) {
             return Single { found: true, step };
         }
         i += 1;
@@ -231,7 +231,7 @@ fn find_common(n: usize, voids: &[u64], d: &[u64], a: usize, b: usize) -> usize
 {
     let mut x: usize = 0;
     while x < n {
-        if relation::has(voids, x) {
+        if matrices::has(voids, x) {
             x += 1;
             continue;
         }

@@ -3,7 +3,7 @@ ghost use mathlib.Core.Path.{_≡_};
 ghost use mathlib.Core.Bool.{false};
 ghost use Prim.Native.Nat.{_<_};
 ghost use lib.ListN.{length};
-ghost use Rattle.relation.specs.Matrix.{United, common};
+ghost use Rattle.matrices.specs.Matrix.{United, common};
 ghost use Rattle.exports.specs.Positions.{Either};
 
 #[no_mangle]
@@ -20,7 +20,7 @@ pub extern "C" fn relation_union_within(m: &mut [u64], d: usize, s: usize)
     if 2048 <= s {
         return;
     }
-    relation::union_within(m, d, s);
+    matrices::union_within(m, d, s);
 }
 
 #[no_mangle]
@@ -39,5 +39,5 @@ pub extern "C" fn relation_meet(m: &[u64], r: usize, n: &[u64], s: usize) -> boo
     if 2048 <= s {
         return false;
     }
-    relation::meet(m, r, n, s)
+    matrices::meet(m, r, n, s)
 }

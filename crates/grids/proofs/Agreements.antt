@@ -19,7 +19,7 @@ use Rattle.records.specs.declared.BookCheck.the-variants as book
 use Rattle.records.proofs.Keeps.{picked-all}
 use Rattle.records.proofs.Rows.{refused-positive}
 use Rattle.outcomes.specs.Lent.{Lent}
-use Rattle.answering.specs.Claimed.{claimed, pickedFacts}
+use Rattle.records.specs.Claimed.{claimed, pickedFacts}
 use Rattle.outcomes.specs.Call.{outcome, left, indexed, Passed}
 use Rattle.outcomes.specs.Fresh.{freshCall}
 use Rattle.outcomes.specs.Outcome.{number}
@@ -28,8 +28,8 @@ use Rattle.outcomes.specs.declared.Outcome.the-variants.{Accepted, Refused}
 use Rattle.outcomes.proofs.Outcomes.{Told, told}
 use Rattle.answers.proofs.Fresh.{fresh-sound}
 use Rattle.outcomes.proofs.Kept.{claim-in, answer-at}
-use Rattle.rounds.specs.declared.Grids.{Grids}
-use Rattle.rounds.specs.Closed.{holds}
+use Rattle.grids.specs.declared.rounds.Grids.{Grids}
+use Rattle.grids.specs.Closed.{holds}
 use Rattle.grids.specs.Answers.{Answers}
 use Rattle.grids.specs.Sheet.{sized, bySize, gridOutcome, bitFor, Gridded}
 use Rattle.grids.specs.Agree.{GridAgrees}

@@ -20,7 +20,7 @@ use Rattle.records.specs.declared.ClaimsCheck.the-variants as claims
 use Rattle.records.proofs.Accepted.{accepted}
 use Rattle.records.proofs.Rows.{refused-positive}
 use Rattle.outcomes.specs.Lent.{Lent, lent, shortLent}
-use Rattle.answering.specs.Claimed.{claimed}
+use Rattle.records.specs.Claimed.{claimed}
 use Rattle.outcomes.specs.Call as call
 use Rattle.outcomes.specs.Fresh.{freshCall}
 use Rattle.outcomes.specs.Outcome.{number}
@@ -28,8 +28,8 @@ use Rattle.outcomes.specs.declared.Outcome.{Outcome}
 use Rattle.outcomes.specs.declared.Outcome.the-variants.{Accepted, Refused}
 use Rattle.outcomes.proofs.Outcomes.{passed-outcome}
 use Rattle.answers.proofs.Fresh.{fresh-is, fresh-sound, roomy-long}
-use Rattle.rounds.specs.declared.Grids.{Grids}
-use Rattle.rounds.specs.Closed.{holds}
+use Rattle.grids.specs.declared.rounds.Grids.{Grids}
+use Rattle.grids.specs.Closed.{holds}
 use Rattle.grids.specs.Answers as on
 use Rattle.grids.specs.Loaded.{among}
 use Rattle.grids.specs.Sheet.{sized, bySize, gridOutcome, bitFor, Gridded}

@@ -1,4 +1,9 @@
 -- What the proofs of several functions use.
+pub mod Rows
+pub mod Products
+pub mod Sweeps
+pub mod RoundsLaws
+pub mod Growing
 pub mod Facts
 pub mod Agrees
 pub mod Puts

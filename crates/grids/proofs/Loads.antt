@@ -17,7 +17,7 @@ use borrow.Author.Tests.{leb-true}
 use Rattle.lists.proofs.Bools.{and-both}
 use Rattle.records.proofs.Accepted.{says-left, says-right}
 use Rattle.records.proofs.Runs.{facts-more, entry-stated, entry-none, fact-here}
-use Rattle.rounds.specs.declared.Grids.{Grids}
+use Rattle.grids.specs.declared.rounds.Grids.{Grids}
 use Rattle.grids.specs.Loaded.{Put, Loaded, Loadable}
 use Rattle.grids.proofs.Puts.{loaded-more}
 

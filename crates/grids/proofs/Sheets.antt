@@ -6,8 +6,8 @@ use mathlib.Core.List.{List, []}
 use native.Mathlib.Omega.{arith}
 use borrow.Author.Tests.{lt-ltb, le-ltb}
 use lib.ListN.{getD, replicate, getD-replicate}
-use Rattle.relation.specs.Matrix.{bit, bitOf}
-use Rattle.relation.proofs.Laws.{bit-zero}
+use Rattle.matrices.specs.Matrix.{bit, bitOf}
+use Rattle.matrices.proofs.Laws.{bit-zero}
 use Rattle.rules.specs.Fact.{Fact, PART, APART, MEETS, NOTPART, Within}
 use Rattle.records.specs.Facts.{facts}
 use Rattle.records.specs.Marked.{marked}
@@ -16,14 +16,14 @@ use Rattle.records.specs.declared.Refusal.{Refusal}
 use Rattle.records.specs.declared.Refusal.the-variants.{TooManyPieces}
 use Rattle.records.specs.declared.BookCheck.the-variants as book
 use Rattle.records.proofs.Accepted.{accepted, accepted-within, accepted-positive}
-use Rattle.storing.specs.Void.{voidOf}
+use Rattle.closure.specs.Void.{voidOf}
 use Rattle.outcomes.specs.Fresh.{freshCall}
 use Rattle.outcomes.specs.declared.Outcome.{Outcome}
 use Rattle.outcomes.specs.declared.Outcome.the-variants.{Accepted, Refused}
-use Rattle.rounds.specs.declared.Grids.{Grids}
-use Rattle.rounds.specs.Grid.{bitAt}
+use Rattle.grids.specs.declared.rounds.Grids.{Grids}
+use Rattle.grids.specs.Grid.{bitAt}
 use Rattle.grids.specs.Loaded.{Loadable}
-use Rattle.rounds.specs.Closed.{holds}
+use Rattle.grids.specs.Closed.{holds}
 use Rattle.grids.specs.Answers.{Answers}
 use Rattle.grids.specs.Sheet.{sized, bySize, gridOutcome, bitFor, Blank, Gridded}
 

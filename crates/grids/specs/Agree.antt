@@ -6,12 +6,12 @@ use lib.Dec.{eqb}
 use lib.ListN.{getD}
 use Rattle.records.specs.Record.{recordAt, records}
 use Rattle.outcomes.specs.Lent.{Lent}
-use Rattle.answering.specs.Claimed.{claimed}
+use Rattle.records.specs.Claimed.{claimed}
 use Rattle.outcomes.specs.Call.{outcome, left}
 use Rattle.outcomes.specs.Outcome.{number}
 use Rattle.outcomes.specs.declared.Outcome.{Outcome}
-use Rattle.rounds.specs.declared.Grids.{Grids}
-use Rattle.rounds.specs.Closed.{holds}
+use Rattle.grids.specs.declared.rounds.Grids.{Grids}
+use Rattle.grids.specs.Closed.{holds}
 use Rattle.grids.specs.Sheet.{Gridded}
 
 -- where both calls accept the book, the bit of a claim on all facts is set exactly where the question call answers it by 1, FOLLOWS

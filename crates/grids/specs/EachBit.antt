@@ -11,8 +11,8 @@ use Rattle.outcomes.specs.Lent.{Lent, shortLent}
 use Rattle.outcomes.specs.Call as call
 use Rattle.outcomes.specs.Outcome.{number}
 use Rattle.outcomes.specs.declared.Outcome.{Outcome}
-use Rattle.rounds.specs.declared.Grids.{Grids}
-use Rattle.rounds.specs.Closed.{holds}
+use Rattle.grids.specs.declared.rounds.Grids.{Grids}
+use Rattle.grids.specs.Closed.{holds}
 use Rattle.grids.specs.Sheet.{Gridded}
 
 -- the claim of a bit, on all facts: a piece below 64 has 0 for its high byte

@@ -1,3 +1,5 @@
+pub mod Grid
+pub mod Closed
 pub mod Loaded
 pub mod Answers
 pub mod Sheet

@@ -9,8 +9,8 @@ use Rattle.lists.specs.Any.{any}
 use Rattle.rules.specs.Fact.{Fact, PART, APART, MEETS, NOTPART, kind, left, right, Within, AllWithin}
 use Rattle.records.specs.Record.{records}
 use Rattle.records.specs.Facts.{facts}
-use Rattle.rounds.specs.declared.Grids.{Grids}
-use Rattle.rounds.specs.Closed.{holds}
+use Rattle.grids.specs.declared.rounds.Grids.{Grids}
+use Rattle.grids.specs.Closed.{holds}
 
 -- both pieces are below n
 unfoldable pub among : ℕ → ℕ → ℕ → Bool

@@ -11,8 +11,8 @@ use Rattle.records.specs.declared.Refusal.the-variants.{TooManyPieces}
 use Rattle.outcomes.specs.Fresh.{freshCall}
 use Rattle.outcomes.specs.declared.Outcome.{Outcome}
 use Rattle.outcomes.specs.declared.Outcome.the-variants.{Accepted, Refused}
-use Rattle.rounds.specs.declared.Grids.{Grids}
-use Rattle.rounds.specs.Closed.{holds}
+use Rattle.grids.specs.declared.rounds.Grids.{Grids}
+use Rattle.grids.specs.Closed.{holds}
 use Rattle.grids.specs.Answers.{claimed}
 
 -- 16, behind the rows of the call that writes the index alone

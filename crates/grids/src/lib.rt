@@ -4,9 +4,9 @@ ghost use mathlib.Core.Bool.{not, _&&_};
 ghost use mathlib.Core.List.{[]};
 ghost use Prim.Native.Nat.{ℕ, _<_, _≤_};
 ghost use lib.Dec.{eqb, ltb};
-ghost use Rattle.relation.specs.Matrix.{bit};
+ghost use Rattle.matrices.specs.Matrix.{bit};
 ghost use Rattle.rules.specs.Fact.{factOf};
-ghost use Rattle.rounds.specs.Grid.{Inserted};
+ghost use Rattle.grids.specs.Grid.{Inserted};
 ghost use Rattle.grids.specs.Loaded.{Put, Loaded, Loadable};
 ghost use Rattle.grids.specs.Answers.{Answers};
 ghost use Rattle.records.specs.Facts.{facts};
@@ -17,6 +17,8 @@ use outcomes::Outcome;
 use records::BookCheck;
 use records::Refusal;
 use rounds::Grids;
+
+pub mod rounds;
 
 // The grid with bit b of row a set.
 fn insert(l: [u64; 64], a: usize, b: usize) -> [u64; 64]
@@ -175,7 +177,7 @@ fn grids_of(book: &[u8], n: usize) -> Grids
     ensures { λ r. ⌜ Answers (marked (now (book .entry))) n (facts (now (book .entry))) r ⌝ }
 {
     let mut voids = [0u64; 32];
-    storing::marking::mark_voids(book, &mut voids);
+    closure::marking::mark_voids(book, &mut voids);
     rounds::close(load(book, n, voids[0]))
 }
 

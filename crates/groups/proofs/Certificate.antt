@@ -17,8 +17,8 @@ use borrow.Author.Tests.{eq-eqb, ne-eqb, ltb-true, lt-ltb}
 use Rattle.lists.proofs.Firsts.{first-is}
 use Rattle.lists.proofs.Tallies.{tally-mono}
 use mathlib.Core.List.{List}
-use Rattle.relation.specs.Matrix.{bitOf}
-use Rattle.components.specs.Search.{partOf, WayOf, Searched}
+use Rattle.matrices.specs.Matrix.{bitOf}
+use Rattle.groups.specs.Search.{partOf, WayOf, Searched}
 use Rattle.groups.proofs.Lying.{Pairs, leads, leads-in, leads-split, lies-within, within-lies}
 use Rattle.groups.proofs.Grouping.{same-both, both-same, lowest-member, lowest-below, lowest-le}
 use Rattle.groups.proofs.Numbered.{same-to-number, number-to-same}

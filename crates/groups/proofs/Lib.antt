@@ -1,3 +1,6 @@
+pub mod Fits
+pub mod Paths
+pub mod Steps
 pub mod Lying
 pub mod Grouping
 pub mod Levels

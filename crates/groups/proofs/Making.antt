@@ -13,11 +13,11 @@ use Rattle.lists.specs.Tally.{tally}
 use Rattle.lists.proofs.Bools.{not-is-true}
 use Rattle.lists.proofs.Tallies.{tally-find, tally-rest}
 use Rattle.lists.proofs.Passed.{tally-few, tally-many}
-use Rattle.relation.specs.Matrix.{bitOf}
+use Rattle.matrices.specs.Matrix.{bitOf}
 use Rattle.groups.specs.Groups.{lowest}
 use Rattle.groups.specs.Grouped.{Edged, Grouped}
 use Rattle.groups.specs.Ranks.{lowestBy, firstBy, Ranked, follower, Arrangeable, Arranged}
-use Rattle.components.specs.Search.{WayOf, Searchable, Searched}
+use Rattle.groups.specs.Search.{WayOf, Searchable, Searched}
 use Rattle.groups.proofs.Lying.{Pairs}
 use Rattle.groups.proofs.Certificate.{Certified, lies-done, low-by, number-by, count-by, searched}
 use Rattle.groups.proofs.Ranking.{same-lowest-by, lowest-by-le, lowest-by-class}

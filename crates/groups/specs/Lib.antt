@@ -1,3 +1,4 @@
+pub mod Search
 pub mod Groups
 pub mod Index
 pub mod Grouped

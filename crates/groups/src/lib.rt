@@ -5,7 +5,9 @@ ghost use Prim.Native.Nat.{ℕ, _+_, _-_, _<_};
 ghost use lib.ListN.{length, getD};
 ghost use Rattle.groups.specs.Grouped.{Edged, Grouped};
 ghost use Rattle.groups.specs.Ranks.{Numerable, Ranked, Arrangeable, Arranged};
-ghost use Rattle.components.specs.Search.{Searchable};
+ghost use Rattle.groups.specs.Search.{Searchable};
+
+pub mod components;
 
 // The groups in the order of their lowest members: the number of each piece's group, its lowest member, and how many there are. `heads` has the
 // lowest member of each number of the search.

@@ -14,7 +14,7 @@ use Rattle.lists.specs.Any.{anyBelow}
 use Rattle.lists.specs.First.{first}
 use Rattle.lists.proofs.Bools.{Known, is-true, is-false, known, right-or}
 use Rattle.lists.specs.Tally.{num}
-use Rattle.relation.specs.Matrix.{bitOf, Inserted}
+use Rattle.matrices.specs.Matrix.{bitOf, Inserted}
 use Rattle.lists.proofs.Searches.{Sought, sought-next}
 use Rattle.index.specs.Pairs.{joined, Book}
 use Rattle.index.specs.Matrix.{pairOf, Completed}

@@ -19,3 +19,4 @@ mod Written
 pub mod Walking
 pub mod Resolution
 pub mod Joins
+pub mod Buildings

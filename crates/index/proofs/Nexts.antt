@@ -7,7 +7,7 @@ use native.Mathlib.Omega.{arith}
 use lib.Dec.{ltb}
 use borrow.Author.Tests.{lt-ltb}
 use Rattle.lists.specs.First.{first}
-use Rattle.relation.specs.Matrix.{bitOf}
+use Rattle.matrices.specs.Matrix.{bitOf}
 use Rattle.lists.proofs.Searches.{sought-next}
 use Rattle.index.specs.Matrix.{pairOf}
 

@@ -11,10 +11,10 @@ use lib.ListN.{length, getD, take, drop, replicate, getD-replicate, length-take,
 use lib.Pow.{shr-shr, pow-mono}
 use lib.Seq.{ext-getD, getD-take, getD-drop, getD-append-add}
 use Rattle.lists.proofs.Tabs.{tab-at, tab-length, take-tab}
-use Rattle.packed.specs.Bits.{bits, bitOf, digit}
+use Rattle.parentheses.specs.Bits.{bits, bitOf, digit}
 use Rattle.lists.specs.Tally.{num}
 use Rattle.parentheses.specs.Padded.{padded}
-use Rattle.packed.proofs.Packed.{bits-length, bits-at}
+use Rattle.parentheses.proofs.PackedLaws.{bits-length, bits-at}
 use Rattle.parentheses.proofs.Paddeds.{padded-length}
 use Rattle.parentheses.proofs.Unpacked.{bits-same}
 use Rattle.index.specs.Parts.{value, packed}

@@ -15,7 +15,7 @@ use Rattle.index.specs.Tree.{Visit, node, Forest, hang, under, whole, vi
 use Rattle.index.specs.Parts.{parens, isNode, place}
 use Rattle.lists.proofs.Numbers.{_∈_, which}
 use Rattle.lists.specs.Tally.{num}
-use Rattle.packed.specs.Rank.{rank}
+use Rattle.parentheses.specs.Rank.{rank}
 use Rattle.parentheses.specs.Subtree.{after}
 use Rattle.parentheses.proofs.Trees.{rank-cons, ones, ones-append}
 use Rattle.index.specs.Pairs.{parts, Book}

@@ -9,7 +9,7 @@ use native.Mathlib.Decide.{ℕ-discrete, decLt}
 use lib.ListN.{length, getD, set, replicate, length-set, length-replicate, getD-replicate, List·getD-eq-default}
 use lib.Seq.{getD-set-other, set-getD}
 use Rattle.lists.specs.First.{first}
-use Rattle.relation.specs.Matrix.{bitOf}
+use Rattle.matrices.specs.Matrix.{bitOf}
 use Rattle.index.specs.Pairs.{Book}
 use Rattle.index.specs.Breadth.{parent}
 use Rattle.index.specs.Tree.{Visit, node, shadow, whole, visits}

@@ -10,8 +10,8 @@ use native.Mathlib.Decide.{ℕ-discrete, decLt}
 use native.Mathlib.Nat.{zero-div}
 use lib.ListN.{length, getD, take, drop, set, length-append, length-set, length-map, List·getD-eq-default, take-append-drop, length-drop}
 use lib.Seq.{take-all, getD-set-same, getD-set-other, getD-append-seam, length-take-le}
-use Rattle.packed.specs.Bits.{bits, bitOf, digit}
-use Rattle.packed.proofs.Packed.{bits-length, bits-at}
+use Rattle.parentheses.specs.Bits.{bits, bitOf, digit}
+use Rattle.parentheses.proofs.PackedLaws.{bits-length, bits-at}
 use Rattle.index.specs.Tree.{Visit, node, shadow}
 use Rattle.index.specs.Parts.{isShadow, marks, shadows}
 use Rattle.index.proofs.Events.{Event, enter, leave, eventBits, eventVisits}

@@ -6,6 +6,10 @@ ghost use Rattle.lists.specs.Tab.{tab};
 ghost use Rattle.parentheses.specs.Padded.{padded};
 ghost use Rattle.index.specs.Matrix.{pairOf};
 ghost use Rattle.index.specs.Steps.{Marked, Held, Sized, unmet, Spread, Parented, Zero, Resolvable, Resolved};
+pub use building::Counts;
+pub use building::build;
+
+pub mod building;
 
 // A piece's number.
 pub struct DatasetId(pub usize);
@@ -51,10 +55,10 @@ fn mark_parts(edges: &[u64], c: usize, held: &mut [u16; 2048])
     requires { ⌜ (length (now edges) ≡ 65536) × (c < 2048) × (length (now held) ≡ 2048) ⌝ }
     ensures { λ _. ⌜ Marked (now (edges .entry)) c (now (held .entry)) (now (held .exit)) ⌝ }
 {
-    let mut p = relation::next_bit(edges, c, 0);
+    let mut p = matrices::next_bit(edges, c, 0);
     while p < 2048 {
         held[p] = 1;
-        p = relation::next_bit(edges, c, p + 1);
+        p = matrices::next_bit(edges, c, p + 1);
     }
 }
 
@@ -83,16 +87,16 @@ fn spread(
     ensures { λ r. ⌜ Spread n (pairOf n (now (edges .entry))) c (now (parent .entry)) (now (order .entry)) tail (now (parent .exit)) (now (order .exit)) r ⌝ }
 {
     let mut end = tail;
-    let mut p = relation::next_bit(edges, c, 1);
+    let mut p = matrices::next_bit(edges, c, 1);
     while p < n {
         if parent[p] == 2048 {
             parent[p] = narrow(c);
             order[end] = narrow(p);
             end += 1;
-            p = relation::next_bit(edges, c, p + 1);
+            p = matrices::next_bit(edges, c, p + 1);
             continue;
         }
-        p = relation::next_bit(edges, c, p + 1);
+        p = matrices::next_bit(edges, c, p + 1);
     }
     end
 }

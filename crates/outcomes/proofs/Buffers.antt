@@ -14,7 +14,7 @@ use Rattle.index.specs.Parts as on
 use Rattle.parentheses.proofs.Paddeds.{padded-length}
 use Rattle.outcomes.specs.Lent.{Lent, lent}
 use Rattle.outcomes.specs.Fitting.{Fits}
-use Rattle.answering.specs.Claimed.{answersTo}
+use Rattle.records.specs.Claimed.{answersTo}
 use Rattle.outcomes.specs.Call.{indexed, cleared, left}
 use Rattle.outcomes.specs.declared.Outcome.{Outcome}
 use Rattle.outcomes.specs.declared.Outcome.the-variants.{Accepted, Refused}

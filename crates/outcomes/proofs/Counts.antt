@@ -20,14 +20,14 @@ use Rattle.records.specs.Check.{claimsCheck}
 use Rattle.records.specs.declared.ClaimsCheck.the-variants as claims
 use Rattle.records.proofs.Keeps.{picked-among}
 use Rattle.records.proofs.Accepted.{accepted-claims}
-use Rattle.settling.proofs.Settling.{free-model, clashed-no-model}
-use Rattle.answering.proofs.Counts.{counted-settleable, counted-unmarked, counted-free, counted-clashed}
+use Rattle.contradiction.proofs.SettlingLaws.{free-model, clashed-no-model}
+use Rattle.claims.proofs.Counts.{counted-settleable, counted-unmarked, counted-free, counted-clashed}
 use Rattle.outcomes.specs.Outcome as of
-use Rattle.answering.specs.Claimed.{claimed, pickedFacts}
+use Rattle.records.specs.Claimed.{claimed, pickedFacts}
 use Rattle.outcomes.specs.Call.{byRuns}
 use Rattle.outcomes.specs.Demands.{Derived, Entailed}
-use Rattle.storing.specs.Counted.{Counted}
-use Rattle.answering.proofs.Fewer.{fewer-within, fewer-consistent}
+use Rattle.closure.specs.Counted.{Counted}
+use Rattle.claims.proofs.Fewer.{fewer-within, fewer-consistent}
 
 module _ (s : List ℕ) {n : ℕ} (C : Counted s n) where
   -- refused as contradictory exactly when there is no model

@@ -25,12 +25,12 @@ use Rattle.records.proofs.Accepted.{accepted}
 use Rattle.groups.specs.Groups.{number}
 use Rattle.groups.specs.Index.{bookParens, bookVisits, bookPlaces}
 use Rattle.index.specs.Parts as on
-use Rattle.settling.specs.Contradiction.{Contradiction}
-use Rattle.opening.specs.Settleable.{Settleable}
-use Rattle.settling.proofs.Settling.{settled-room, free-consistent, free-model, clashed-first}
+use Rattle.records.specs.Contradiction.{Contradiction}
+use Rattle.contradiction.specs.Settleable.{Settleable}
+use Rattle.contradiction.proofs.SettlingLaws.{settled-room, free-consistent, free-model, clashed-first}
 use Rattle.outcomes.specs.Lent.{Lent}
 use Rattle.outcomes.specs.Outcome as of
-use Rattle.answering.specs.Claimed.{claimed, pickedFacts, answersTo}
+use Rattle.records.specs.Claimed.{claimed, pickedFacts, answersTo}
 use Rattle.outcomes.specs.Call.{pairsOf, outcome, Passed, indexed, left, Determined}
 use Rattle.outcomes.specs.Demands.{Entailed, Demand2, Demand3, Contradicted}
 use Rattle.outcomes.specs.Agree.{Agree, SheetsAgree}
@@ -39,8 +39,8 @@ use Rattle.outcomes.specs.declared.Outcome.{Outcome}
 use Rattle.outcomes.specs.declared.Outcome.the-variants.{Accepted, Refused}
 use Rattle.outcomes.proofs.Outcomes.{Told, told, passed-outcome}
 use Rattle.outcomes.proofs.Buffers.{Fitted}
-use Rattle.answering.proofs.Fewer.{fewer-follows, fewer-denied}
-use Rattle.answering.proofs.Counts.{own-count, counted-settleable, counted-unmarked, counted-free, counted-clashed}
+use Rattle.claims.proofs.Fewer.{fewer-follows, fewer-denied}
+use Rattle.claims.proofs.Counts.{own-count, counted-settleable, counted-unmarked, counted-free, counted-clashed}
 use Rattle.outcomes.proofs.Counts.{runs-refused, claim-within, derived, entailed}
 
 module _ (s cs : List ℕ) (l : Lent) (n : ℕ) (p : Passed s cs l n) where

@@ -13,8 +13,8 @@ use Rattle.records.proofs.Runs.{fact-from}
 use Rattle.records.proofs.Accepted.{says-kind, says-left, says-right}
 use Rattle.groups.specs.Same.{SameIndex}
 use Rattle.groups.proofs.Lower.{same-index}
-use Rattle.opening.proofs.FactIndex.{part-stored}
-use Rattle.settling.proofs.Settling.{settleable}
+use Rattle.contradiction.proofs.FactIndex.{part-stored}
+use Rattle.contradiction.proofs.SettlingLaws.{settleable}
 use Rattle.outcomes.specs.Call.{pairsOf, indexed}
 use Rattle.outcomes.specs.Lower.{edges, byPieces, Kept, LowerIndex}
 

@@ -29,12 +29,12 @@ use Rattle.records.proofs.Keeps.{picked-among}
 use Rattle.records.proofs.Orders.{facts-found, picked-found, found-moved, found-back, reordered-accepted}
 use Rattle.groups.specs.Index.{bookVisits}
 use Rattle.index.specs.Parts as on
-use Rattle.opening.specs.PartIn.{partIn}
-use Rattle.opening.proofs.FactIndex.{part-stored, stored-part}
-use Rattle.settling.proofs.Settling.{settleable, whole-unmarked, free-beyond, beyond-free}
+use Rattle.records.specs.PartIn.{partIn}
+use Rattle.contradiction.proofs.FactIndex.{part-stored, stored-part}
+use Rattle.contradiction.proofs.SettlingLaws.{settleable, whole-unmarked, free-beyond, beyond-free}
 use Rattle.outcomes.specs.Lent.{Lent, shortLent}
 use Rattle.outcomes.specs.Outcome.{number}
-use Rattle.answering.specs.Claimed.{claimed, pickedFacts, answersTo}
+use Rattle.records.specs.Claimed.{claimed, pickedFacts, answersTo}
 use Rattle.outcomes.specs.Call.{pairsOf, byRuns, byClaims, byBook, outcome, indexed, left}
 use Rattle.outcomes.specs.Order.{OrderFree}
 use Rattle.outcomes.specs.declared.Outcome.{Outcome}

@@ -18,7 +18,7 @@ use Rattle.index.specs.Index.{visitsOf}
 use Rattle.groups.specs.Groups as groups
 use Rattle.groups.specs.Index.{edges, bookVisits}
 use Rattle.lists.specs.Tally.{tally}
-use Rattle.opening.specs.PartIn.{partIn}
+use Rattle.records.specs.PartIn.{partIn}
 use Rattle.rules.specs.Fact.{factOf}
 use Rattle.rules.specs.Follows.{storing, turned, parting, table, entry, step, rounds, containment, apart, meets, notpart, derived, follows, clash}
 use Rattle.rules.specs.Verdict.{judge, verdict}
@@ -43,7 +43,7 @@ use Rattle.records.proofs.Marks.{marked-moved, marked-added}
 use Rattle.records.proofs.Orders.{Found, picked-found, count-found, found-before, found-through, found-moved}
 use Rattle.outcomes.specs.Lent.{Lent}
 use Rattle.outcomes.specs.Outcome.{number}
-use Rattle.answering.specs.Claimed.{claimed, answersTo}
+use Rattle.records.specs.Claimed.{claimed, answersTo}
 use Rattle.outcomes.specs.Call.{byRuns, outcome, indexed, left}
 use Rattle.outcomes.specs.Order.{PlaceDiffers, Steady, MarksTurn}
 use Rattle.outcomes.specs.declared.Outcome.{Outcome}

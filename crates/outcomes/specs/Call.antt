@@ -19,10 +19,10 @@ use Rattle.records.specs.declared.BookCheck.the-variants as book
 use Rattle.records.specs.declared.ClaimsCheck.{ClaimsCheck}
 use Rattle.records.specs.declared.ClaimsCheck.the-variants as claims
 use Rattle.groups.specs.Index.{bookParens, bookVisits, bookPlaces}
-use Rattle.opening.specs.PartIn.{partIn}
+use Rattle.records.specs.PartIn.{partIn}
 use Rattle.parentheses.specs.Padded.{padded}
 use Rattle.index.specs.Parts as on
-use Rattle.answering.specs.Claimed.{answersTo}
+use Rattle.records.specs.Claimed.{answersTo}
 use Rattle.outcomes.specs.Lent.{Lent, shortLent}
 use Rattle.outcomes.specs.declared.Outcome.{Outcome}
 use Rattle.outcomes.specs.declared.Outcome.the-variants.{Accepted, Refused}

@@ -12,9 +12,9 @@ use Rattle.records.specs.Record.{records}
 use Rattle.records.specs.Facts.{facts}
 use Rattle.records.specs.Pieces.{pieceCount}
 use Rattle.records.specs.Marked.{marked}
-use Rattle.settling.specs.Contradiction.{Contradiction}
+use Rattle.records.specs.Contradiction.{Contradiction}
 use Rattle.outcomes.specs.Lent.{Lent}
-use Rattle.answering.specs.Claimed.{claimed, pickedFacts}
+use Rattle.records.specs.Claimed.{claimed, pickedFacts}
 use Rattle.outcomes.specs.Call.{Passed}
 
 -- demand 2, of one claim: FOLLOWS exactly when it has a derivation, DENIED exactly when its opposite has one, OPEN exactly when neither has

@@ -14,7 +14,7 @@ use Rattle.index.specs.Pairs.{joined}
 use Rattle.index.specs.Index.{parenthesesOf, visitsOf}
 use Rattle.index.specs.Parts as on
 use Rattle.groups.specs.Index.{bookVisits}
-use Rattle.answering.specs.Claimed.{answersTo}
+use Rattle.records.specs.Claimed.{answersTo}
 use Rattle.outcomes.specs.Lent.{Lent}
 use Rattle.outcomes.specs.Call.{pairsOf, indexed}
 

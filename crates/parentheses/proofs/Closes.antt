@@ -12,14 +12,14 @@ use lib.Dec.{eqb}
 use lib.ListN.{getD, length}
 use Rattle.lists.specs.First.{first}
 use Rattle.lists.proofs.Searches.{first-same}
-use Rattle.packed.specs.Bits.{bits}
+use Rattle.parentheses.specs.Bits.{bits}
 use Rattle.lists.specs.Tally.{num}
-use Rattle.packed.specs.Rank.{rank}
-use Rattle.packed.specs.Close.{balanced, close}
+use Rattle.parentheses.specs.Rank.{rank}
+use Rattle.parentheses.specs.Close.{balanced, close}
 use Rattle.parentheses.specs.Search.{shuts, closing, Stays}
-use Rattle.packed.proofs.Margins.{margin, margin-le}
-use Rattle.packed.proofs.Packed.{bits-length}
-use Rattle.packed.proofs.Ranks.{rank-suc, rank-mono, rank-byte}
+use Rattle.parentheses.proofs.Margins.{margin, margin-le}
+use Rattle.parentheses.proofs.PackedLaws.{bits-length}
+use Rattle.parentheses.proofs.Ranks.{rank-suc, rank-mono, rank-byte}
 use Rattle.lists.proofs.Bools.{same-truth}
 use Rattle.lists.proofs.Firsts.{passed-over, found, ended}
 

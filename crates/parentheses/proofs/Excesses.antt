@@ -9,8 +9,8 @@ use borrow.Author.Tests.{eq-eqb, eqb-true, lt-ltb, le-ltb, ltb-true, ltb-false}
 use lib.Dec.{ltb}
 use lib.IntN.{ℤ, pos, negsuc, subℕ}
 use Rattle.lists.proofs.Bools.{Known, is-true, is-false, known}
-use Rattle.packed.specs.Rank.{rank}
-use Rattle.packed.specs.Close.{excess, balanced}
+use Rattle.parentheses.specs.Rank.{rank}
+use Rattle.parentheses.specs.Close.{excess, balanced}
 
 module _ (a b : ℕ) where
   below : a < b → subℕ a b ≡ negsuc (b - suc a)

@@ -1,3 +1,8 @@
+pub mod Masks
+pub mod PackedLaws
+pub mod Ranks
+pub mod Lanes
+pub mod Margins
 pub mod Unpacked
 pub mod Paddeds
 pub mod Rankings

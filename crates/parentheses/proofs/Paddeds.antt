@@ -9,9 +9,9 @@ use native.Mathlib.Omega.{arith}
 use lib.Dec.{eqb}
 use lib.ListN.{getD, length, set, replicate, length-append, length-replicate, getD-replicate}
 use lib.Seq.{ext-getD}
-use Rattle.packed.specs.Bits.{bits, bitOf, digit}
+use Rattle.parentheses.specs.Bits.{bits, bitOf, digit}
 use Rattle.parentheses.specs.Padded.{padded}
-use Rattle.packed.proofs.Packed.{bits-length, bits-at}
+use Rattle.parentheses.proofs.PackedLaws.{bits-length, bits-at}
 
 module _ {A : Type 0} (d : A) where
   set-seam : (l r : List A) (x a : A) → set (l ++ (x ∷ r)) (length l) a ≡ (l ++ (a ∷ [])) ++ r

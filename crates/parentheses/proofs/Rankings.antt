@@ -8,10 +8,10 @@ use native.Mathlib.Omega.{arith}
 use native.Mathlib.Decide.{ℕ-discrete}
 use lib.ListN.{length, getD, set}
 use lib.Seq.{getD-set-same, getD-set-other}
-use Rattle.packed.specs.Bits.{bits}
-use Rattle.packed.specs.Rank.{rank}
+use Rattle.parentheses.specs.Bits.{bits}
+use Rattle.parentheses.specs.Rank.{rank}
 use Rattle.parentheses.specs.Ranked.{Ranked}
-use Rattle.packed.proofs.Ranks.{num-le, rank-zero, rank-suc, rank-mono}
+use Rattle.parentheses.proofs.Ranks.{num-le, rank-zero, rank-suc, rank-mono}
 
 -- d bits have at most d ones
 rank-near : (bs : List Bool) (i d : ℕ) → rank bs (i + d) ≤ rank bs i + d

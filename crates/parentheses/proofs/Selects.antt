@@ -11,8 +11,8 @@ use borrow.Author.Tests.{lt-ltb, le-ltb, ltb-true, ltb-false}
 use lib.Dec.{ltb}
 use lib.ListN.{getD, length}
 use Rattle.lists.specs.Tally.{num}
-use Rattle.packed.specs.Rank.{rank, select}
-use Rattle.packed.proofs.Ranks.{num-le, rank-zero, rank-mono, rank-suc}
+use Rattle.parentheses.specs.Rank.{rank, select}
+use Rattle.parentheses.proofs.Ranks.{num-le, rank-zero, rank-mono, rank-suc}
 use Rattle.lists.proofs.Firsts.{first-is, first-none, hits}
 
 module _ (bs : List Bool) (j : ℕ) where

@@ -7,13 +7,13 @@ use Prim.Native.Nat.{ℕ, _+_}
 use lib.IntN.{pos, negsuc}
 use Rattle.lists.specs.Tab.{tab}
 use Rattle.lists.specs.First.{first}
-use Rattle.packed.specs.Bits.{digit, bitOf, bits}
-use Rattle.packed.specs.Rank.{rank, select}
-use Rattle.packed.specs.Close.{excess, balanced, close}
+use Rattle.parentheses.specs.Bits.{digit, bitOf, bits}
+use Rattle.parentheses.specs.Rank.{rank, select}
+use Rattle.parentheses.specs.Close.{excess, balanced, close}
 use Rattle.parentheses.specs.Subtree.{after}
 use Rattle.parentheses.specs.Enclose.{last, opens, enclosing}
 use Rattle.parentheses.specs.declared.Found.the-variants.{At, Nothing}
-use Rattle.packed.specs.Tables.{onesOf, lower, lowest, lowestOf}
+use Rattle.parentheses.specs.Tables.{onesOf, lower, lowest, lowestOf}
 
 -- ones and the lowest excess of 55 and 6: 5 and 1, 2 and -4
 tables : (onesOf 55 ≡ 5) × (lowestOf 55 ≡ pos 1) × (onesOf 6 ≡ 2) × (lowestOf 6 ≡ negsuc 3)

@@ -9,10 +9,10 @@ use native.Mathlib.Omega.{arith}
 use lib.ListN.{getD, length, List·getD-eq-default}
 use Rattle.lists.specs.First.{first}
 use Rattle.lists.proofs.Bools.{Known, is-true, is-false, known}
-use Rattle.packed.specs.Rank.{rank, select}
-use Rattle.packed.specs.Close.{balanced, close}
+use Rattle.parentheses.specs.Rank.{rank, select}
+use Rattle.parentheses.specs.Close.{balanced, close}
 use Rattle.parentheses.specs.Subtree.{after}
-use Rattle.packed.proofs.Ranks.{rank-one, rank-mono, rank-stays}
+use Rattle.parentheses.proofs.Ranks.{rank-one, rank-mono, rank-stays}
 use Rattle.parentheses.proofs.Selects.{select-none, select-found}
 
 -- a search does not go back

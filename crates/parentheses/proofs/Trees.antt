@@ -16,11 +16,11 @@ use Rattle.lists.specs.First.{first}
 use Rattle.lists.proofs.Bools.{Known, is-true, is-false, known}
 use Rattle.lists.proofs.Firsts.{first-is}
 use Rattle.lists.specs.Tally.{num}
-use Rattle.packed.specs.Rank.{rank, select}
-use Rattle.packed.specs.Close.{balanced, close}
+use Rattle.parentheses.specs.Rank.{rank, select}
+use Rattle.parentheses.specs.Close.{balanced, close}
 use Rattle.parentheses.specs.Subtree.{after}
 use Rattle.parentheses.specs.Forest.{Forest, none, node, enc, size, children}
-use Rattle.packed.proofs.Ranks.{rank-same, rank-zero}
+use Rattle.parentheses.proofs.Ranks.{rank-same, rank-zero}
 use Rattle.parentheses.proofs.Selects.{select-rank}
 
 -- ---- counts in lists put together

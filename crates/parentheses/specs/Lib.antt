@@ -1,3 +1,8 @@
+pub mod Bits
+pub mod Rank
+pub mod Close
+pub mod Tables
+pub mod Words
 pub mod Padded
 pub mod Ranked
 pub mod Search

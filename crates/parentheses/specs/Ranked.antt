@@ -3,8 +3,8 @@ use Prim.Native.Nat.{ℕ, _*_, _<_, _≤_}
 use mathlib.Core.Path.{_≡_}
 use mathlib.Core.List.{List}
 use lib.ListN.{length, getD}
-use Rattle.packed.specs.Bits.{bits}
-use Rattle.packed.specs.Rank.{rank}
+use Rattle.parentheses.specs.Bits.{bits}
+use Rattle.parentheses.specs.Rank.{rank}
 
 pub record Ranked (bytes ranks : List ℕ) : Type 0 where
   pub are : (i : ℕ) → i < length ranks → i ≤ length bytes → getD ranks i 0 ≡ rank (bits bytes) (8 * i)

@@ -6,7 +6,7 @@ use Prim.Native.Nat.{ℕ, suc, _+_, _-_, _*_, _<_}
 use lib.Dec.{eqb}
 use lib.ListN.{length}
 use Rattle.lists.specs.First.{first}
-use Rattle.packed.specs.Rank.{rank}
+use Rattle.parentheses.specs.Rank.{rank}
 
 -- after position q the depth d that there was before position p has fallen to 0, put without subtraction
 unfoldable pub shuts : List Bool → ℕ → ℕ → ℕ → Bool

@@ -3,8 +3,8 @@
 use mathlib.Core.Bool.{Bool}
 use mathlib.Core.List.{List}
 use Prim.Native.Nat.{ℕ}
-use Rattle.packed.specs.Rank.{rank, select}
-use Rattle.packed.specs.Close.{close}
+use Rattle.parentheses.specs.Rank.{rank, select}
+use Rattle.parentheses.specs.Close.{close}
 
 -- the first place past the subtree of the node at place p: how many nodes open before its closing parenthesis
 unfoldable pub after : List Bool → ℕ → ℕ

@@ -1,3 +1,8 @@
+pub mod ResultsLaws
+pub mod Listings
+pub mod Comparing
+pub mod Chaining
+pub mod Clashing
 pub mod Matrices
 pub mod OpenBooks
 pub mod Replicating

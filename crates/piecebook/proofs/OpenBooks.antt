@@ -6,9 +6,9 @@ use Rattle.records.specs.Refusal.{refusalNumber}
 use Rattle.records.specs.declared.Refusal.{Refusal}
 use Rattle.outcomes.specs.declared.Outcome.{Outcome}
 use Rattle.outcomes.specs.declared.Outcome.the-variants.{Refused}
-use Rattle.keeping.specs.declared.Working.{Working}
-use Rattle.keeping.specs.declared.Asked.{Asked}
-use Rattle.keeping.specs.Kept as on
+use Rattle.working.specs.declared.keeping.Working.{Working}
+use Rattle.working.specs.declared.keeping.Asked.{Asked}
+use Rattle.working.specs.Kept as on
 use Rattle.piecebook.specs.declared.PiecebookWorking.{PiecebookWorking}
 use Rattle.piecebook.specs.declared.PiecebookWorkingResult.{PiecebookWorkingResult}
 use Rattle.piecebook.specs.OpenBook.{stateOf, begunCounts, Replied, Started, Added, Withdrawn, Answered}

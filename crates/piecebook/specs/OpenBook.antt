@@ -5,9 +5,9 @@ use Prim.Native.Nat.{ℕ}
 use Rattle.outcomes.specs.Outcome.{number, place}
 use Rattle.outcomes.specs.declared.Outcome.{Outcome}
 use Rattle.outcomes.specs.declared.Outcome.the-variants.{Accepted, Refused}
-use Rattle.keeping.specs.declared.Working.{Working}
-use Rattle.keeping.specs.declared.Asked.{Asked}
-use Rattle.keeping.specs.Kept as on
+use Rattle.working.specs.declared.keeping.Working.{Working}
+use Rattle.working.specs.declared.keeping.Asked.{Asked}
+use Rattle.working.specs.Kept as on
 use Rattle.piecebook.specs.declared.PiecebookWorking.{PiecebookWorking}
 use Rattle.piecebook.specs.declared.PiecebookWorkingResult.{PiecebookWorkingResult}
 

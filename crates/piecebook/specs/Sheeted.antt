@@ -4,8 +4,8 @@ use mathlib.Core.List.{List}
 use Prim.Native.Nat.{ℕ}
 use Rattle.rules.specs.Fact.{Fact, Within}
 use Rattle.outcomes.specs.Outcome.{number, place}
-use Rattle.rounds.specs.declared.Grids.{Grids}
-use Rattle.rounds.specs.Closed.{holds}
+use Rattle.grids.specs.declared.rounds.Grids.{Grids}
+use Rattle.grids.specs.Closed.{holds}
 use Rattle.grids.specs.Sheet.{gridOutcome, bitFor}
 use Rattle.piecebook.specs.declared.PiecebookGrids.{PiecebookGrids}
 

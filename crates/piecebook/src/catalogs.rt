@@ -1,11 +1,55 @@
 // The catalog calls of include/piecebook.h.
+ghost use Rattle.piecebook.specs.Catalogs.{Counted, Catalogs, Asked};
 ghost use mathlib.Core.Path.{_≡_};
 ghost use Rattle.catalog.specs.Lent.{lent};
-ghost use Rattle.ranges.specs.Subtree.{rangeFrom, rangeTo};
-ghost use Rattle.results.specs.Catalogs.{Catalogs, Asked};
+ghost use Rattle.areas.specs.Subtree.{rangeFrom, rangeTo};
+use crate::results::wide;
+use catalog::Listing;
 use index::DatasetId;
 use index::TreeId;
-use results::catalogs::PiecebookCatalogResult;
+
+// A catalog's outcome as include/piecebook.h has it.
+#[repr(C)]
+pub struct PiecebookCatalogResult {
+    pub number: usize,
+    pub place: usize,
+    pub pieces: usize,
+    pub nodes: usize,
+    pub shadows: usize,
+    pub listed: usize,
+    pub meets: usize,
+    pub apart: usize,
+    pub notpart: usize,
+}
+
+pub fn counted_of(listing: Listing) -> PiecebookCatalogResult
+    ensures { λ r. ⌜ Counted listing r ⌝ }
+{
+    match listing {
+        Listing::Written(counts) => PiecebookCatalogResult {
+            number: 0,
+            place: 0,
+            pieces: counts.pieces,
+            nodes: counts.nodes,
+            shadows: counts.shadows,
+            listed: counts.listed,
+            meets: counts.meets,
+            apart: counts.apart,
+            notpart: counts.notpart,
+        },
+        Listing::Refused(refusal, place) => PiecebookCatalogResult {
+            number: crate::results::wide(records::refusal_number(refusal)),
+            place,
+            pieces: 0,
+            nodes: 0,
+            shadows: 0,
+            listed: 0,
+            meets: 0,
+            apart: 0,
+            notpart: 0,
+        },
+    }
+}
 
 // A range of places, ends included.
 #[repr(C)]
@@ -49,7 +93,7 @@ pub extern "C" fn piecebook_catalog_with(
         d,
         t,
     );
-    results::catalogs::counted_of(listing)
+    counted_of(listing)
 }
 
 #[no_mangle]
@@ -65,7 +109,7 @@ pub extern "C" fn piecebook_fact_between(
     ensures { λ r. ⌜ Asked (now (area .entry)) count unordered «row_from» «row_to» «column_from» «column_to» r ⌝ }
 {
     let either = unordered != 0;
-    let found = ranges::fact_between(
+    let found = areas::fact_between(
         area,
         count,
         either,
@@ -81,7 +125,7 @@ pub extern "C" fn piecebook_fact_between(
 pub extern "C" fn piecebook_subtree(parens: &[u8], places: &[u16], piece: usize) -> PiecebookRange
     ensures { λ r. ⌜ (r .from ≡ rangeFrom (now (parens .entry)) (now (places .entry)) piece) × (r .to ≡ rangeTo (now (parens .entry)) (now (places .entry)) piece) ⌝ }
 {
-    let range = ranges::subtree::subtree_range(parens, places, DatasetId(piece));
+    let range = areas::subtree::subtree_range(parens, places, DatasetId(piece));
     let first = range.from;
     let last = range.to;
     PiecebookRange {

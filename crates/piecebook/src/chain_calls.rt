@@ -1,12 +1,78 @@
 // The chain calls of include/piecebook.h.
 ghost use mathlib.Core.Path.{_≡_};
+ghost use Rattle.verdicts.specs.Answers.{answerByte};
+ghost use Rattle.piecebook.specs.Chains.{Replied, Chained};
+ghost use Rattle.piecebook.specs.Clashes as clashes;
 ghost use Rattle.lists.specs.Tally.{num};
-ghost use Rattle.passing.specs.Call.{passes};
+ghost use Rattle.chain_check.specs.Call.{passes};
 ghost use Rattle.clash.specs.Clash as clashing;
-ghost use Rattle.results.specs.Chains.{Chained};
-ghost use Rattle.results.specs.Clashes.{Clashed};
-use results::chain_calls::PiecebookChainResult;
-use results::chain_calls::PiecebookClashResult;
+ghost use Rattle.piecebook.specs.Clashes.{Clashed};
+use crate::results::wide;
+use chain_writing::Reply;
+use verdicts::Answer;
+
+// What the writer comes to, as include/piecebook.h has it.
+#[repr(C)]
+pub struct PiecebookChainResult {
+    pub number: usize,
+    pub place: usize,
+    pub answer: usize,
+    pub steps: usize,
+}
+
+fn byte_of(answer: Answer) -> usize
+    ensures { λ r. ⌜ r ≡ answerByte answer ⌝ }
+{
+    match answer {
+        Answer::Follows => 1,
+        Answer::Denied => 2,
+        Answer::Open => 3,
+    }
+}
+
+pub fn chained(reply: Reply, steps: usize) -> PiecebookChainResult
+    ensures { λ r. ⌜ Replied reply steps r ⌝ }
+{
+    match reply {
+        Reply::Answered(answer) => PiecebookChainResult {
+            number: 0,
+            place: 0,
+            answer: byte_of(answer),
+            steps,
+        },
+        Reply::Refused(refusal, place) => PiecebookChainResult {
+            number: crate::results::wide(records::refusal_number(refusal)),
+            place,
+            answer: 0,
+            steps,
+        },
+    }
+}
+
+// What the writer of the chain behind a contradiction comes to, as include/piecebook.h has it.
+#[repr(C)]
+pub struct PiecebookClashResult {
+    pub number: usize,
+    pub place: usize,
+    pub steps: usize,
+}
+
+pub fn clashed(reply: clash::Reply, steps: usize) -> PiecebookClashResult
+    ensures { λ r. ⌜ clashes.Replied reply steps r ⌝ }
+{
+    match reply {
+        clash::Reply::Free => PiecebookClashResult {
+            number: 0,
+            place: 0,
+            steps,
+        },
+        clash::Reply::Refused(refusal, place) => PiecebookClashResult {
+            number: crate::results::wide(records::refusal_number(refusal)),
+            place,
+            steps,
+        },
+    }
+}
 
 #[no_mangle]
 pub extern "C" fn piecebook_chain_with(
@@ -21,7 +87,7 @@ pub extern "C" fn piecebook_chain_with(
 {
     let written = chain_writing::write_chain(book, claim, steps, e, d, t);
     let reply = written.reply;
-    results::chain_calls::chained(reply, written.steps)
+    chained(reply, written.steps)
 }
 
 #[no_mangle]
@@ -38,7 +104,7 @@ pub extern "C" fn piecebook_chain_check_with(
 ) -> usize
     ensures { λ r. ⌜ r ≡ num (passes (now (book .entry)) (now (claim .entry)) (now (steps .entry))) ⌝ }
 {
-    if chains::check_chain(book, claim, steps, e, d, t, u, p, q) {
+    if chain_check::check_chain(book, claim, steps, e, d, t, u, p, q) {
         return 1;
     }
     0
@@ -56,7 +122,7 @@ pub extern "C" fn piecebook_clash_with(
 {
     let written = clash::write_clash(book, steps, e, d, t);
     let reply = written.reply;
-    results::chain_calls::clashed(reply, written.steps)
+    clashed(reply, written.steps)
 }
 
 #[no_mangle]

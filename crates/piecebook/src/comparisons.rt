@@ -1,9 +1,38 @@
 // The call of include/piecebook.h on two books.
-ghost use lib.ListN.{length};
 ghost use Rattle.compare.specs.Call.{outcome};
+ghost use Rattle.piecebook.specs.Compares.{Reported, Compares};
+ghost use lib.ListN.{length};
 ghost use Rattle.compare.specs.Demands.{Demanded};
-ghost use Rattle.results.specs.Compares.{Compares};
-use results::comparisons::PiecebookComparison;
+use crate::results::wide;
+use compare::Comparison;
+
+// A comparison's outcome as include/piecebook.h has it.
+#[repr(C)]
+pub struct PiecebookComparison {
+    pub number: usize,
+    pub place: usize,
+    pub book: usize,
+    pub together: usize,
+}
+
+pub fn reported_of(comparison: Comparison) -> PiecebookComparison
+    ensures { λ r. ⌜ Reported comparison r ⌝ }
+{
+    match comparison {
+        Comparison::Compared(laid) => PiecebookComparison {
+            number: 0,
+            place: 0,
+            book: 0,
+            together: laid as usize,
+        },
+        Comparison::Refused(book, refusal, place) => PiecebookComparison {
+            number: crate::results::wide(records::refusal_number(refusal)),
+            place,
+            book,
+            together: 0,
+        },
+    }
+}
 
 #[no_mangle]
 pub extern "C" fn piecebook_compare_with(
@@ -22,5 +51,5 @@ pub extern "C" fn piecebook_compare_with(
     ensures demanded { λ r. ⌜ Demanded (now (first .entry)) (now (second .entry)) (now (claims .entry)) (length (now (out .entry))) (now (out .exit)) (outcome (now (first .entry)) (now (second .entry)) (now (claims .entry)) (length (now (out .entry)))) ⌝ }
 {
     let comparison = compare::compare(first, second, claims, out, e, d, t, u, p, q);
-    results::comparisons::reported_of(comparison)
+    reported_of(comparison)
 }

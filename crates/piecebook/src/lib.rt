@@ -4,23 +4,24 @@ ghost use mathlib.Core.List.{[]};
 ghost use Rattle.outcomes.specs.Lent.{lent};
 ghost use Rattle.outcomes.specs.Demands.{Demand2, Demand3, Contradicted};
 ghost use Rattle.outcomes.specs.Fitting.{Fitting};
-ghost use Rattle.results.specs.Exported.{Exported};
+ghost use Rattle.piecebook.specs.Exported.{Exported};
 ghost use Rattle.piecebook.specs.Sheeted.{Sheeted};
 ghost use Rattle.piecebook.specs.OpenBook.{Started, Added, Withdrawn, Answered, Replied, stateOf};
 ghost use Rattle.convert.specs.Converted.{converted};
 ghost use Rattle.convert.specs.Same.{InForce, SameAnswers};
-ghost use Rattle.results.specs.Converts.{Converts};
+ghost use Rattle.piecebook.specs.Converts.{Converts};
 ghost use Rattle.piecebook.specs.Replicates.{Replicates};
-use keeping::Settled;
-use keeping::Working;
 use outcomes::Outcome;
 use replicates::Window;
 use results::PiecebookConverted;
 use results::PiecebookResult;
+use working::Settled;
+use working::Working;
 
 pub mod catalogs;
 pub mod chain_calls;
 pub mod comparisons;
+pub mod results;
 
 #[no_mangle]
 pub extern "C" fn piecebook_answer_with(

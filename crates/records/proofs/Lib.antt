@@ -9,3 +9,6 @@ pub mod Books
 pub mod Keeps
 pub mod Orders
 pub mod Marks
+pub mod Fits
+pub mod Filters
+pub mod Claims

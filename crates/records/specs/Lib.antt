@@ -8,3 +8,8 @@ pub mod Key
 pub mod Kept
 pub mod Reordered
 pub mod Marked
+pub mod Met
+pub mod CheckNumbers
+pub mod PartIn
+pub mod Contradiction
+pub mod Claimed

@@ -9,6 +9,11 @@ ghost use Rattle.records.specs.Refusal.{refusalNumber};
 ghost use Rattle.records.specs.declared.Refusal.the-variants.{VoidForm, Order};
 ghost use Rattle.records.specs.declared.Finding.the-variants.{Fit};
 ghost use Rattle.records.specs.Pieces.{stated, largest, pieceCount};
+pub use checks::check_book;
+pub use checks::check_claims;
+pub use checks::check_former;
+
+pub mod checks;
 
 // A record, or a claim: its kind, its origin, and two 16-bit numbers. The origin is 0 for a cutting sheet and 1 for the scanner; that of a claim
 // picks the facts, 0 for all and 1 for those of cutting sheets.

@@ -23,7 +23,7 @@ use Rattle.records.specs.Check.{bookCheck}
 use Rattle.records.specs.declared.BookCheck.the-variants as book
 use Rattle.records.proofs.Accepted.{accepted}
 use Rattle.records.proofs.Rows.{refused-positive}
-use Rattle.settling.proofs.Settling.{settleable, whole-unmarked, beyond-free, free-consistent}
+use Rattle.contradiction.proofs.SettlingLaws.{settleable, whole-unmarked, beyond-free, free-consistent}
 use Rattle.outcomes.specs.Lent.{lent}
 use Rattle.outcomes.specs.Outcome.{number}
 use Rattle.outcomes.specs.Fresh.{freshCall}
@@ -31,7 +31,7 @@ use Rattle.outcomes.specs.declared.Outcome.{Outcome}
 use Rattle.outcomes.specs.declared.Outcome.the-variants.{Accepted, Refused}
 use Rattle.outcomes.proofs.Outcomes.{Told, told}
 use Rattle.answers.proofs.Fresh.{fresh-is, roomy-long}
-use Rattle.windows.specs.Before.{bytesFrom}
+use Rattle.replicates.specs.Before.{bytesFrom}
 use Rattle.replicates.specs.declared.Window.{Window}
 use Rattle.replicates.specs.Log.{entryCount, entryAt, entries, handed, sequence}
 use Rattle.replicates.specs.Call.{outcome, apartIn, bytesIn, left}

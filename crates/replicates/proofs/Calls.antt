@@ -7,7 +7,7 @@ use native.Mathlib.Omega.{arith}
 use borrow.Author.Tests.{lt-ltb, le-ltb}
 use lib.ListN.{length}
 use Rattle.lists.specs.Front.{front}
-use Rattle.relation.specs.Matrix.{bitOf}
+use Rattle.matrices.specs.Matrix.{bitOf}
 use Rattle.rules.specs.Follows.{clash}
 use Rattle.records.specs.Facts.{facts}
 use Rattle.records.specs.Marked.{marked}
@@ -16,17 +16,17 @@ use Rattle.records.specs.Refusal.{scan}
 use Rattle.records.specs.declared.BookCheck.the-variants as book
 use Rattle.records.specs.declared.Refusal.{Refusal}
 use Rattle.records.specs.declared.Refusal.the-variants.{ShortBuffer, Contradiction}
-use Rattle.opening.specs.Settleable.{Sizes}
-use Rattle.settling.specs.Settled.{Clashed}
+use Rattle.contradiction.specs.Settleable.{Sizes}
+use Rattle.contradiction.specs.Settled.{Clashed}
 use Rattle.closure.specs.Apart.{Aparts}
 use Rattle.outcomes.specs.Call.{byRuns, byClaims, byBook}
 use Rattle.outcomes.specs.declared.Outcome.the-variants.{Accepted, Refused}
-use Rattle.answering.proofs.Counts.{own-count}
+use Rattle.claims.proofs.Counts.{own-count}
 use Rattle.answers.proofs.Judges.{refuses, accepts}
 use Rattle.replicates.specs.declared.Window.{Window}
 use Rattle.replicates.specs.declared.Replicated.{Replicated}
-use Rattle.windows.specs.Before.{bytesFrom}
-use Rattle.windows.specs.Looking.{Sequence}
+use Rattle.replicates.specs.Before.{bytesFrom}
+use Rattle.replicates.specs.Looking.{Sequence}
 use Rattle.replicates.specs.Log.{entryCount, sequence, windowOf}
 use Rattle.replicates.specs.Call.{apartIn, byPart, outcome, bytesIn, left, handedBack, Determined}
 use Rattle.replicates.specs.Writing.{Fits, Judged}

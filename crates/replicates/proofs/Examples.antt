@@ -11,7 +11,7 @@ use Rattle.rules.specs.Fact.{APART, unmarked}
 use Rattle.rules.specs.Follows.{follows, storing, turned, step, rounds, table, entry, containment, parting, apart, derived}
 use Rattle.rules.specs.Entries.{factsOf}
 use Rattle.rules.specs.Examples.{session}
-use Rattle.windows.specs.Before.{apartBefore, clear, pairwise, bytesOf, bytesFrom}
+use Rattle.replicates.specs.Before.{apartBefore, clear, pairwise, bytesOf, bytesFrom}
 
 abbrev R : ℕ → ℕ → Bool
 R x y = follows unmarked 6 (factsOf session) (APART x y)

@@ -19,7 +19,7 @@ use Rattle.outcomes.specs.Call.{byBook}
 use Rattle.outcomes.specs.declared.Outcome.{Outcome}
 use Rattle.outcomes.specs.declared.Outcome.the-variants.{Accepted, Refused}
 use Rattle.replicates.specs.declared.Window.{Window}
-use Rattle.windows.specs.Before.{bytesFrom}
+use Rattle.replicates.specs.Before.{bytesFrom}
 use Rattle.replicates.specs.Log.{entryCount, entryAt, entries, handed, sequence, lastOf, windowOf}
 use Rattle.replicates.specs.Call.{byPart, outcome, apartIn, bytesIn}
 use Rattle.replicates.specs.Writing.{Fits}

@@ -1,4 +1,6 @@
 -- What the proofs of several functions use.
+pub mod Looks
+pub mod Reaches
 pub mod Same
 pub mod Sequences
 pub mod Rows

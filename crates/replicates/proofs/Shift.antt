@@ -14,8 +14,8 @@ use Rattle.lists.specs.Any.{anyBelow}
 use Rattle.lists.specs.Tally.{num, tally}
 use Rattle.lists.proofs.Bools.{Known, is-true, is-false, known}
 use Rattle.rules.proofs.Facts.{below-same}
-use Rattle.windows.specs.Before.{oldest, apartBefore, clear, pairwise, bytesOf, bytesFrom}
-use Rattle.windows.proofs.Looks.{tally-none, any-none}
+use Rattle.replicates.specs.Before.{oldest, apartBefore, clear, pairwise, bytesOf, bytesFrom}
+use Rattle.replicates.proofs.Looks.{tally-none, any-none}
 use Rattle.replicates.proofs.Same.{tally-same}
 
 -- ---- counts and searches that begin at k

@@ -13,7 +13,7 @@ use Rattle.records.specs.Facts.{facts}
 use Rattle.records.specs.Marked.{marked}
 use Rattle.records.specs.Pieces.{pieceCount}
 use Rattle.outcomes.specs.Outcome.{number}
-use Rattle.windows.specs.Before.{bytesFrom}
+use Rattle.replicates.specs.Before.{bytesFrom}
 use Rattle.replicates.specs.declared.Window.{Window}
 use Rattle.replicates.specs.Log.{entryCount, handed, sequence}
 use Rattle.replicates.specs.Call.{outcome, apartIn, left}

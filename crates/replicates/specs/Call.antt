@@ -22,7 +22,7 @@ use Rattle.outcomes.specs.declared.Outcome.the-variants.{Accepted, Refused}
 use Rattle.replicates.specs.declared.Window.{Window}
 use Rattle.replicates.specs.declared.Replicated.{Replicated}
 use Rattle.replicates.specs.Log.{entryCount, entryAt, handed, sequence, windowOf}
-use Rattle.windows.specs.Before.{bytesFrom}
+use Rattle.replicates.specs.Before.{bytesFrom}
 
 -- ---- the outcome: 1, the book's rows, 14, then 20 and 21
 

@@ -1,3 +1,5 @@
+pub mod Before
+pub mod Looking
 pub mod Log
 pub mod Call
 pub mod Writing

@@ -9,9 +9,9 @@ use Rattle.records.specs.Facts.{facts}
 use Rattle.records.specs.Marked.{marked}
 use Rattle.records.specs.Check.{bookCheck}
 use Rattle.records.specs.declared.BookCheck.the-variants as book
-use Rattle.storing.specs.Void.{voidOf, Voids}
+use Rattle.closure.specs.Void.{voidOf, Voids}
 use Rattle.closure.specs.Stepped.{Stepped}
-use Rattle.storing.specs.Closed.{Holds, partBit}
+use Rattle.closure.specs.Closed.{Holds, partBit}
 use Rattle.outcomes.specs.Call.{byRuns}
 use Rattle.replicates.specs.declared.Window.{Window}
 use Rattle.replicates.specs.declared.Replicated.{Replicated}

@@ -4,9 +4,9 @@ ghost use lib.ListN.{length};
 ghost use Prim.Native.Nat.{_+_, _*_, _-_, _<_, _≤_};
 ghost use Rattle.lists.specs.Front.{front};
 ghost use Rattle.lists.specs.Tally.{num};
-ghost use Rattle.relation.specs.Matrix.{bitOf};
-ghost use Rattle.windows.specs.Before.{bytesFrom};
-ghost use Rattle.windows.specs.Looking.{Sequence};
+ghost use Rattle.matrices.specs.Matrix.{bitOf};
+ghost use Rattle.replicates.specs.Before.{bytesFrom};
+ghost use Rattle.replicates.specs.Looking.{Sequence};
 ghost use Rattle.records.specs.Check.{bookCheck};
 ghost use Rattle.records.specs.Refusal.{scan};
 ghost use Rattle.records.specs.declared.BookCheck.the-variants as on;
@@ -14,10 +14,12 @@ ghost use Rattle.outcomes.specs.declared.Outcome.the-variants.{Accepted, Refuse
 ghost use Rattle.replicates.specs.Log.{entryCount, entryAt, sequence, windowOf};
 ghost use Rattle.replicates.specs.Call.{badWindow, entryFinding, byPart, bytesIn, Determined};
 ghost use Rattle.replicates.specs.Writing.{Writable, Begun, Followed, Judged};
+use contradiction::Settled;
 use outcomes::Outcome;
 use records::BookCheck;
 use records::Refusal;
-use settling::Settled;
+
+pub mod windows;
 
 // The up to 31 entries before a part of the log, oldest first, and how many they are; laid out as C does.
 #[repr(C)]
@@ -219,10 +221,10 @@ fn judge(
     ensures { λ r. ⌜ Judged (now (book .entry)) n window (now (log .entry)) (now (out .entry)) r (now (out .exit)) ⌝ }
 {
     let mut voids = [0u64; 32];
-    storing::marking::mark_voids(book, &mut voids);
+    closure::marking::mark_voids(book, &mut voids);
     let mut order = [0u16; 2048];
     let mut lead = [0u16; 2048];
-    let settled = settling::settle_alone(book, n, &voids, e, &mut order, &mut lead, d, t);
+    let settled = contradiction::settle_alone(book, n, &voids, e, &mut order, &mut lead, d, t);
     match settled {
         Settled::Clash(place) => refuse(Refusal::Contradiction, place, window),
         Settled::Free(nodes, shadowed) => {
@@ -269,7 +271,7 @@ pub fn replicates(
     if out.len() < 2 * count {
         return refuse(Refusal::ShortBuffer, 0, window);
     }
-    let checked = checks::check_book(book);
+    let checked = records::check_book(book);
     match checked {
         BookCheck::Refused(refusal, place) => refuse(refusal, place, window),
         BookCheck::Accepted(n) => judge(book, n, window, log, out, e, d, t, a),

@@ -18,7 +18,7 @@ use Rattle.records.specs.Check.{formFinding, recordFinding, checkBy, claimAt, c
 use Rattle.records.specs.Facts.{entryOf, entries}
 use Rattle.lists.specs.Numbers.{range, keep, find}
 use Rattle.index.specs.Pairs.{joined, parts}
-use Rattle.opening.specs.PartIn.{partIn}
+use Rattle.records.specs.PartIn.{partIn}
 use Rattle.index.specs.Breadth.{breadth, order, parent}
 use Rattle.index.specs.Tree.{hang, under, whole, visits}
 use Rattle.index.specs.Index.{visitsOf}
@@ -30,7 +30,7 @@ use Rattle.lists.specs.Front.{front}
 use Rattle.records.specs.Kept.{picked}
 use Rattle.records.specs.Rows.{admitted}
 use Rattle.outcomes.specs.Lent.{shortLent}
-use Rattle.answering.specs.Claimed.{claimed, answersTo}
+use Rattle.records.specs.Claimed.{claimed, answersTo}
 use Rattle.outcomes.specs.Call.{byRuns, byClaims, byBook, outcome, indexed, left}
 use Rattle.pages.specs.Text.{ascii}
 use Rattle.pages.specs.Decimal.{spell, decimal}

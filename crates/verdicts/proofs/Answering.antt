@@ -11,7 +11,7 @@ use lib.Dec.{eqb}
 use Rattle.lists.specs.Any.{anyBelow}
 use Rattle.lists.proofs.Bools.{left-or, or-neither}
 use Rattle.lists.proofs.Anys.{below-hit}
-use Rattle.relation.specs.Matrix.{bitOf, common}
+use Rattle.matrices.specs.Matrix.{bitOf, common}
 use Rattle.rules.specs.Fact.{Fact, PART, APART, MEETS, NOTPART, factOf, left, right, opposite, Within, AllWithin}
 use Rattle.rules.specs.Follows.{storing, turned, meets, follows, clash}
 use Rattle.rules.specs.Verdict.{judge, verdict}
@@ -25,14 +25,14 @@ use Rattle.records.specs.Record.{recordAt, records}
 use Rattle.records.specs.declared.Record.{Record}
 use Rattle.records.specs.Facts.{facts}
 use Rattle.records.proofs.Accepted.{says-left, says-right}
-use Rattle.storing.specs.Bounded.{Bounded}
-use Rattle.storing.specs.Closed.{partBit, wholeBit, towardBit, awayBit, outBit, Holds, Closed}
+use Rattle.closure.specs.Bounded.{Bounded}
+use Rattle.closure.specs.Closed.{partBit, wholeBit, towardBit, awayBit, outBit, Holds, Closed}
 use Rattle.verdicts.specs.ByMarks.{byMarks}
 use Rattle.verdicts.specs.Opposed.{opposed}
 use Rattle.verdicts.specs.Tells.{Derived, Answered, Clashing}
-use Rattle.storing.proofs.Products.{part-inside, meets-is, apart-is, notpart-is}
-use Rattle.storing.proofs.Holding.{any-same, common-holds}
-use Rattle.storing.proofs.Runs.{hits, storing-records, record-within}
+use Rattle.closure.proofs.Products.{part-inside, meets-is, apart-is, notpart-is}
+use Rattle.closure.proofs.Holding.{any-same, common-holds}
+use Rattle.closure.proofs.Runs.{hits, storing-records, record-within}
 
 -- ---- the fact of a kind
 

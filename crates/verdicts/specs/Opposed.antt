@@ -4,7 +4,7 @@ use Prim.Native.Nat.{ℕ}
 use mathlib.Core.Bool.{Bool, not, _&&_, _||_}
 use mathlib.Core.List.{List}
 use lib.Dec.{eqb}
-use Rattle.relation.specs.Matrix.{bitOf, common}
+use Rattle.matrices.specs.Matrix.{bitOf, common}
 use Rattle.records.specs.declared.Record.{Record}
 
 -- by the marks and the matrices D and T

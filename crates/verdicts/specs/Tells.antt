@@ -6,8 +6,8 @@ use mathlib.Core.List.{List}
 use Rattle.rules.specs.Fact.{Fact, factOf}
 use Rattle.rules.specs.Follows.{follows, clash}
 use Rattle.rules.specs.Verdict.{verdict}
-use Rattle.storing.specs.Bounded.{Bounded}
-use Rattle.storing.specs.Closed.{Holds, partBit, towardBit, Closed}
+use Rattle.closure.specs.Bounded.{Bounded}
+use Rattle.closure.specs.Closed.{Holds, partBit, towardBit, Closed}
 
 -- whether the fact of kind k about a and b follows, where neither is marked
 pub record Derived (d u p t q : List ℕ) (k a b : ℕ) (answer : Bool) : Type 0 where

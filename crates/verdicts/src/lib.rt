@@ -6,9 +6,9 @@ ghost use Prim.Native.Nat.{ℕ, _<_, _≤_};
 ghost use lib.ListN.{length};
 ghost use Rattle.rules.specs.Fact.{factOf, AllWithin};
 ghost use Rattle.records.specs.Facts.{facts};
-ghost use Rattle.storing.specs.Void.{voidOf};
+ghost use Rattle.closure.specs.Void.{voidOf};
 ghost use Rattle.verdicts.specs.ByMarks.{byMarks};
-ghost use Rattle.relation.specs.Matrix.{bitOf};
+ghost use Rattle.matrices.specs.Matrix.{bitOf};
 ghost use Rattle.verdicts.specs.Opposed.{opposed};
 ghost use Rattle.verdicts.specs.Tells.{Derived, Answered, Clashing};
 ghost use Rattle.verdicts.specs.Answers.{answerByte};
@@ -26,10 +26,10 @@ fn either_marked(voids: &[u64], a: usize, b: usize) -> bool
     requires { ⌜ (length (now voids) ≡ 32) × (a < 2048) × (b < 2048) ⌝ }
     ensures { λ r. ⌜ r ≡ (voidOf (now (voids .entry)) a || voidOf (now (voids .entry)) b) ⌝ }
 {
-    if relation::has(voids, a) {
+    if matrices::has(voids, a) {
         return true;
     }
-    relation::has(voids, b)
+    matrices::has(voids, b)
 }
 
 // Whether of two pieces the second alone is marked.
@@ -37,10 +37,10 @@ fn second_marked(voids: &[u64], a: usize, b: usize) -> bool
     requires { ⌜ (length (now voids) ≡ 32) × (a < 2048) × (b < 2048) ⌝ }
     ensures { λ r. ⌜ r ≡ (not (voidOf (now (voids .entry)) a) && voidOf (now (voids .entry)) b) ⌝ }
 {
-    if relation::has(voids, a) {
+    if matrices::has(voids, a) {
         return false;
     }
-    relation::has(voids, b)
+    matrices::has(voids, b)
 }
 
 // Whether a is marked, or part of b by the stored facts.
@@ -48,10 +48,10 @@ fn part_or_marked(voids: &[u64], d: &[u64], a: usize, b: usize) -> bool
     requires { ⌜ (length (now voids) ≡ 32) × (length (now d) ≡ 65536) × (a < 2048) × (b < 2048) ⌝ }
     ensures { λ r. ⌜ r ≡ (voidOf (now (voids .entry)) a || bitOf (now (d .entry)) b a) ⌝ }
 {
-    if relation::has(voids, a) {
+    if matrices::has(voids, a) {
         return true;
     }
-    relation::test(d, b, a)
+    matrices::test(d, b, a)
 }
 
 // Whether the marks and the closure contradict a record.
@@ -63,7 +63,7 @@ fn opposes(r: Record, voids: &[u64], d: &[u64], t: &[u64]) -> bool
         return second_marked(voids, r.a, r.b);
     }
     if r.kind == 2 {
-        return relation::meet(t, r.a, d, r.b);
+        return matrices::meet(t, r.a, d, r.b);
     }
     if r.kind == 3 {
         return either_marked(voids, r.a, r.b);
@@ -97,7 +97,7 @@ pub fn marks_tell(kind: u8, a: usize, b: usize, voids: &[u64]) -> bool
     ensures { λ r. ⌜ r ≡ byMarks (voidOf (now (voids .entry))) (factOf kind a b) ⌝ }
 {
     if kind == 1 {
-        return relation::has(voids, a);
+        return matrices::has(voids, a);
     }
     if kind == 2 {
         return either_marked(voids, a, b);
@@ -123,15 +123,15 @@ fn derived(
     ensures { λ r. ⌜ Derived (now (d .entry)) (now (u .entry)) (now (p .entry)) (now (t .entry)) (now (q .entry)) kind a b r ⌝ }
 {
     if kind == 1 {
-        return relation::test(d, b, a);
+        return matrices::test(d, b, a);
     }
     if kind == 2 {
-        return relation::meet(p, a, u, b);
+        return matrices::meet(p, a, u, b);
     }
     if kind == 3 {
-        return relation::meet(t, a, d, b);
+        return matrices::meet(t, a, d, b);
     }
-    relation::meet(q, a, u, b)
+    matrices::meet(q, a, u, b)
 }
 
 // The answer to a claim of a kind 1 to 4 about two pieces of which one is marked: the marks decide it.

@@ -21,10 +21,10 @@ use Rattle.outcomes.specs.declared.Outcome.the-variants.{Accepted, Refused}
 use Rattle.outcomes.specs.Fresh.{freshCall}
 use Rattle.outcomes.specs.One.{refuseIf}
 use Rattle.answers.proofs.Fresh.{fresh-sound}
-use Rattle.keeping.specs.declared.Working.{Working}
-use Rattle.keeping.specs.Rows.{byArea, startOutcome, addOutcome, withdrawOutcome}
-use Rattle.keeping.specs.Kept.{keptState, keptArea, image, noRecords, Determined}
-use Rattle.runs.specs.Standing.{extended, without}
+use Rattle.working.specs.declared.keeping.Working.{Working}
+use Rattle.working.specs.Rows.{byArea, startOutcome, addOutcome, withdrawOutcome}
+use Rattle.working.specs.Kept.{keptState, keptArea, image, noRecords, Determined}
+use Rattle.working.specs.Standing.{extended, without}
 use Rattle.working.specs.Behind.{RunFits, Untouched, NeverBehind}
 use Rattle.working.proofs.Sequences.{clash}
 

@@ -9,8 +9,8 @@ use Rattle.outcomes.specs.Call.{Determined}
 use Rattle.outcomes.specs.declared.Outcome.{Outcome}
 use Rattle.outcomes.specs.Fresh.{freshCall}
 use Rattle.answers.proofs.Fresh.{long-lent, fresh-is}
-use Rattle.keeping.specs.Rows.{answerOf}
-use Rattle.keeping.proofs.Fresh.{answer-left}
+use Rattle.working.specs.Rows.{answerOf}
+use Rattle.working.proofs.Fresh.{answer-left}
 
 abbrev pub clear : Lent
 clear = lent (replicate 2560 0) (replicate 1280 0) (replicate 8192 0) (replicate 2048 0) (0 ∷ [])

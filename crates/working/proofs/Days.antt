@@ -11,18 +11,18 @@ use Rattle.outcomes.specs.Lent.{lent}
 use Rattle.answers.proofs.Empty.{empty-outcome}
 use Rattle.outcomes.specs.declared.Outcome.{Outcome}
 use Rattle.outcomes.specs.declared.Outcome.the-variants.{Accepted}
-use Rattle.keeping.specs.declared.Working.{Working}
-use Rattle.keeping.specs.declared.Asked.{Asked}
+use Rattle.working.specs.declared.keeping.Working.{Working}
+use Rattle.working.specs.declared.keeping.Asked.{Asked}
 use Rattle.outcomes.specs.Fresh.{freshCall}
-use Rattle.runs.specs.Standing.{standing}
+use Rattle.working.specs.Standing.{standing}
 use Rattle.outcomes.specs.One.{byOne}
-use Rattle.keeping.specs.Rows.{answerOf}
-use Rattle.keeping.specs.Kept.{Started, Answered}
+use Rattle.working.specs.Rows.{answerOf}
+use Rattle.working.specs.Kept.{Started, Answered}
 use Rattle.working.specs.Sequence.{Stands}
 use Rattle.working.specs.Day.{Operation, Reply, reply, after, replyTo, day, replies, Played, over, adds, withdraws, asks}
 use Rattle.working.specs.WholeDay.{WholeDay}
 use Rattle.answers.proofs.Fresh.{long-lent, fresh-is}
-use Rattle.keeping.proofs.Settling.{ask-passes}
+use Rattle.working.proofs.Settling.{ask-passes}
 use Rattle.working.proofs.Sequences.{added, withdrawn, started}
 
 -- a claim of any length

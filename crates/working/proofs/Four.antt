@@ -30,9 +30,9 @@ use Rattle.index.specs.Parts as on
 use Rattle.outcomes.specs.declared.Outcome.{Outcome}
 use Rattle.outcomes.specs.declared.Outcome.the-variants.{Accepted, Refused}
 use Rattle.outcomes.specs.Fresh.{freshCall}
-use Rattle.runs.specs.Standing.{standing, extended}
+use Rattle.working.specs.Standing.{standing, extended}
 use Rattle.outcomes.specs.One.{refuseIf}
-use Rattle.keeping.specs.Rows.{byArea, addOutcome}
+use Rattle.working.specs.Rows.{byArea, addOutcome}
 use Rattle.working.specs.Four.{FourOnly}
 
 -- number 4 is given only where B holds

@@ -18,18 +18,18 @@ use Rattle.parentheses.proofs.Paddeds.{padded-length}
 use Rattle.lists.specs.Front.{front}
 use Rattle.outcomes.specs.declared.Outcome.{Outcome}
 use Rattle.outcomes.specs.declared.Outcome.the-variants.{Accepted, Refused}
-use Rattle.keeping.specs.declared.Working.{Working}
+use Rattle.working.specs.declared.keeping.Working.{Working}
 use Rattle.outcomes.specs.Fresh.{freshCall}
-use Rattle.runs.specs.Standing.{standing, extended, without}
+use Rattle.working.specs.Standing.{standing, extended, without}
 use Rattle.outcomes.specs.One.{refuseIf}
-use Rattle.keeping.specs.Rows.{startOutcome, addOutcome, withdrawOutcome, answerOf}
-use Rattle.keeping.specs.Kept.{keptState, keptArea, image, noRecords, Determined, Started, Added, Withdrawn, Answered}
-use Rattle.keeping.specs.declared.Asked.{Asked}
+use Rattle.working.specs.Rows.{startOutcome, addOutcome, withdrawOutcome, answerOf}
+use Rattle.working.specs.Kept.{keptState, keptArea, image, noRecords, Determined, Started, Added, Withdrawn, Answered}
+use Rattle.working.specs.declared.keeping.Asked.{Asked}
 use Rattle.records.specs.Check.{bookCheck}
 use Rattle.working.specs.Sequence.{addTo, withdrawFrom, chosen, Stands}
-use Rattle.keeping.proofs.Fresh.{over-full}
-use Rattle.keeping.proofs.Settling.{on, off, past-area, start-passes, ask-passes, one-fits}
-use Rattle.runs.proofs.Runs.{padded-front}
+use Rattle.working.proofs.Fresh.{over-full}
+use Rattle.working.proofs.Settling.{on, off, past-area, start-passes, ask-passes, one-fits}
+use Rattle.working.proofs.RunsLaws.{padded-front}
 
 pub clash : {x : Refusal} {i n v h : ℕ} → Refused x i ≡ Accepted n v h → ⊥
 clash e = subst (λ (o : Outcome). elim o as (λ _. Type 0) [ Accepted n v h ↦ ⊥ | Refused x i ↦ Unit {0} ]) e tt

@@ -6,7 +6,7 @@ use native.Mathlib.Omega.{arith}
 use lib.ListN.{length, take, drop, length-append}
 use lib.Seq.{length-take-le, take-at}
 use Rattle.parentheses.specs.Padded.{padded}
-use Rattle.runs.proofs.Runs.{padded-whole}
+use Rattle.working.proofs.RunsLaws.{padded-whole}
 
 module _ (l z : List ℕ) (m : ℕ) (wide : length z ≡ 49152) (fits : m ≤ 49152) (same : length l ≡ length (take m z)) where
   taken : length (take m z) ≡ m

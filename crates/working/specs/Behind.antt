@@ -6,8 +6,8 @@ use lib.ListN.{length, drop}
 use Rattle.outcomes.specs.Outcome.{number}
 use Rattle.outcomes.specs.declared.Outcome.{Outcome}
 use Rattle.outcomes.specs.Fresh.{freshCall}
-use Rattle.keeping.specs.declared.Working.{Working}
-use Rattle.keeping.specs.Kept.{Started, Added, Withdrawn}
+use Rattle.working.specs.declared.keeping.Working.{Working}
+use Rattle.working.specs.Kept.{Started, Added, Withdrawn}
 
 -- a run that is kept has at most 49,152 bytes
 abbrev pub RunFits : Type 0

@@ -4,11 +4,11 @@ use mathlib.Core.List.{List, [], _∷_, _++_}
 use lib.ListN.{take, drop}
 use Rattle.records.specs.Check.{bookCheck}
 use Rattle.outcomes.specs.declared.Outcome.{Outcome}
-use Rattle.keeping.specs.declared.Working.{Working}
-use Rattle.keeping.specs.declared.Asked.{Asked}
+use Rattle.working.specs.declared.keeping.Working.{Working}
+use Rattle.working.specs.declared.keeping.Asked.{Asked}
 use Rattle.outcomes.specs.One.{byOne}
-use Rattle.keeping.specs.Rows.{answerOf}
-use Rattle.keeping.specs.Kept.{Added, Withdrawn, Answered}
+use Rattle.working.specs.Rows.{answerOf}
+use Rattle.working.specs.Kept.{Added, Withdrawn, Answered}
 use Rattle.working.specs.Sequence.{addTo, withdrawFrom, chosen}
 
 pub data Operation : Type 0 where

@@ -9,9 +9,9 @@ use Rattle.records.specs.Record.{records}
 use Rattle.records.specs.declared.Refusal.the-variants.{BookLength, NotStanding}
 use Rattle.outcomes.specs.declared.Outcome.{Outcome}
 use Rattle.outcomes.specs.declared.Outcome.the-variants.{Accepted, Refused}
-use Rattle.keeping.specs.declared.Working.{Working}
+use Rattle.working.specs.declared.keeping.Working.{Working}
 use Rattle.outcomes.specs.Fresh.{freshCall}
-use Rattle.runs.specs.Standing.{standing}
+use Rattle.working.specs.Standing.{standing}
 use Rattle.outcomes.specs.One.{refuseIf}
 
 unfoldable pub addTo : List ℕ → List ℕ → Outcome

@@ -4,8 +4,8 @@ use mathlib.Core.List.{List, []}
 use Prim.Native.Nat.{ℕ, _≤_}
 use lib.ListN.{length}
 use Rattle.outcomes.specs.declared.Outcome.{Outcome}
-use Rattle.keeping.specs.declared.Working.{Working}
-use Rattle.keeping.specs.Kept.{Started}
+use Rattle.working.specs.declared.keeping.Working.{Working}
+use Rattle.working.specs.Kept.{Started}
 use Rattle.working.specs.Sequence.{Stands}
 use Rattle.working.specs.Day.{Operation, Reply, day, replies, Played}
 

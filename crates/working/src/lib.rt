@@ -4,14 +4,17 @@ ghost use mathlib.Core.Path.{_≡_};
 ghost use Prim.Native.Nat.{_+_, _*_, _≤_, _<_};
 ghost use lib.ListN.{length};
 ghost use Rattle.outcomes.specs.Fresh.{freshCall};
-ghost use Rattle.runs.specs.Standing.{extended, without};
-ghost use Rattle.keeping.specs.Rows.{answerOf};
-ghost use Rattle.keeping.specs.Kept.{Extended, Started, Added, Withdrawn, Answered};
+ghost use Rattle.working.specs.Standing.{extended, without};
+ghost use Rattle.working.specs.Rows.{answerOf};
+ghost use Rattle.working.specs.Kept.{Extended, Started, Added, Withdrawn, Answered};
 use keeping::Asked;
-use keeping::Settled;
-use keeping::Working;
+pub use keeping::Settled;
+pub use keeping::Working;
 use outcomes::Outcome;
 use records::Refusal;
+
+pub mod keeping;
+pub mod runs;
 
 // A fresh call on a run of records and one claim.
 fn answer_run(

@@ -1,7 +1,7 @@
 -- `answers::judge_in` meets its contract. Assumes nothing.
 use mathlib.Core.Path.{refl, sym, _∙_}
 use Rattle.records.proofs.Accepted.{accepted}
-use Rattle.storing.proofs.VoidRows.{accepted-markable}
+use Rattle.closure.proofs.VoidRows.{accepted-markable}
 use Rattle.answers.proofs.Judges.{settleable-at, cleared-at, judged-refused, judged-accepted}
 use Rattle.answers.proofs.judge_in.Statement.{statement}
 use Rattle.answers.proofs.judge_in.Tie as tie

@@ -2,8 +2,8 @@
 use mathlib.Core.Path.{refl, sym, _∙_}
 use Rattle.lists.specs.Tab.{tab}
 use Rattle.records.proofs.Accepted.{accepted}
-use Rattle.storing.proofs.VoidRows.{accepted-markable}
-use Rattle.answering.specs.Claimed.{answersTo}
+use Rattle.closure.proofs.VoidRows.{accepted-markable}
+use Rattle.records.specs.Claimed.{answersTo}
 use Rattle.answers.proofs.Judges.{settleable-at, cleared-at}
 use Rattle.answers.proofs.Judges as answers
 use Rattle.catalog.proofs.Books.{places-are}

@@ -1,8 +1,8 @@
 -- `chain_writing::judge` meets its contract. Assumes nothing.
 use mathlib.Core.Path.{refl, sym}
 use Rattle.records.proofs.Accepted.{accepted}
-use Rattle.storing.proofs.VoidRows.{accepted-markable}
-use Rattle.settling.proofs.Settling.{settleable, settleable-alone}
+use Rattle.closure.proofs.VoidRows.{accepted-markable}
+use Rattle.contradiction.proofs.SettlingLaws.{settleable, settleable-alone}
 use Rattle.chain_writing.proofs.Replies.{by-marks, judged-clash, judged-free}
 use Rattle.chain_writing.proofs.judge.Statement.{statement}
 use Rattle.chain_writing.proofs.judge.Tie as tie

@@ -5,9 +5,9 @@ use Prim.Native.Nat.{ℕ}
 use lib.ListN.{length-replicate}
 use lib.Seq.{length-take-le}
 use Rattle.records.proofs.Keeps.{picked-sheets, sheets-shorter}
-use Rattle.settling.proofs.Settling.{settleable-alone}
-use Rattle.answering.proofs.Counts.{own-count}
-use Rattle.answering.proofs.Sheets.{book-short, sheets-taken, sheets-settleable, sheets-opened}
+use Rattle.contradiction.proofs.SettlingLaws.{settleable-alone}
+use Rattle.claims.proofs.Counts.{own-count}
+use Rattle.claims.proofs.Sheets.{book-short, sheets-taken, sheets-settleable, sheets-opened}
 use Rattle.chain_writing.proofs.Replies.{ground-of, free-by}
 use native.Mathlib.Omega.{arith}
 use Rattle.chain_writing.proofs.write_restricted.Statement.{statement}

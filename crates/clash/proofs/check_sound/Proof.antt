@@ -1,8 +1,8 @@
 -- `clash::check_sound` meets its contract. Assumes nothing.
 use mathlib.Core.Path.{_∙_}
 use Rattle.records.proofs.Accepted.{accepted}
-use Rattle.storing.proofs.VoidRows.{accepted-markable}
-use Rattle.settling.proofs.Settling.{settleable, settleable-alone}
+use Rattle.closure.proofs.VoidRows.{accepted-markable}
+use Rattle.contradiction.proofs.SettlingLaws.{settleable, settleable-alone}
 use Rattle.clash.proofs.Replies.{placed, checked-clash, checked-free}
 use borrow.Author.Needs.{needs}
 use Rattle.clash.proofs.check_sound.Statement.{statement}

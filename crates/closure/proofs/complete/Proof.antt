@@ -1,6 +1,6 @@
 -- `closure::complete` meets its contract: U is the diagonal joined against the steps. Assumes nothing.
 use borrow.Author.Needs.{needs}
-use Rattle.storing.proofs.Holding.{whole-holds}
+use Rattle.closure.proofs.Holding.{whole-holds}
 use Rattle.closure.proofs.complete.Statement.{statement}
 use Rattle.closure.proofs.complete.Tie as tie
 

@@ -1,6 +1,6 @@
 -- `closure::meeting` meets its contract: rows joined along the steps are a product with D. Assumes nothing.
 use borrow.Author.Needs.{needs}
-use Rattle.storing.proofs.Holding.{toward-holds}
+use Rattle.closure.proofs.Holding.{toward-holds}
 use Rattle.closure.proofs.meeting.Statement.{statement}
 use Rattle.closure.proofs.meeting.Tie as tie
 

@@ -1,6 +1,6 @@
 -- `closure::meets` meets its contract: the stored MEETS and the diagonal of pieces not marked. Assumes nothing.
 use borrow.Author.Needs.{needs}
-use Rattle.storing.proofs.Holding.{meet-holds}
+use Rattle.closure.proofs.Holding.{meet-holds}
 use Rattle.closure.proofs.meets.Statement.{statement}
 use Rattle.closure.proofs.meets.Tie as tie
 

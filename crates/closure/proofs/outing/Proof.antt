@@ -1,7 +1,7 @@
 -- `closure::outing` meets its contract: what is joined along the steps is N and M·P, by `spread`. Assumes nothing.
 use mathlib.Core.Path.{_∙_}
 use lib.Dec.{lit≤}
-use Rattle.storing.proofs.Holding.{out-holds}
+use Rattle.closure.proofs.Holding.{out-holds}
 use Rattle.closure.proofs.outing.Statement.{statement}
 use Rattle.closure.proofs.outing.Tie as tie
 

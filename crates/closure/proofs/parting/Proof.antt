@@ -1,6 +1,6 @@
 -- `closure::parting` meets its contract: rows joined against the steps are a product with U. Assumes nothing.
 use borrow.Author.Needs.{needs}
-use Rattle.storing.proofs.Holding.{away-holds}
+use Rattle.closure.proofs.Holding.{away-holds}
 use Rattle.closure.proofs.parting.Statement.{statement}
 use Rattle.closure.proofs.parting.Tie as tie
 

@@ -1,6 +1,6 @@
 -- `compare::check_books` meets its contract. Assumes nothing.
 use mathlib.Core.Path.{sym, _∙_}
-use Rattle.joint.proofs.Joining.{short-books}
+use Rattle.compare.proofs.JointJoining.{short-books}
 use Rattle.compare.proofs.Rows.{first-refused, second-refused}
 use Rattle.compare.proofs.check_books.Statement.{statement}
 use Rattle.compare.proofs.check_books.Tie as tie

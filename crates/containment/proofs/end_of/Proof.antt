@@ -5,12 +5,12 @@ use native.Mathlib.Omega.{arith}
 use denote.Ref.{now}
 use lib.ListN.{length}
 use Rattle.lists.proofs.Bools.{not-is-true}
-use Rattle.packed.specs.Bits.{bits}
-use Rattle.packed.specs.Rank.{rank}
+use Rattle.parentheses.specs.Bits.{bits}
+use Rattle.parentheses.specs.Rank.{rank}
 use Rattle.parentheses.specs.Subtree.{after}
-use Rattle.packed.specs.Close.{close}
-use Rattle.packed.proofs.Ranks.{rank-le}
-use Rattle.packed.proofs.Packed.{bits-length}
+use Rattle.parentheses.specs.Close.{close}
+use Rattle.parentheses.proofs.Ranks.{rank-le}
+use Rattle.parentheses.proofs.PackedLaws.{bits-length}
 use Rattle.parentheses.proofs.Founds.{at-found, nothing-found}
 use Rattle.containment.proofs.Ends.{end-closed, end-unclosed, end-leaf}
 use borrow.Author.Needs.{needs}

@@ -8,11 +8,11 @@ use native.Mathlib.Omega.{arith}
 use lib.ListN.{length, length-set, getD}
 use Rattle.lists.proofs.Bools.{not-is-true, not-is-false}
 use Rattle.lists.specs.Tally.{num}
-use Rattle.packed.specs.Bits.{bits}
-use Rattle.packed.specs.Rank.{rank}
+use Rattle.parentheses.specs.Bits.{bits}
+use Rattle.parentheses.specs.Rank.{rank}
 use Rattle.parentheses.specs.Subtree.{after}
-use Rattle.packed.proofs.Ranks.{rank-zero, rank-le, rank-suc, rank-one}
-use Rattle.packed.proofs.Packed.{bits-length}
+use Rattle.parentheses.proofs.Ranks.{rank-zero, rank-le, rank-suc, rank-one}
+use Rattle.parentheses.proofs.PackedLaws.{bits-length}
 use Rattle.parentheses.proofs.Subtrees.{after-le}
 use Rattle.containment.proofs.Ends.{ends-more, ended-more}
 use Rattle.containment.proofs.ends_by.Statement.{statement}

@@ -5,8 +5,8 @@ use Prim.Native.Nat.{_+_}
 use native.Mathlib.Omega.{arith}
 use denote.Ref.{now}
 use lib.ListN.{List·getD-eq-default}
-use Rattle.packed.specs.Bits.{bits}
-use Rattle.packed.proofs.Packed.{bits-length}
+use Rattle.parentheses.specs.Bits.{bits}
+use Rattle.parentheses.proofs.PackedLaws.{bits-length}
 use borrow.Author.Needs.{needs}
 use Rattle.containment.proofs.is_leaf.Statement.{statement}
 use Rattle.containment.proofs.is_leaf.Tie as tie

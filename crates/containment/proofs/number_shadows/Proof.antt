@@ -5,7 +5,7 @@ use mathlib.Core.Bool.{true, false}
 use borrow.Author.Tests.{not-true, not-false}
 use Prim.Native.Nat.{ℕ, _≤_, _<_, _-_}
 use lib.ListN.{length, length-set, getD}
-use Rattle.packed.specs.Bits.{bits}
+use Rattle.parentheses.specs.Bits.{bits}
 use Rattle.containment.proofs.Pieces.{Shadowed, shadows-none, shadows-node, shadows-more}
 use Rattle.containment.proofs.number_shadows.Statement.{statement}
 use Rattle.containment.proofs.number_shadows.Tie as tie

@@ -1,7 +1,7 @@
 -- `convert::settle` meets its contract. Assumes nothing.
 use borrow.Author.Needs.{needs}
-use Rattle.storing.proofs.VoidRows.{no-voids}
-use Rattle.settling.proofs.Settling.{settleable-alone}
+use Rattle.closure.proofs.VoidRows.{no-voids}
+use Rattle.contradiction.proofs.SettlingLaws.{settleable-alone}
 use Rattle.convert.proofs.Writes.{no-marks, settleable-former}
 use Rattle.convert.proofs.settle.Statement.{statement}
 use Rattle.convert.proofs.settle.Tie as tie

@@ -1,5 +1,5 @@
 use Rattle.records.proofs.Accepted.{accepted}
-use Rattle.storing.proofs.VoidRows.{accepted-markable}
+use Rattle.closure.proofs.VoidRows.{accepted-markable}
 use Rattle.grids.proofs.Agrees.{agrees}
 use Rattle.grids.proofs.Starts.{loaded-marks}
 use Rattle.grids.proofs.Sheets.{loadable, first-word}

@@ -3,7 +3,7 @@ use Prim.Native.Nat.{_≤_, _-_}
 use mathlib.Core.Path.{sym, _∙_}
 use borrow.Author.Tests.{not-true, not-false}
 use native.Mathlib.Omega.{arith}
-use Rattle.relation.specs.Matrix.{bit}
+use Rattle.matrices.specs.Matrix.{bit}
 use Rattle.records.specs.Record.{records}
 use Rattle.grids.proofs.Loads.{Upto, none-in, one-in, one-out, all-in, fit}
 use Rattle.grids.proofs.load.Statement.{statement}

@@ -5,7 +5,7 @@ use native.Mathlib.Omega.{arith}
 use lib.ListN.{length, getD, length-set}
 use Rattle.groups.proofs.Arranging.{Arranging, arrange-none, arrange-leader, arrange-follower, arrange-all, leader-place}
 use Rattle.lists.proofs.Bounds.{closer, inside}
-use Rattle.components.proofs.Fits.{below, under, in-room, short, part, fits-more, fits-twice}
+use Rattle.groups.proofs.Fits.{below, under, in-room, short, part, fits-more, fits-twice}
 use Rattle.groups.proofs.arrange.Statement.{statement}
 use Rattle.groups.proofs.arrange.Tie as tie
 

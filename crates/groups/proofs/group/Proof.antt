@@ -1,7 +1,7 @@
 -- `groups::group` meets its contract. Assumes nothing.
 use mathlib.Core.Path.{refl, _∙_}
-use Rattle.components.specs.Search.{Searchable}
-use Rattle.components.proofs.Fits.{fit}
+use Rattle.groups.specs.Search.{Searchable}
+use Rattle.groups.proofs.Fits.{fit}
 use Rattle.groups.proofs.Making.{arrangeable, grouped}
 use Rattle.groups.proofs.group.Statement.{statement}
 use Rattle.groups.proofs.group.Tie as tie

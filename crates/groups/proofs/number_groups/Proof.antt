@@ -5,7 +5,7 @@ use native.Mathlib.Omega.{arith}
 use lib.ListN.{length, getD, length-set}
 use Rattle.groups.proofs.Ranking.{Ranking, rank-none, rank-new, rank-old, rank-all, old-head}
 use Rattle.lists.proofs.Bounds.{closer}
-use Rattle.components.proofs.Fits.{below, under, in-room, short, fits-more, fits-twice}
+use Rattle.groups.proofs.Fits.{below, under, in-room, short, fits-more, fits-twice}
 use Rattle.groups.proofs.number_groups.Statement.{statement}
 use Rattle.groups.proofs.number_groups.Tie as tie
 

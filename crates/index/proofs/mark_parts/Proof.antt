@@ -5,7 +5,7 @@ use mathlib.Core.Bool.{true}
 use Prim.Native.Nat.{_+_, _-_, _<_}
 use native.Mathlib.Omega.{arith}
 use lib.ListN.{length, set, length-set}
-use Rattle.relation.specs.Matrix.{bitOf}
+use Rattle.matrices.specs.Matrix.{bitOf}
 use Rattle.index.proofs.Joins.{Marking, mark-start, mark-next, mark-more, mark-done}
 use borrow.Author.Needs.{needs}
 use Rattle.index.proofs.mark_parts.Statement.{statement}

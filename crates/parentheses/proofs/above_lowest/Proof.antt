@@ -8,11 +8,11 @@ use native.Mathlib.Omega.{arith}
 use lib.ListN.{getD, length}
 use mir.Syntax.{w64}
 use mir.Val.{Fits}
-use Rattle.packed.specs.Bits.{bits}
-use Rattle.packed.specs.Rank.{rank}
+use Rattle.parentheses.specs.Bits.{bits}
+use Rattle.parentheses.specs.Rank.{rank}
 use Rattle.parentheses.specs.Search.{Stays}
-use Rattle.packed.proofs.Ranks.{rank-whole}
-use Rattle.packed.proofs.Margins.{margin, margin-read, margin-small, margin-whole}
+use Rattle.parentheses.proofs.Ranks.{rank-whole}
+use Rattle.parentheses.proofs.Margins.{margin, margin-read, margin-small, margin-whole}
 use Rattle.parentheses.proofs.Closes.{stays-byte, stays-more}
 use Rattle.parentheses.proofs.above_lowest.Statement.{statement}
 use Rattle.parentheses.proofs.above_lowest.Tie as tie

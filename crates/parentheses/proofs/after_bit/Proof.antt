@@ -4,7 +4,7 @@ use mathlib.Core.Path.{_≡_, ap, _∙_}
 use borrow.Author.Needs.{needs}
 use native.Mathlib.Omega.{arith}
 use Rattle.lists.specs.Tally.{num}
-use Rattle.packed.proofs.Ranks.{bool-num, bool-le}
+use Rattle.parentheses.proofs.Ranks.{bool-num, bool-le}
 use Rattle.parentheses.proofs.after_bit.Statement.{statement}
 use Rattle.parentheses.proofs.after_bit.Tie as tie
 

@@ -4,7 +4,7 @@ use Prim.Native.Nat.{ℕ, _+_, _*_, _<_}
 use borrow.Author.Needs.{needs}
 use native.Mathlib.Omega.{arith}
 use denote.Ref.{now}
-use Rattle.packed.specs.Bits.{bits}
+use Rattle.parentheses.specs.Bits.{bits}
 use Rattle.parentheses.proofs.Closes.{stays-deep}
 use Rattle.parentheses.proofs.passable.Statement.{statement}
 use Rattle.parentheses.proofs.passable.Tie as tie

@@ -5,9 +5,9 @@ use Prim.Native.Nat.{ℕ, _+_, _-_, _*_, _≤_, _<_}
 use native.Mathlib.Omega.{arith}
 use denote.Ref.{now}
 use lib.ListN.{length, length-set, getD}
-use Rattle.packed.specs.Bits.{bits}
-use Rattle.packed.specs.Rank.{rank}
-use Rattle.packed.proofs.Ranks.{rank-zero, rank-le}
+use Rattle.parentheses.specs.Bits.{bits}
+use Rattle.parentheses.specs.Rank.{rank}
+use Rattle.parentheses.proofs.Ranks.{rank-zero, rank-le}
 use Rattle.parentheses.proofs.Rankings.{Counted, counted-none, counted-more, counted-all}
 use Rattle.parentheses.proofs.rank_bytes.Statement.{statement}
 use Rattle.parentheses.proofs.rank_bytes.Tie as tie

@@ -14,13 +14,13 @@ use mir.Val.{Fits}
 use Rattle.lists.proofs.Bounds.{closer}
 use Rattle.lists.specs.Tab.{tab}
 use Rattle.lists.specs.Tally.{num}
-use Rattle.packed.specs.Bits.{bits, bitOf, digit}
-use Rattle.packed.specs.Rank.{rank}
-use Rattle.packed.specs.Close.{excess}
+use Rattle.parentheses.specs.Bits.{bits, bitOf, digit}
+use Rattle.parentheses.specs.Rank.{rank}
+use Rattle.parentheses.specs.Close.{excess}
 use Rattle.parentheses.specs.Search.{closing, Stays}
-use Rattle.packed.specs.Tables.{lower, lowest, lowestOf}
-use Rattle.packed.proofs.Masks.{low3}
-use Rattle.packed.proofs.Ranks.{num-le}
+use Rattle.parentheses.specs.Tables.{lower, lowest, lowestOf}
+use Rattle.parentheses.proofs.Masks.{low3}
+use Rattle.parentheses.proofs.Ranks.{num-le}
 use Rattle.parentheses.proofs.Founds.{found-at, found-nothing}
 use Rattle.parentheses.proofs.Closes.{bit-found, bit-passed, run-above, run-passed, none-left}
 use Rattle.parentheses.proofs.search.Statement.{statement}

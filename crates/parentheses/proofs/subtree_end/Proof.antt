@@ -6,10 +6,10 @@ use borrow.Author.Needs.{needs}
 use native.Mathlib.Omega.{arith}
 use denote.Ref.{now}
 use lib.ListN.{length}
-use Rattle.packed.specs.Bits.{bits}
-use Rattle.packed.specs.Rank.{rank, select}
-use Rattle.packed.specs.Close.{close}
-use Rattle.packed.proofs.Packed.{bits-length}
+use Rattle.parentheses.specs.Bits.{bits}
+use Rattle.parentheses.specs.Rank.{rank, select}
+use Rattle.parentheses.specs.Close.{close}
+use Rattle.parentheses.proofs.PackedLaws.{bits-length}
 use Rattle.parentheses.proofs.Founds.{at-found, nothing-found}
 use Rattle.parentheses.proofs.Subtrees.{select-one, after-missing, after-unclosed, after-closed}
 use Rattle.parentheses.proofs.subtree_end.Statement.{statement}

@@ -1,4 +1,4 @@
-use Rattle.results.proofs.Results.{passed}
+use Rattle.piecebook.proofs.ResultsLaws.{passed}
 use borrow.Author.Needs.{needs}
 use Rattle.piecebook.proofs.piecebook_convert_with.Statement.{statement}
 use Rattle.piecebook.proofs.piecebook_convert_with.Tie as tie

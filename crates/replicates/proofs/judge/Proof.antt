@@ -1,8 +1,8 @@
 -- `replicates::judge` meets its contract. Assumes nothing.
 use mathlib.Core.Path.{refl, sym, _∙_}
 use Rattle.records.proofs.Accepted.{accepted}
-use Rattle.storing.proofs.VoidRows.{accepted-markable}
-use Rattle.settling.proofs.Settling.{settleable, settleable-alone}
+use Rattle.closure.proofs.VoidRows.{accepted-markable}
+use Rattle.contradiction.proofs.SettlingLaws.{settleable, settleable-alone}
 use Rattle.replicates.proofs.Rows.{passes}
 use Rattle.replicates.proofs.Calls.{clash-refused, part-refused, part-written}
 use Rattle.replicates.proofs.judge.Statement.{statement}

@@ -5,10 +5,10 @@ use lib.ListN.{length, length-set}
 use lib.Dec.{leb}
 use Rattle.lists.specs.Tally.{num}
 use Rattle.lists.specs.Front.{front}
-use Rattle.relation.specs.Matrix.{bitOf}
-use Rattle.windows.specs.Before.{bytesFrom}
-use Rattle.windows.specs.Looking.{Reach}
-use Rattle.windows.proofs.Reaches.{reach-more, bytes-none, bytes-more}
+use Rattle.matrices.specs.Matrix.{bitOf}
+use Rattle.replicates.specs.Before.{bytesFrom}
+use Rattle.replicates.specs.Looking.{Reach}
+use Rattle.replicates.proofs.Reaches.{reach-more, bytes-none, bytes-more}
 use borrow.Author.Needs.{needs}
 use Rattle.replicates.proofs.write_bytes.Statement.{statement}
 use Rattle.replicates.proofs.write_bytes.Tie as tie

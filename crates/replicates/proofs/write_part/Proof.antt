@@ -6,7 +6,7 @@ use lib.ListN.{length, take, length-replicate}
 use lib.Seq.{length-take-le}
 use mir.Syntax.{w64}
 use mir.Val.{Fits}
-use Rattle.settling.proofs.Settling.{settleable}
+use Rattle.contradiction.proofs.SettlingLaws.{settleable}
 use Rattle.replicates.specs.Log.{entryCount, sequence, windowOf}
 use Rattle.replicates.proofs.Sequences.{filled}
 use Rattle.replicates.proofs.Calls.{asks, writes}

@@ -7,7 +7,7 @@ use mathlib.Core.Bool.{false}
 use lib.ListN.{length}
 use Rattle.lists.specs.Any.{anyBelow}
 use Rattle.records.specs.Record.{recordAt}
-use Rattle.storing.specs.Void.{voidOf}
+use Rattle.closure.specs.Void.{voidOf}
 use Rattle.verdicts.specs.Opposed.{opposed}
 use Rattle.verdicts.proofs.Answering.{clashing-none, clashing-more, clashing-found, clashing-asks, clashing}
 use Rattle.verdicts.proofs.clashes.Statement.{statement}

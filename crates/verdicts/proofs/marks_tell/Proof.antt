@@ -1,7 +1,7 @@
 -- `verdicts::marks_tell` meets its contract: by the kind. Assumes nothing.
 use borrow.Author.Needs.{needs}
 use mathlib.Core.Path.{refl}
-use Rattle.storing.specs.Void.{voidOf}
+use Rattle.closure.specs.Void.{voidOf}
 use Rattle.verdicts.proofs.Answering.{tells-part, tells-apart, tells-meets, tells-notpart}
 use Rattle.verdicts.proofs.marks_tell.Statement.{statement}
 use Rattle.verdicts.proofs.marks_tell.Tie as tie

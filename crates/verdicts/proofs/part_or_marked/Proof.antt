@@ -1,6 +1,6 @@
 -- `verdicts::part_or_marked` meets its contract: D is looked at where the piece is not marked. Assumes nothing.
 use borrow.Author.Needs.{needs}
-use Rattle.storing.specs.Void.{voidOf}
+use Rattle.closure.specs.Void.{voidOf}
 use Rattle.verdicts.proofs.Answering.{first-found, first-passed}
 use Rattle.verdicts.proofs.part_or_marked.Statement.{statement}
 use Rattle.verdicts.proofs.part_or_marked.Tie as tie

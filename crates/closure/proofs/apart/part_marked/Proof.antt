@@ -5,10 +5,10 @@ use mathlib.Core.Path.{_≡_, refl, ap}
 use mathlib.Core.Bool.{Bool, _&&_}
 use lib.Dec.{eqb}
 use lib.ListN.{length}
-use Rattle.storing.specs.Void.{voidOf}
-use Rattle.storing.specs.Closed.{Grown}
+use Rattle.closure.specs.Void.{voidOf}
+use Rattle.closure.specs.Closed.{Grown}
 use Rattle.closure.specs.Apart.{markedApart}
-use Rattle.storing.proofs.Grows.{grown-none, grown-same, grown-two}
+use Rattle.closure.proofs.Grows.{grown-none, grown-same, grown-two}
 use Rattle.closure.proofs.Aparts.{marked-none, marked-more}
 use borrow.Author.Needs.{needs}
 use Rattle.closure.proofs.apart.part_marked.Statement.{statement}

@@ -1,6 +1,6 @@
 -- `exports::records_c::records_check_book` meets its contract: each arm knows what the check returned. Assumes nothing.
 use mathlib.Core.Path.{sym, ap, _∙_}
-use Rattle.checks.specs.CheckNumbers.{bookNumber}
+use Rattle.records.specs.CheckNumbers.{bookNumber}
 use borrow.Author.Needs.{needs}
 use Rattle.exports.proofs.records_c.records_check_book.Statement.{statement}
 use Rattle.exports.proofs.records_c.records_check_book.Tie as tie

@@ -1,5 +1,5 @@
 use borrow.Author.Needs.{needs}
-use Rattle.results.proofs.Listings.{cataloged}
+use Rattle.piecebook.proofs.Listings.{cataloged}
 use Rattle.piecebook.proofs.catalogs.piecebook_catalog_with.Statement.{statement}
 use Rattle.piecebook.proofs.catalogs.piecebook_catalog_with.Tie as tie
 

@@ -1,6 +1,6 @@
 -- `piecebook::chain_calls::piecebook_chain_with` meets its contract. Assumes nothing.
 use native.Mathlib.Omega.{arith}
-use Rattle.results.proofs.Chaining.{chained-all}
+use Rattle.piecebook.proofs.Chaining.{chained-all}
 use borrow.Author.Needs.{needs}
 use Rattle.piecebook.proofs.chain_calls.piecebook_chain_with.Statement.{statement}
 use Rattle.piecebook.proofs.chain_calls.piecebook_chain_with.Tie as tie

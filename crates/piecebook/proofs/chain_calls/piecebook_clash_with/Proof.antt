@@ -1,5 +1,5 @@
 -- `piecebook::chain_calls::piecebook_clash_with` meets its contract. Assumes nothing.
-use Rattle.results.proofs.Clashing.{clashed-all}
+use Rattle.piecebook.proofs.Clashing.{clashed-all}
 use borrow.Author.Needs.{needs}
 use Rattle.piecebook.proofs.chain_calls.piecebook_clash_with.Statement.{statement}
 use Rattle.piecebook.proofs.chain_calls.piecebook_clash_with.Tie as tie

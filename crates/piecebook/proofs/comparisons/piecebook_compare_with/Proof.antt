@@ -1,6 +1,6 @@
 -- `piecebook::comparisons::piecebook_compare_with` meets its contract. Assumes nothing.
 use borrow.Author.Needs.{needs}
-use Rattle.results.proofs.Comparing.{compared, still-demanded}
+use Rattle.piecebook.proofs.Comparing.{compared, still-demanded}
 use Rattle.piecebook.proofs.comparisons.piecebook_compare_with.Statement.{statement}
 use Rattle.piecebook.proofs.comparisons.piecebook_compare_with.Tie as tie
 

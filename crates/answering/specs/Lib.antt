@@ -1,2 +1,0 @@
-pub mod Claimed
-pub mod Answered

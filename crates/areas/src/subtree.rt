@@ -1,0 +1,44 @@
+// The places of what stands at or below the node of a piece.
+ghost use mathlib.Core.Path.{_≡_};
+ghost use Rattle.areas.specs.Subtree.{endOf, rangeFrom, rangeTo};
+use index::DatasetId;
+use index::TreeId;
+
+// A range of places, ends included.
+pub struct Range {
+    pub from: TreeId,
+    pub to: TreeId,
+}
+
+// The first place past the subtree of a piece's node; 0 where there is none.
+fn end_of(parens: &[u8], places: &[u16], g: usize) -> usize
+    ensures { λ r. ⌜ r ≡ endOf (now (parens .entry)) (now (places .entry)) g ⌝ }
+{
+    if parens.len() < 2560 {
+        return 0;
+    }
+    if places.len() <= g {
+        return 0;
+    }
+    let place = index::place_of(places, DatasetId(g));
+    parentheses::subtree_end(&parens[..2560], place.0)
+}
+
+// The places of a piece's node and of all nodes and shadows below it; an empty range where the parts have no such node.
+pub fn subtree_range(parens: &[u8], places: &[u16], g: DatasetId) -> Range
+    ensures { λ r. ⌜ (r .from .0 ≡ rangeFrom (now (parens .entry)) (now (places .entry)) (g .0)) × (r .to .0 ≡ rangeTo (now (parens .entry)) (now (places .entry)) (g .0)) ⌝ }
+{
+    let piece = g.0;
+    let end = end_of(parens, places, piece);
+    if end == 0 {
+        return Range {
+            from: TreeId(1),
+            to: TreeId(0),
+        };
+    }
+    let place = index::place_of(places, DatasetId(piece));
+    Range {
+        from: TreeId(place.0),
+        to: TreeId(end - 1),
+    }
+}

@@ -1,0 +1,5 @@
+pub mod AskTexts
+pub mod ListTexts
+pub mod Signs
+pub mod Rooms
+pub mod GridTexts

@@ -1,0 +1,4 @@
+pub mod AskText
+pub mod ListText
+pub mod Sign
+pub mod GridText

@@ -1,0 +1,104 @@
+// The page of `inside`, `touching` and `apart`: the pieces of which a claim follows, one number a line.
+ghost use Prim.Native.Nat.{_≤_};
+ghost use lib.ListN.{length};
+ghost use Rattle.pages.specs.Put.{Put};
+ghost use Rattle.pages.specs.Written.{Page};
+ghost use Rattle.book_pages.specs.ListText.{numberLines, listLines, listText};
+use catalog::Listing;
+use pages::Written;
+
+// The numbers of a list, one a line.
+fn put_numbers(page: &mut [u8], at: usize, list: &[u16]) -> usize
+    ensures { λ r. ⌜ Put (now (page .entry)) at (numberLines (now (list .entry)) (length (now (list .entry)))) (now (page .exit)) r ⌝ }
+{
+    let mut end = at;
+    let mut i: usize = 0;
+    while i < list.len() {
+        end = pages::put_number(page, end, list[i] as usize, b'\n');
+        i += 1;
+    }
+    end
+}
+
+// The lines of a list, from the start of the page.
+fn put_list(page: &mut [u8], list: &[u16]) -> usize
+    requires { ⌜ length (now list) ≤ 2048 ⌝ }
+    ensures { λ r. ⌜ Put (now (page .entry)) 0 (listLines (now (list .entry))) (now (page .exit)) r ⌝ }
+    ensures { λ r. ⌜ length (listLines (now (list .entry))) ≤ 12300 ⌝ }
+{
+    let at = pages::put(page, 0, b"PIECES ");
+    let at = pages::put_number(page, at, list.len(), b'\n');
+    put_numbers(page, at, list)
+}
+
+// The text of a catalog's list, from the start of the page. Answers where it ends.
+fn put_catalog(
+    book: &[u8],
+    lines: &[u32],
+    kind: usize,
+    g: usize,
+    page: &mut [u8],
+    e: &mut [u64; 65536],
+    d: &mut [u64; 65536],
+    t: &mut [u64; 65536],
+) -> usize
+    ensures { λ r. ⌜ Put (now (page .entry)) 0 (listText (now (book .entry)) (now (lines .entry)) kind g) (now (page .exit)) r ⌝ }
+    ensures { λ r. ⌜ length (listText (now (book .entry)) (now (lines .entry)) kind g) ≤ 12300 ⌝ }
+{
+    let mut parens = [0u8; 2560];
+    let mut marks = [0u8; 1280];
+    let mut shadows = [0u16; 8192];
+    let mut places = [0u16; 2048];
+    let mut list = [0u16; 2048];
+    let mut meets = [0u16; 16384];
+    let mut apart = [0u16; 16384];
+    let mut notpart = [0u16; 16384];
+    let made = catalog::write_catalog(
+        book,
+        kind,
+        g,
+        &mut parens,
+        &mut marks,
+        &mut shadows,
+        &mut places,
+        &mut list,
+        &mut meets,
+        &mut apart,
+        &mut notpart,
+        e,
+        d,
+        t,
+    );
+    match made {
+        Listing::Refused(refusal, place) => sentences::put_refused_book(
+            page,
+            0,
+            refusal,
+            place,
+            lines,
+        ),
+        Listing::Written(counts) => {
+            let n = counts.listed;
+            put_list(page, &list[..n])
+        }
+    }
+}
+
+// The pieces x of which the claim of a kind 1 to 3 about x and g follows, on a page: 12,300 bytes always serve. Each record may have its line of a
+// text.
+pub fn write_list(
+    book: &[u8],
+    lines: &[u32],
+    kind: usize,
+    g: usize,
+    page: &mut [u8],
+    e: &mut [u64; 65536],
+    d: &mut [u64; 65536],
+    t: &mut [u64; 65536],
+) -> Written
+    ensures { λ r. ⌜ Page (now (page .entry)) (listText (now (book .entry)) (now (lines .entry)) kind g) (now (page .exit)) r ⌝ }
+    ensures { λ r. ⌜ length (listText (now (book .entry)) (now (lines .entry)) kind g) ≤ 12300 ⌝ }
+{
+    let end = put_catalog(book, lines, kind, g, page, e, d, t);
+    pages::finish(page.len(), end)
+}

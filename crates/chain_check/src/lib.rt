@@ -1,0 +1,49 @@
+// The check of a chain: whether steps, whoever wrote them, are one behind the answer to a claim about a book. What it is for a chain to pass is in
+// specs/, what that means in proofs/.
+ghost use mathlib.Core.Path.{_≡_};
+ghost use lib.ListN.{length};
+ghost use Rattle.records.specs.Check.{bookCheck};
+ghost use Rattle.records.specs.declared.BookCheck.the-variants as is;
+ghost use Rattle.chain_check.specs.Call.{passes, Checked};
+use outcomes::Outcome;
+use records::ClaimsCheck;
+
+// The claim's rows and the steps, in an accepted book of n pieces.
+fn check_accepted(book: &[u8], n: usize, claim: &[u8], steps: &[u8]) -> bool
+    requires { ⌜ (bookCheck (now book) ≡ is.Accepted n) × (length (now claim) ≡ 6) ⌝ }
+    ensures { λ r. ⌜ Checked n (now (book .entry)) (now (claim .entry)) (now (steps .entry)) r ⌝ }
+{
+    let fit = records::check_claims(claim, n);
+    match fit {
+        ClaimsCheck::Refused(_, _) => false,
+        ClaimsCheck::Accepted => {
+            let mut voids = [0u64; 32];
+            closure::marking::mark_voids(book, &mut voids);
+            chain_format::check_steps(book, n, &voids, records::record_at(claim, 0), steps)
+        }
+    }
+}
+
+// Whether the steps, whoever wrote them, are a chain behind the answer to the claim about the book.
+pub fn check_chain(
+    book: &[u8],
+    claim: &[u8],
+    steps: &[u8],
+    e: &mut [u64; 65536],
+    d: &mut [u64; 65536],
+    t: &mut [u64; 65536],
+    u: &mut [u64; 65536],
+    p: &mut [u64; 65536],
+    q: &mut [u64; 65536],
+) -> bool
+    ensures { λ r. ⌜ r ≡ passes (now (book .entry)) (now (claim .entry)) (now (steps .entry)) ⌝ }
+{
+    if claim.len() != 6 {
+        return false;
+    }
+    let judged = answers::judge_run(book, e, d, t, u, p, q);
+    match judged {
+        Outcome::Refused(_, _) => false,
+        Outcome::Accepted(n, _, _) => check_accepted(book, n, claim, steps),
+    }
+}

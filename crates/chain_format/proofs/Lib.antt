@@ -1,0 +1,13 @@
+pub mod Citings
+pub mod Computed
+pub mod Somes
+pub mod Showing
+pub mod Tables
+pub mod Solved
+pub mod Asked
+pub mod Stepping
+pub mod Sound
+pub mod Passing
+pub mod Kept
+pub mod Session
+pub mod Givens

@@ -1,0 +1,122 @@
+// What a step of a chain is: its bytes, what it may cite, and the rules by number.
+ghost use mathlib.Core.Path.{_≡_};
+ghost use mathlib.Core.Bool.{true, _&&_};
+ghost use Prim.Native.Nat.{_+_, _*_, _≤_};
+ghost use lib.Dec.{eqb};
+ghost use lib.ListN.{length, getD};
+ghost use Rattle.records.specs.declared.Record as of;
+ghost use Rattle.records.specs.Record.{pair};
+ghost use Rattle.chain_format.specs.Step as on;
+ghost use Rattle.chain_format.specs.Step.{stepAt, showing};
+ghost use Rattle.chain_format.specs.Citing as may;
+ghost use Rattle.chain_format.specs.Citing.{none, citing};
+ghost use Rattle.chain_format.specs.Rule.{rule};
+ghost use Rattle.chain_format.specs.Justified as by;
+ghost use Rattle.chain_format.specs.Other as end;
+use records::Record;
+
+// A step: its rule, the kind and the pieces of the fact that it shows, and its premises, or the record that it cites.
+pub struct Step {
+    pub rule: u8,
+    pub kind: u8,
+    pub a: usize,
+    pub b: usize,
+    pub first: usize,
+    pub second: usize,
+}
+
+fn wide(x: u8) -> usize
+    ensures { λ r. ⌜ (r ≡ x) × (r ≤ 255) ⌝ }
+{
+    x as usize
+}
+
+// A 16-bit number, low byte first.
+fn number_at(c: &[u8], at: usize) -> usize
+    requires { ⌜ at + 2 ≤ length (now c) ⌝ }
+    ensures { λ r. ⌜ r ≡ pair (getD (now (c .entry)) at 0) (getD (now (c .entry)) (at + 1) 0) ⌝ }
+{
+    wide(c[at]) + 256 * wide(c[at + 1])
+}
+
+// The one reader of steps.
+pub fn step_at(c: &[u8], i: usize) -> Step
+    requires { ⌜ 10 * i + 10 ≤ length (now c) ⌝ }
+    ensures { λ r. ⌜ r ≡ stepAt (now (c .entry)) i ⌝ }
+{
+    let at = 10 * i;
+    let a = number_at(c, at + 2);
+    let b = number_at(c, at + 4);
+    let first = number_at(c, at + 6);
+    let second = number_at(c, at + 8);
+    Step {
+        rule: c[at],
+        kind: c[at + 1],
+        a,
+        b,
+        first,
+        second,
+    }
+}
+
+// APART and MEETS.
+fn unordered(kind: u8) -> bool
+    ensures { λ r. ⌜ r ≡ on.unordered kind ⌝ }
+{
+    if kind == 2 {
+        return true;
+    }
+    kind == 3
+}
+
+fn has_ends(s: Step, a: usize, b: usize) -> bool
+    ensures { λ r. ⌜ r ≡ (eqb (s .a) a && eqb (s .b) b) ⌝ }
+{
+    if s.a != a {
+        return false;
+    }
+    s.b == b
+}
+
+// Whether the step shows the fact of that kind about a and b.
+pub fn shows(s: Step, kind: u8, a: usize, b: usize) -> bool
+    ensures { λ r. ⌜ r ≡ showing s kind a b ⌝ }
+{
+    if s.kind != kind {
+        return false;
+    }
+    if has_ends(s, a, b) {
+        return true;
+    }
+    if !unordered(kind) {
+        return false;
+    }
+    has_ends(s, b, a)
+}
+
+// Whether the claim lets a record's fact be cited.
+pub fn lets(claim: Record, r: Record) -> bool
+    ensures { λ b. ⌜ b ≡ may.lets claim r ⌝ }
+{
+    if claim.origin == 0 {
+        return true;
+    }
+    r.origin == 0
+}
+
+// Whether the record that the step cites may be cited, and says what the step shows.
+pub fn cites(claim: Record, book: &[u8], s: Step) -> bool
+    ensures { λ r. ⌜ r ≡ by.cites (getD (citing claim (now (book .entry))) (s .first) none) s ⌝ }
+{
+    if book.len() / 6 <= s.first {
+        return false;
+    }
+    let r = records::record_at(book, s.first);
+    if !records::states_fact(r) {
+        return false;
+    }
+    if !lets(claim, r) {
+        return false;
+    }
+    shows(s, r.kind, r.a, r.b)
+}

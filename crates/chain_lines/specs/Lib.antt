@@ -1,2 +1,0 @@
-pub mod StepLine
-pub mod AnswerLine

@@ -1,0 +1,33 @@
+// The marks of a book as a row of bits.
+ghost use mathlib.Core.Path.{_≡_};
+ghost use mathlib.Core.Bool.{_||_};
+ghost use Prim.Native.Nat.{ℕ, _<_};
+ghost use lib.ListN.{length};
+ghost use Rattle.records.specs.Marked.{marks, marked};
+ghost use Rattle.closure.specs.Void.{voidOf, Voids, Markable};
+use records::Record;
+
+// Sets the bit of the piece that a record marks, if it is a mark.
+fn mark_record(r: Record, voids: &mut [u64])
+    requires { ⌜ (length (now voids) ≡ 32) × (r .kind ≡ 6 → r .a < 2048) ⌝ }
+    ensures { λ _. ⌜ ((g : ℕ) → g < 2048 → voidOf (now (voids .exit)) g ≡ (marks g r || voidOf (now (voids .entry)) g)) ⌝ }
+{
+    if r.kind != 6 {
+        return;
+    }
+    matrices::put(voids, r.a);
+}
+
+// The pieces that the whole book marks, of either origin and wherever the record stands.
+pub fn mark_voids(book: &[u8], voids: &mut [u64])
+    requires { ⌜ Markable (now book) × (length (now voids) ≡ 32) ⌝ }
+    ensures { λ _. ⌜ Voids (now (voids .exit)) × (voidOf (now (voids .exit)) ≡ marked (now (book .entry))) ⌝ }
+{
+    matrices::clear(voids);
+    let n = book.len() / 6;
+    let mut i: usize = 0;
+    while i < n {
+        mark_record(records::record_at(book, i), voids);
+        i += 1;
+    }
+}

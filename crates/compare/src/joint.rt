@@ -1,0 +1,78 @@
+// Two books together: their records in one run, and the three bytes of a claim from both answers.
+ghost use mathlib.Core.Path.{_≡_};
+ghost use Prim.Native.Nat.{max, _+_, _*_, _≤_};
+ghost use lib.ListN.{length, getD};
+ghost use lib.Seq.{paste};
+ghost use Rattle.lists.specs.Front.{front};
+ghost use Rattle.compare.specs.Agreement.{agreement, threes};
+ghost use Rattle.compare.specs.Together.{Joins};
+
+// 1 for the same answer, 2 where one alone is open, 3 for opposite ones.
+fn agreement_of(x: u8, y: u8) -> u8
+    ensures { λ r. ⌜ r ≡ agreement x y ⌝ }
+{
+    if x == y {
+        return 1;
+    }
+    if x == 3 {
+        return 2;
+    }
+    if y == 3 {
+        return 2;
+    }
+    3
+}
+
+// Three bytes for each claim.
+pub fn write_answers(ours: &[u8], theirs: &[u8], out: &mut [u8])
+    requires { ⌜ (length (now theirs) ≡ length (now ours)) × (3 * length (now ours) ≤ length (now out)) ⌝ }
+    ensures { λ _. ⌜ now (out .exit) ≡ front (threes (λ i. getD (now (ours .entry)) i 0) (λ i. getD (now (theirs .entry)) i 0) (length (now (ours .entry)))) (now (out .entry)) ⌝ }
+{
+    let n = ours.len();
+    let mut i: usize = 0;
+    while i < n {
+        let x = ours[i];
+        let y = theirs[i];
+        let at = 3 * i;
+        out[at] = x;
+        out[at + 1] = y;
+        out[at + 2] = agreement_of(x, y);
+        i += 1;
+    }
+}
+
+// Copies a run to place `at` on.
+fn copy(s: &[u8], at: usize, run: &mut [u8])
+    requires { ⌜ at + length (now s) ≤ length (now run) ⌝ }
+    ensures { λ _. ⌜ now (run .exit) ≡ paste (now (run .entry)) at (now (s .entry)) (length (now (s .entry))) ⌝ }
+{
+    let n = s.len();
+    let mut i: usize = 0;
+    while i < n {
+        run[at + i] = s[i];
+        i += 1;
+    }
+}
+
+// The second book behind the first, where both are as short as a book is, and how many bytes they have. A shared record stands twice, which says no more
+// than once.
+pub fn join(first: &[u8], second: &[u8], run: &mut [u8; 98304]) -> usize
+    ensures { λ r. ⌜ Joins (now (first .entry)) (now (second .entry)) (now (run .exit)) r ⌝ }
+{
+    if 49152 < first.len() {
+        return 0;
+    }
+    if 49152 < second.len() {
+        return 0;
+    }
+    let at = first.len();
+    copy(first, 0, run);
+    copy(second, at, run);
+    at + second.len()
+}
+
+pub fn larger(x: usize, y: usize) -> usize
+    ensures { λ r. ⌜ r ≡ max x y ⌝ }
+{
+    if x < y { y } else { x }
+}

@@ -1,6 +1,0 @@
-pub mod Contains
-pub mod Lent
-pub mod Siblings
-pub mod Seeds
-pub mod Rows
-pub mod Table

@@ -1,0 +1,37 @@
+-- Row 14 of a run with the marks of its book: what settling it finds. Assumes nothing.
+use Prim.Native.Nat.{ℕ, _+_}
+use mathlib.Core.Path.{_≡_}
+use mathlib.Core.Bool.{Bool, true, false}
+use mathlib.Core.List.{List}
+use Rattle.rules.specs.Follows as on
+use Rattle.rules.specs.Entries.{shortestClash}
+use Rattle.records.specs.Facts.{entries, facts}
+use Rattle.groups.specs.Index.{BookIndex}
+use Rattle.records.specs.PartIn.{partIn}
+use Rattle.contradiction.specs.Settleable.{Sizes}
+use Rattle.closure.specs.Stepped.{Stepped}
+use Rattle.contradiction.specs.Opened.{Opened}
+use Rattle.contradiction.specs.declared.settling.Settled.{Settled}
+use Rattle.contradiction.specs.declared.settling.Settled.the-variants.{Free, Clash}
+
+-- a contradictory run, and the last record of its shortest contradictory run from the start
+pub record Clashed (void : ℕ → Bool) (n : ℕ) (run : List ℕ) (place : ℕ) : Type 0 where
+  pub is : true ≡ on.clash void n (facts run)
+  pub last : place + 1 ≡ shortestClash void n (entries run)
+
+-- a free run has its D and T in what was lent; of a contradictory run the matrices say nothing
+pub record Settles (void : ℕ → Bool) (n : ℕ) (run d t : List ℕ) (r : Settled) : Type 0 where
+  pub free : (nodes shadowed : ℕ) → r ≡ Free nodes shadowed → Opened void n (facts run) d t false
+  pub clash : (place : ℕ) → r ≡ Clash place → Clashed void n run place
+
+-- its steps too, in the order in which rows are joined
+pub record Steps (n : ℕ) (run e order lead : List ℕ) (r : Settled) : Type 0 where
+  pub free : (nodes shadowed : ℕ) → r ≡ Free nodes shadowed → Stepped n (facts run) e order lead
+
+-- the counts of its index
+pub record Sized (n : ℕ) (run : List ℕ) (r : Settled) : Type 0 where
+  pub free : (nodes shadowed : ℕ) → r ≡ Free nodes shadowed → Sizes n run nodes shadowed
+
+-- and the index itself
+pub record Indexes (n : ℕ) (run parens marks shadows places : List ℕ) (r : Settled) : Type 0 where
+  pub free : (nodes shadowed : ℕ) → r ≡ Free nodes shadowed → BookIndex n (partIn (facts run)) parens marks shadows places nodes shadowed

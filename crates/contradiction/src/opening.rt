@@ -1,0 +1,146 @@
+// The first half of a closure: the groups of a run, its index, its steps, D and T, and whether it is contradictory.
+ghost use mathlib.Core.Path.{_≡_};
+ghost use Prim.Native.Nat.{_/_};
+ghost use lib.ListN.{length};
+ghost use Rattle.rules.specs.Follows.{clash};
+ghost use Rattle.records.specs.Facts.{facts};
+ghost use Rattle.groups.specs.Index.{BookIndex};
+ghost use Rattle.groups.specs.Grouped.{Grouped};
+ghost use Rattle.closure.specs.Void.{voidOf, Voids};
+ghost use Rattle.closure.specs.Bounded.{Bounded};
+ghost use Rattle.contradiction.specs.Roomy.{Roomy};
+ghost use Rattle.closure.specs.Stepped.{Stepped};
+ghost use Rattle.records.specs.PartIn.{partIn};
+ghost use Rattle.contradiction.specs.Numbered.{Numbered};
+ghost use Rattle.contradiction.specs.Opened.{Opened};
+ghost use Rattle.contradiction.specs.Settleable.{Settleable, Sizes};
+
+// The groups of the run's pieces: the number of each piece's, its leader, and an order of the pieces. e is scratch.
+fn grouped(
+    run: &[u8],
+    n: usize,
+    e: &mut [u64; 65536],
+    number: &mut [u16; 2048],
+    lead: &mut [u16; 2048],
+    order: &mut [u16; 2048],
+) -> usize
+    requires { ⌜ Bounded n (facts (now run)) ⌝ }
+    ensures { λ r. ⌜ Grouped n (partIn (facts (now (run .entry)))) (now (number .exit)) (now (lead .exit)) (now (order .exit)) r ⌝ }
+{
+    closure::edges(run, n, e);
+    groups::group(n, e, number, lead, order)
+}
+
+// The index of the run's PARTs in the lent parts: the tree of its groups, in which each piece has the place of its group. x is scratch.
+fn index_of(
+    run: &[u8],
+    n: usize,
+    count: usize,
+    number: &[u16; 2048],
+    x: &mut [u64; 65536],
+    parens: &mut [u8],
+    marks: &mut [u8],
+    shadows: &mut [u16],
+    places: &mut [u16],
+) -> index::Counts
+    requires { ⌜ Bounded n (facts (now run)) × Numbered n (facts (now run)) (now number) count × Roomy n (length (now run) / 6) (length (now parens)) (length (now marks)) (length (now shadows)) (length (now places)) ⌝ }
+    ensures { λ r. ⌜ BookIndex n (partIn (facts (now (run .entry)))) (now (parens .exit)) (now (marks .exit)) (now (shadows .exit)) (now (places .exit)) (r .nodes) (r .shadows) ⌝ }
+{
+    let mut groups = [0u16; 2048];
+    closure::step_stored(run, number, n, x);
+    let counts = index::build(count, x, parens, marks, shadows, &mut groups);
+    index::place_members(n, number, &groups, places);
+    counts
+}
+
+// What the first half of a closure finds.
+pub struct Begun {
+    pub nodes: usize,
+    pub shadows: usize,
+    pub clash: bool,
+}
+
+// The first half of a closure: the groups, the index, the steps, D and T of the run, and whether it is contradictory.
+pub fn begin(
+    run: &[u8],
+    n: usize,
+    voids: &[u64],
+    e: &mut [u64; 65536],
+    order: &mut [u16; 2048],
+    lead: &mut [u16; 2048],
+    d: &mut [u64; 65536],
+    t: &mut [u64; 65536],
+    parens: &mut [u8],
+    marks: &mut [u8],
+    shadows: &mut [u16],
+    places: &mut [u16],
+) -> Begun
+    requires { ⌜ Settleable n (now run) (length (now parens)) (length (now marks)) (length (now shadows)) (length (now places)) × Voids (now voids) ⌝ }
+    ensures { λ r. ⌜ Opened (voidOf (now (voids .entry))) n (facts (now (run .entry))) (now (d .exit)) (now (t .exit)) (r .clash) × Stepped n (facts (now (run .entry))) (now (e .exit)) (now (order .exit)) (now (lead .exit)) × BookIndex n (partIn (facts (now (run .entry)))) (now (parens .exit)) (now (marks .exit)) (now (shadows .exit)) (now (places .exit)) (r .nodes) (r .shadows) ⌝ }
+{
+    let mut number = [0u16; 2048];
+    let count = grouped(run, n, e, &mut number, lead, order);
+    let counts = index_of(run, n, count, &number, t, parens, marks, shadows, places);
+    let nodes = counts.nodes;
+    containment::contents(n, nodes, parens, marks, shadows, places, lead, d);
+    closure::steps(run, lead, n, e);
+    closure::meeting(run, n, voids, e, order, lead, t);
+    let clash = verdicts::clashes(run, voids, d, t);
+    Begun {
+        nodes,
+        shadows: counts.shadows,
+        clash,
+    }
+}
+
+// The same with an index of its own, which is dropped: it has room for the records of two books.
+pub fn begin_alone(
+    run: &[u8],
+    n: usize,
+    voids: &[u64],
+    e: &mut [u64; 65536],
+    order: &mut [u16; 2048],
+    lead: &mut [u16; 2048],
+    d: &mut [u64; 65536],
+    t: &mut [u64; 65536],
+) -> Begun
+    requires { ⌜ Settleable n (now run) 4608 2304 16384 2048 × Voids (now voids) ⌝ }
+    ensures { λ r. ⌜ Opened (voidOf (now (voids .entry))) n (facts (now (run .entry))) (now (d .exit)) (now (t .exit)) (r .clash) × Stepped n (facts (now (run .entry))) (now (e .exit)) (now (order .exit)) (now (lead .exit)) × Sizes n (now (run .entry)) (r .nodes) (r .shadows) ⌝ }
+{
+    let mut parens = [0u8; 4608];
+    let mut marks = [0u8; 2304];
+    let mut shadows = [0u16; 16384];
+    let mut places = [0u16; 2048];
+    begin(
+        run,
+        n,
+        voids,
+        e,
+        order,
+        lead,
+        d,
+        t,
+        &mut parens,
+        &mut marks,
+        &mut shadows,
+        &mut places,
+    )
+}
+
+// Whether a run of up to the records of two books is contradictory. The matrices are scratch.
+pub fn contradicts(
+    run: &[u8],
+    n: usize,
+    voids: &[u64],
+    e: &mut [u64; 65536],
+    d: &mut [u64; 65536],
+    t: &mut [u64; 65536],
+) -> bool
+    requires { ⌜ Settleable n (now run) 4608 2304 16384 2048 × Voids (now voids) ⌝ }
+    ensures { λ r. ⌜ r ≡ clash (voidOf (now (voids .entry))) n (facts (now (run .entry))) ⌝ }
+{
+    let mut order = [0u16; 2048];
+    let mut lead = [0u16; 2048];
+    let begun = begin_alone(run, n, voids, e, &mut order, &mut lead, d, t);
+    begun.clash
+}

@@ -1,0 +1,91 @@
+// Each piece's next hop towards piece k, breadth first from k, so that circles lead nowhere twice.
+ghost use mathlib.Core.Path.{_≡_};
+ghost use Prim.Native.Nat.{ℕ, _<_, _≤_};
+ghost use lib.ListN.{length, getD};
+ghost use Rattle.rules.specs.Fact.{AllWithin};
+ghost use Rattle.records.specs.Record.{records};
+ghost use Rattle.records.specs.Facts.{facts};
+ghost use Rattle.records.specs.Kept.{picked};
+ghost use Rattle.derivations.specs.Queue.{Queue, Spread, Hopped};
+ghost use Rattle.derivations.specs.Sources.{Sources};
+use crate::writing::wide;
+use records::Record;
+
+fn narrow(x: usize) -> u16
+    requires { ⌜ x < 65536 ⌝ }
+    ensures { λ r. ⌜ r ≡ x ⌝ }
+{
+    x as u16
+}
+
+// One round: the parts of the piece at place `head` that are not met yet go to the end of the queue, whose new end is returned.
+fn spread(
+    n: usize,
+    head: usize,
+    e: &[u64],
+    hop: &mut [u16],
+    order: &mut [u16],
+    tail: usize,
+) -> usize
+    requires { ⌜ (length (now e) ≡ 65536) × (head < tail) × Queue n (now e) (now hop) (now order) tail ⌝ }
+    ensures { λ r. ⌜ Spread n (now (e .entry)) (getD (now (order .entry)) head 0) (now (hop .entry)) (now (order .entry)) tail (now (hop .exit)) (now (order .exit)) r ⌝ }
+{
+    let c = wide(order[head]);
+    let mut end = tail;
+    let mut p = matrices::next_bit(e, c, 0);
+    while p < n {
+        if hop[p] != 2048 {
+            p = matrices::next_bit(e, c, p + 1);
+            continue;
+        }
+        hop[p] = narrow(c);
+        order[end] = narrow(p);
+        end += 1;
+        p = matrices::next_bit(e, c, p + 1);
+    }
+    end
+}
+
+// The hops towards k along the steps in the matrix e: bit x of row y for "x is part of y".
+pub fn find_hops(k: usize, n: usize, e: &[u64], hop: &mut [u16], order: &mut [u16])
+    requires { ⌜ (length (now e) ≡ 65536) × (n ≤ 2048) × (k < n) × (length (now hop) ≡ 2048) × (length (now order) ≡ 2048) ⌝ }
+    ensures { λ _. ⌜ Hopped n (now (e .entry)) k (now (hop .exit)) ⌝ }
+{
+    index::fill(hop, 2048);
+    hop[k] = narrow(k);
+    order[0] = narrow(k);
+    let mut head: usize = 0;
+    let mut tail: usize = 1;
+    while head < tail {
+        tail = spread(n, head, e, hop, order, tail);
+        head += 1;
+    }
+}
+
+// The number of a record that says each piece's hop and may be cited; 65535 where there is none. One pass over the records.
+pub fn find_sources(claim: Record, book: &[u8], hop: &[u16], source: &mut [u16])
+    requires { ⌜ (length (now hop) ≡ 2048) × (length (now source) ≡ 2048) × (records (now book) ≤ 8192) × AllWithin 2048 (facts (picked (now book) claim)) ⌝ }
+    ensures { λ _. ⌜ Sources claim (now (book .entry)) (now (hop .entry)) (records (now (book .entry))) (now (source .exit)) ⌝ }
+{
+    index::fill(source, 65535);
+    let m = book.len() / 6;
+    let mut i: usize = 0;
+    while i < m {
+        let r = records::record_at(book, i);
+        if r.kind != 1 {
+            i += 1;
+            continue;
+        }
+        if !chain_format::lets(claim, r) {
+            i += 1;
+            continue;
+        }
+        let a = r.a;
+        if wide(hop[a]) != r.b {
+            i += 1;
+            continue;
+        }
+        source[a] = narrow(i);
+        i += 1;
+    }
+}

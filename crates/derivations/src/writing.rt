@@ -1,0 +1,134 @@
+// The steps of a chain, written one after another into lent bytes.
+ghost use mathlib.Core.Path.{_≡_};
+ghost use mathlib.Core.Bool.{true};
+ghost use Prim.Native.Nat.{_+_, _-_, _*_, _≤_, _<_};
+ghost use lib.ListN.{length};
+ghost use Rattle.rules.specs.Fact as fact;
+ghost use Rattle.chain_format.specs.Step.{stepAt, shows};
+ghost use Rattle.derivations.specs.Written.{Numbered, Put};
+ghost use Rattle.derivations.specs.Hops.{Reaches, hopStep};
+ghost use Rattle.derivations.specs.Climbs.{Climbed, Contained};
+use chain_format::Step;
+
+pub fn wide(x: u16) -> usize
+    ensures { λ r. ⌜ (r ≡ x) × (r < 65536) ⌝ }
+{
+    x as usize
+}
+
+fn narrow(x: usize) -> u8
+    requires { ⌜ x < 256 ⌝ }
+    ensures { λ r. ⌜ r ≡ x ⌝ }
+{
+    x as u8
+}
+
+// A 16-bit number, low byte first.
+fn put_number(c: &mut [u8], at: usize, x: usize)
+    requires { ⌜ (at + 2 ≤ length (now c)) × (x < 65536) ⌝ }
+    ensures { λ _. ⌜ Numbered (now (c .entry)) (now (c .exit)) at x ⌝ }
+{
+    c[at] = narrow(x % 256);
+    c[at + 1] = narrow(x / 256);
+}
+
+// The one writer of steps.
+pub fn put_step(c: &mut [u8], i: usize, s: Step)
+    requires { ⌜ (10 * i + 10 ≤ length (now c)) × (s .a < 65536) × (s .b < 65536) × (s .first < 65536) × (s .second < 65536) ⌝ }
+    ensures { λ _. ⌜ Put (now (c .entry)) (now (c .exit)) i s ⌝ }
+{
+    let at = 10 * i;
+    c[at] = s.rule;
+    c[at + 1] = s.kind;
+    put_number(c, at + 2, s.a);
+    put_number(c, at + 4, s.b);
+    put_number(c, at + 6, s.first);
+    put_number(c, at + 8, s.second);
+}
+
+// The step that shows the hop from x to y.
+fn hop_step(x: usize, y: usize, source: usize) -> Step
+    ensures { λ r. ⌜ r ≡ hopStep x y source ⌝ }
+{
+    if source == 65535 {
+        return Step {
+            rule: 4,
+            kind: 1,
+            a: x,
+            b: y,
+            first: 0,
+            second: 0,
+        };
+    }
+    Step {
+        rule: 0,
+        kind: 1,
+        a: x,
+        b: y,
+        first: source,
+        second: 0,
+    }
+}
+
+// From g PART x, which the step before shows, to g PART k: a step for each hop, and one that joins it to the steps before.
+fn climb(
+    g: usize,
+    k: usize,
+    from: usize,
+    hop: &[u16],
+    source: &[u16],
+    c: &mut [u8],
+    at: usize,
+) -> usize
+    requires { ⌜ (length (now hop) ≡ 2048) × (length (now source) ≡ 2048) × (164000 ≤ length (now c)) × (1 ≤ at) × (at + 4094 ≤ 16400) × (g < 2048) × Reaches (now hop) k from 2047 × (shows (stepAt (now c) (at - 1)) (fact.PART g from) ≡ true) ⌝ }
+    ensures { λ r. ⌜ Climbed (now (hop .entry)) (now (source .entry)) k g from (now (c .entry)) at (now (c .exit)) r ⌝ }
+{
+    let mut x = from;
+    let mut i = at;
+    while x != k {
+        let y = wide(hop[x]);
+        let t = wide(source[x]);
+        put_step(c, i, hop_step(x, y, t));
+        put_step(
+            c,
+            i + 1,
+            Step {
+                rule: 1,
+                kind: 1,
+                a: g,
+                b: y,
+                first: i - 1,
+                second: i,
+            },
+        );
+        i += 2;
+        x = y;
+    }
+    i
+}
+
+// The steps that end in g PART k, where hops lead from g to k, from step `at` on; the number behind the last is returned.
+pub fn write_part(g: usize, k: usize, hop: &[u16], source: &[u16], c: &mut [u8], at: usize) -> usize
+    requires { ⌜ (length (now hop) ≡ 2048) × (length (now source) ≡ 2048) × (164000 ≤ length (now c)) × (at + 4095 ≤ 16400) × (g < 2048) × Reaches (now hop) k g 2047 ⌝ }
+    ensures { λ r. ⌜ Contained (now (hop .entry)) (now (source .entry)) k g (now (c .entry)) at (now (c .exit)) r ⌝ }
+{
+    if g == k {
+        put_step(
+            c,
+            at,
+            Step {
+                rule: 3,
+                kind: 1,
+                a: g,
+                b: g,
+                first: 0,
+                second: 0,
+            },
+        );
+        return at + 1;
+    }
+    let y = wide(hop[g]);
+    let t = wide(source[g]);
+    put_step(c, at, hop_step(g, y, t));
+    climb(g, k, y, hop, source, c, at + 1)
+}

@@ -1,3 +1,0 @@
-pub mod Signs
-pub mod Rooms
-pub mod GridTexts

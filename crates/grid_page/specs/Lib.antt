@@ -1,2 +1,0 @@
-pub mod Sign
-pub mod GridText

@@ -1,0 +1,134 @@
+// The strongly connected components of a matrix of steps: a component is closed after all that it leads to.
+ghost use mathlib.Core.Path.{_≡_};
+ghost use mathlib.Core.Bool.{Bool};
+ghost use Prim.Native.Nat.{ℕ, _+_, _-_, _<_, _≤_};
+ghost use lib.ListN.{length, getD, set};
+ghost use Rattle.matrices.specs.Matrix.{bitOf};
+ghost use Rattle.groups.specs.Search.{stateOf, WayOf, GoodOf, VisitedOf, Leading, Callable, Cut, Numbered, Inside, Room, Searchable, Searched};
+
+// How long the path is, how many groups it has, and how many have ended.
+struct Path {
+    len: usize,
+    top: usize,
+    count: usize,
+}
+
+// How many bounds are left, if those after p go.
+fn cut(bounds: &[u16; 2048], top: usize, p: usize) -> usize
+    requires { ⌜ top ≤ 2048 ⌝ }
+    ensures { λ t. ⌜ Cut (now (bounds .entry)) top p t ⌝ }
+{
+    let mut t = top;
+    while 0 < t {
+        if index::wide(bounds[t - 1]) <= p {
+            return t;
+        }
+        t -= 1;
+    }
+    t
+}
+
+// Gives the pieces of the path from `at` on the number `count`.
+fn close(path: &[u16; 2048], done: &mut [u16; 2048], at: usize, len: usize, count: usize)
+    requires { ⌜ (len ≤ 2048) × (at ≤ len) × (count < 65536) × (length (now done) ≡ 2048) × Inside (now path) at len 2048 ⌝ }
+    ensures { λ _. ⌜ Numbered (now (path .entry)) (now (done .entry)) (now (done .exit)) at len count ⌝ }
+{
+    let mut i = at;
+    while i < len {
+        let g = index::wide(path[i]);
+        done[g] = index::narrow(count);
+        i += 1;
+    }
+}
+
+// Puts v at the end of the path, as a group of its own.
+fn push(
+    v: usize,
+    pos: &mut [u16; 2048],
+    path: &mut [u16; 2048],
+    bounds: &mut [u16; 2048],
+    len: usize,
+    top: usize,
+)
+    requires { ⌜ (v < 2048) × (len < 2048) × (top < 2048) ⌝ }
+    ensures { λ _. ⌜ (now (pos .exit) ≡ set (now (pos .entry)) v len) × (now (path .exit) ≡ set (now (path .entry)) len v) × (now (bounds .exit) ≡ set (now (bounds .entry)) top len) ⌝ }
+{
+    pos[v] = index::narrow(len);
+    path[len] = index::narrow(v);
+    bounds[top] = index::narrow(len);
+}
+
+// All that v leads to and that is new is put on the path and looked at; a part on the path makes one group of all from its own on; and the group
+// that begins with v, if one still does, ends.
+fn visit(
+    n: usize,
+    e: &[u64],
+    v: usize,
+    pos: &mut [u16; 2048],
+    done: &mut [u16; 2048],
+    path: &mut [u16; 2048],
+    bounds: &mut [u16; 2048],
+    s: Path,
+) -> Path
+    requires { ⌜ Callable n (now e) (now pos) (now done) (now path) (now bounds) (s .len) (s .top) (s .count) v ⌝ }
+    ensures { λ r. ⌜ Room (now (pos .exit)) (now (done .exit)) (now (path .exit)) (now (bounds .exit)) × ((gray : ℕ → Bool) → GoodOf n (now (e .entry)) (stateOf (now (pos .entry)) (now (done .entry)) (now (path .entry)) (now (bounds .entry)) (s .len) (s .top) (s .count)) gray → Leading n (now (e .entry)) (stateOf (now (pos .entry)) (now (done .entry)) (now (path .entry)) (now (bounds .entry)) (s .len) (s .top) (s .count)) v → VisitedOf n (now (e .entry)) (stateOf (now (pos .entry)) (now (done .entry)) (now (path .entry)) (now (bounds .entry)) (s .len) (s .top) (s .count)) (stateOf (now (pos .exit)) (now (done .exit)) (now (path .exit)) (now (bounds .exit)) (r .len) (r .top) (r .count)) v gray) ⌝ }
+{
+    let at = s.len;
+    let before = s.top;
+    push(v, pos, path, bounds, at, before);
+    let mut len = at + 1;
+    let mut top = before + 1;
+    let mut count = s.count;
+    let mut w = matrices::next_bit(e, v, 0);
+    while w < n {
+        if index::wide(pos[w]) == 2048 {
+            let r = visit(n, e, w, pos, done, path, bounds, Path { len, top, count });
+            len = r.len;
+            top = r.top;
+            count = r.count;
+            w = matrices::next_bit(e, v, w + 1);
+            continue;
+        }
+        if index::wide(done[w]) == 2048 {
+            top = cut(bounds, top, index::wide(pos[w]));
+            w = matrices::next_bit(e, v, w + 1);
+            continue;
+        }
+        w = matrices::next_bit(e, v, w + 1);
+    }
+    if index::wide(bounds[top - 1]) == at {
+        close(path, done, at, len, count);
+        return Path {
+            len: at,
+            top: top - 1,
+            count: count + 1,
+        };
+    }
+    Path { len, top, count }
+}
+
+// The number of each piece's group, in an order in which parts come before what contains them. Row 0 of the matrix has every other piece.
+pub fn search(n: usize, e: &[u64]) -> [u16; 2048]
+    requires { ⌜ Searchable n (now e) 2048 ⌝ }
+    ensures { λ r. ⌜ Searched n 2048 (bitOf (now (e .entry))) (WayOf n (now (e .entry))) (λ x. getD r x 0) ⌝ }
+{
+    let mut pos = [2048u16; 2048];
+    let mut done = [2048u16; 2048];
+    let mut path = [0u16; 2048];
+    let mut bounds = [0u16; 2048];
+    visit(
+        n,
+        e,
+        0,
+        &mut pos,
+        &mut done,
+        &mut path,
+        &mut bounds,
+        Path {
+            len: 0,
+            top: 0,
+            count: 0,
+        },
+    );
+    done
+}

@@ -1,3 +1,0 @@
-pub mod Joint
-pub mod Agreement
-pub mod Together

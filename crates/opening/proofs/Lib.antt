@@ -1,4 +1,0 @@
-pub mod Parts
-pub mod Halving
-pub mod FactIndex
-pub mod GroupIndex

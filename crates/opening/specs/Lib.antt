@@ -1,5 +1,0 @@
-pub mod Opened
-pub mod Settleable
-pub mod PartIn
-pub mod Roomy
-pub mod Numbered

@@ -1,9 +1,0 @@
-pub mod Extending
-pub mod Puts
-pub mod Distincts
-pub mod Hopping
-pub mod Risings
-pub mod Climbing
-pub mod Queues
-pub mod Spreads
-pub mod Sourcing

@@ -1,3 +1,0 @@
-pub mod Subtrees
-pub mod Searches
-pub mod Filled

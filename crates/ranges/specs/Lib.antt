@@ -1,3 +1,0 @@
-pub mod Between
-pub mod Subtree
-pub mod Question

@@ -1,5 +1,0 @@
-pub mod Results
-pub mod Listings
-pub mod Comparing
-pub mod Chaining
-pub mod Clashing

@@ -1,6 +1,0 @@
-pub mod Exported
-pub mod Converts
-pub mod Catalogs
-pub mod Compares
-pub mod Chains
-pub mod Clashes

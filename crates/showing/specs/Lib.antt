@@ -1,3 +1,0 @@
-pub mod Lifts
-pub mod Shown
-pub mod Commons

@@ -1,2 +1,0 @@
-pub mod Citings
-pub mod Computed

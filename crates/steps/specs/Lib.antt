@@ -1,5 +1,0 @@
-pub mod Step
-pub mod Citing
-pub mod Rule
-pub mod Justified
-pub mod Other

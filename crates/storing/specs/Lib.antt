@@ -1,5 +1,0 @@
-pub mod Void
-pub mod Stored
-pub mod Closed
-pub mod Bounded
-pub mod Counted
