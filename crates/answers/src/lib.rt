@@ -12,6 +12,7 @@ ghost use Rattle.outcomes.specs.Demands.{Demand2, Demand3, Contradicted};
 ghost use Rattle.outcomes.specs.Fitting.{Fitting};
 ghost use Rattle.answers.specs.Judging.{rowsCheck, Cleared, Exact, Judged};
 use contradiction::Settled;
+use matrices::Matrix;
 use outcomes::Outcome;
 use records::BookCheck;
 use records::ClaimsCheck;
@@ -33,12 +34,12 @@ pub fn judge_in(
     book: &[u8],
     n: usize,
     claims: &[u8],
-    e: &mut [u64; 65536],
-    d: &mut [u64; 65536],
-    t: &mut [u64; 65536],
-    u: &mut [u64; 65536],
-    p: &mut [u64; 65536],
-    q: &mut [u64; 65536],
+    e: &mut Matrix,
+    d: &mut Matrix,
+    t: &mut Matrix,
+    u: &mut Matrix,
+    p: &mut Matrix,
+    q: &mut Matrix,
     parens: &mut [u8],
     marks: &mut [u8],
     shadows: &mut [u16],
@@ -50,8 +51,8 @@ pub fn judge_in(
 {
     let mut voids = [0u64; 32];
     closure::marking::mark_voids(book, &mut voids);
-    let mut order = [0u16; 2048];
-    let mut lead = [0u16; 2048];
+    let mut order = [0u16; matrices::ROWS];
+    let mut lead = [0u16; matrices::ROWS];
     let settled = contradiction::settle(
         book,
         n,
@@ -103,16 +104,16 @@ pub fn short(
 ) -> bool
     ensures { λ r. ⌜ r ≡ (ltb parens 2560 || (ltb marks 1280 || (ltb shadows 8192 || (ltb places 2048 || ltb answers claims)))) ⌝ }
 {
-    if parens < 2560 {
+    if parens < index::PARENTHESES_BYTES {
         return true;
     }
-    if marks < 1280 {
+    if marks < index::MARKS_BYTES {
         return true;
     }
-    if shadows < 8192 {
+    if shadows < index::SHADOWS {
         return true;
     }
-    if places < 2048 {
+    if places < index::PLACES {
         return true;
     }
     answers < claims
@@ -144,12 +145,12 @@ pub fn answer_claims(
     shadows: &mut [u16],
     places: &mut [u16],
     answers: &mut [u8],
-    e: &mut [u64; 65536],
-    d: &mut [u64; 65536],
-    t: &mut [u64; 65536],
-    u: &mut [u64; 65536],
-    p: &mut [u64; 65536],
-    q: &mut [u64; 65536],
+    e: &mut Matrix,
+    d: &mut Matrix,
+    t: &mut Matrix,
+    u: &mut Matrix,
+    p: &mut Matrix,
+    q: &mut Matrix,
 ) -> Outcome
     ensures determined { λ r. ⌜ Determined (now (book .entry)) (now (claims .entry)) (lent (now (parens .entry)) (now (marks .entry)) (now (shadows .entry)) (now (places .entry)) (now (answers .entry))) r (lent (now (parens .exit)) (now (marks .exit)) (now (shadows .exit)) (now (places .exit)) (now (answers .exit))) ⌝ }
     ensures demand2 { λ r. ⌜ Demand2 (now (book .entry)) (now (claims .entry)) (now (answers .exit)) (number r) ⌝ }
@@ -157,7 +158,7 @@ pub fn answer_claims(
     ensures contradicted { λ r. ⌜ Contradicted (now (book .entry)) (number r) (place r) ⌝ }
     ensures fitting { λ r. ⌜ Fitting (now (book .entry)) (number r) (nodeCount r) ⌝ }
 {
-    let asked = claims.len() / 6;
+    let asked = claims.len() / records::RECORD_BYTES;
     if short(
         parens.len(),
         marks.len(),
@@ -182,10 +183,10 @@ pub fn answer_claims(
                 u,
                 p,
                 q,
-                &mut parens[..2560],
-                &mut marks[..1280],
-                &mut shadows[..8192],
-                &mut places[..2048],
+                &mut parens[..index::PARENTHESES_BYTES],
+                &mut marks[..index::MARKS_BYTES],
+                &mut shadows[..index::SHADOWS],
+                &mut places[..index::PLACES],
                 &mut answers[..asked],
             )
         }
@@ -199,12 +200,12 @@ pub fn write_index(
     marks: &mut [u8],
     shadows: &mut [u16],
     places: &mut [u16],
-    e: &mut [u64; 65536],
-    d: &mut [u64; 65536],
-    t: &mut [u64; 65536],
-    u: &mut [u64; 65536],
-    p: &mut [u64; 65536],
-    q: &mut [u64; 65536],
+    e: &mut Matrix,
+    d: &mut Matrix,
+    t: &mut Matrix,
+    u: &mut Matrix,
+    p: &mut Matrix,
+    q: &mut Matrix,
 ) -> Outcome
     ensures determined { λ r. ⌜ Determined (now (book .entry)) [] (lent (now (parens .entry)) (now (marks .entry)) (now (shadows .entry)) (now (places .entry)) []) r (lent (now (parens .exit)) (now (marks .exit)) (now (shadows .exit)) (now (places .exit)) []) ⌝ }
     ensures demand2 { λ r. ⌜ Demand2 (now (book .entry)) [] [] (number r) ⌝ }
@@ -234,19 +235,19 @@ pub fn write_index(
 // A fresh call on a run of records: rows 3 to 14.
 pub fn judge_run(
     run: &[u8],
-    e: &mut [u64; 65536],
-    d: &mut [u64; 65536],
-    t: &mut [u64; 65536],
-    u: &mut [u64; 65536],
-    p: &mut [u64; 65536],
-    q: &mut [u64; 65536],
+    e: &mut Matrix,
+    d: &mut Matrix,
+    t: &mut Matrix,
+    u: &mut Matrix,
+    p: &mut Matrix,
+    q: &mut Matrix,
 ) -> Outcome
     ensures { λ r. ⌜ r ≡ freshCall (now (run .entry)) [] ⌝ }
 {
-    let mut parens = [0u8; 2560];
-    let mut marks = [0u8; 1280];
-    let mut shadows = [0u16; 8192];
-    let mut places = [0u16; 2048];
+    let mut parens = [0u8; index::PARENTHESES_BYTES];
+    let mut marks = [0u8; index::MARKS_BYTES];
+    let mut shadows = [0u16; index::SHADOWS];
+    let mut places = [0u16; index::PLACES];
     write_index(
         run,
         &mut parens,

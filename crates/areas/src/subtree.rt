@@ -14,14 +14,14 @@ pub struct Range {
 fn end_of(parens: &[u8], places: &[u16], g: usize) -> usize
     ensures { λ r. ⌜ r ≡ endOf (now (parens .entry)) (now (places .entry)) g ⌝ }
 {
-    if parens.len() < 2560 {
+    if parens.len() < index::PARENTHESES_BYTES {
         return 0;
     }
     if places.len() <= g {
         return 0;
     }
     let place = index::place_of(places, DatasetId(g));
-    parentheses::subtree_end(&parens[..2560], place.0)
+    parentheses::subtree_end(&parens[..index::PARENTHESES_BYTES], place.0)
 }
 
 // The places of a piece's node and of all nodes and shadows below it; an empty range where the parts have no such node.

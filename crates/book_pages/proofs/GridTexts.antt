@@ -20,7 +20,7 @@ use Rattle.outcomes.specs.declared.Outcome.{Outcome}
 use Rattle.outcomes.specs.declared.Outcome.the-variants.{Accepted, Refused}
 use Rattle.grids.specs.Loaded.{among}
 use Rattle.grids.specs.Answers.{claimed}
-use Rattle.grids.specs.Sheet.{bySize, gridOutcome, bitFor, Gridded}
+use Rattle.grids.specs.Gridded.{bySize, gridOutcome, bitFor, Gridded}
 use Rattle.sentences.specs.Refusals as line
 use Rattle.pages.specs.Lines.{lines}
 use Rattle.pages.proofs.Lined.{same-lines}

@@ -9,7 +9,7 @@ use Rattle.records.specs.Facts.{facts}
 use Rattle.records.specs.Marked.{marked}
 use Rattle.outcomes.specs.declared.Outcome.{Outcome}
 use Rattle.outcomes.specs.declared.Outcome.the-variants.{Accepted, Refused}
-use Rattle.grids.specs.Sheet.{gridOutcome}
+use Rattle.grids.specs.Gridded.{gridOutcome}
 use Rattle.pages.specs.Text.{ascii, field, line}
 use Rattle.pages.specs.Decimal.{decimal}
 use Rattle.pages.specs.Lines.{lines}

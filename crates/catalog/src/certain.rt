@@ -4,7 +4,7 @@ ghost use mathlib.Core.Bool.{false, _&&_};
 ghost use Prim.Native.Nat.{_/_, _<_, _≤_};
 ghost use lib.ListN.{length};
 ghost use Rattle.lists.specs.Front.{front};
-ghost use Rattle.matrices.specs.Matrix.{bitOf};
+ghost use Rattle.matrices.specs.Matrix.{bitOf, IsMatrix};
 ghost use Rattle.rules.specs.Fact.{AllWithin, factOf};
 ghost use Rattle.rules.specs.Follows.{follows, clash};
 ghost use Rattle.records.specs.Facts.{facts};
@@ -17,7 +17,7 @@ use records::Record;
 
 // Adds what is in a to row 0, if so told.
 fn join_where(on: bool, m: &mut [u64], d: &[u64], a: usize)
-    requires { ⌜ (length (now m) ≡ 65536) × (length (now d) ≡ 65536) × (a < 2048) ⌝ }
+    requires { ⌜ (IsMatrix (now m)) × (IsMatrix (now d)) × (a < 2048) ⌝ }
     ensures { λ _. ⌜ Widened (now (m .entry)) (now (m .exit)) (λ x. on && bitOf (now (d .entry)) a x) ⌝ }
 {
     if !on {
@@ -28,7 +28,7 @@ fn join_where(on: bool, m: &mut [u64], d: &[u64], a: usize)
 
 // Adds to row 0 what a record makes APART from g: where g is in the one piece of an APART, all that is in the other.
 fn part_record(r: Record, g: usize, d: &[u64], m: &mut [u64])
-    requires { ⌜ (length (now m) ≡ 65536) × (length (now d) ≡ 65536) × (g < 2048) × (r .kind ≡ 2 → (r .a < 2048) × (r .b < 2048)) ⌝ }
+    requires { ⌜ (IsMatrix (now m)) × (IsMatrix (now d)) × (g < 2048) × (r .kind ≡ 2 → (r .a < 2048) × (r .b < 2048)) ⌝ }
     ensures { λ _. ⌜ Widened (now (m .entry)) (now (m .exit)) (parting (now (d .entry)) g r) ⌝ }
 {
     if r.kind != 2 {
@@ -40,11 +40,11 @@ fn part_record(r: Record, g: usize, d: &[u64], m: &mut [u64])
 
 // Row 0: what the records of a run make APART from g. D is enough for it, one row for each APART that g is in.
 fn part_from(run: &[u8], g: usize, d: &[u64], m: &mut [u64])
-    requires { ⌜ (length (now m) ≡ 65536) × (length (now d) ≡ 65536) × (g < 2048) × AllWithin 2048 (facts (now run)) ⌝ }
+    requires { ⌜ (IsMatrix (now m)) × (IsMatrix (now d)) × (g < 2048) × AllWithin 2048 (facts (now run)) ⌝ }
     ensures { λ _. ⌜ Parted (now (d .entry)) (now (run .entry)) g (length (now (run .entry)) / 6) (now (m .exit)) ⌝ }
 {
     matrices::clear_rows(m, 1);
-    let n = run.len() / 6;
+    let n = run.len() / records::RECORD_BYTES;
     let mut i: usize = 0;
     while i < n {
         let r = records::record_at(run, i);
@@ -63,7 +63,7 @@ fn is_certain(
     t: &[u64],
     m: &[u64],
 ) -> bool
-    requires { ⌜ (kind ≤ 3) × (x < 2048) × (g < 2048) × (length (now voids) ≡ 32) × (length (now d) ≡ 65536) × (length (now t) ≡ 65536) × (length (now m) ≡ 65536) ⌝ }
+    requires { ⌜ (kind ≤ 3) × (x < 2048) × (g < 2048) × (length (now voids) ≡ 32) × (IsMatrix (now d)) × (IsMatrix (now t)) × (IsMatrix (now m)) ⌝ }
     ensures { λ r. ⌜ r ≡ told (voidOf (now (voids .entry))) (now (d .entry)) (now (t .entry)) (now (m .entry)) kind g x ⌝ }
 {
     if verdicts::marks_tell(kind as u8, x, g, voids) {
@@ -89,7 +89,7 @@ fn list_certain(
     m: &[u64],
     list: &mut [u16],
 ) -> usize
-    requires { ⌜ (kind ≤ 3) × (g < 2048) × (n ≤ 2048) × (n ≤ length (now list)) × (length (now voids) ≡ 32) × (length (now d) ≡ 65536) × (length (now t) ≡ 65536) × (length (now m) ≡ 65536) ⌝ }
+    requires { ⌜ (kind ≤ 3) × (g < 2048) × (n ≤ 2048) × (n ≤ length (now list)) × (length (now voids) ≡ 32) × (IsMatrix (now d)) × (IsMatrix (now t)) × (IsMatrix (now m)) ⌝ }
     ensures { λ k. ⌜ (now (list .exit) ≡ front (passing (told (voidOf (now (voids .entry))) (now (d .entry)) (now (t .entry)) (now (m .entry)) kind g) n) (now (list .entry))) × (k ≡ length (passing (told (voidOf (now (voids .entry))) (now (d .entry)) (now (t .entry)) (now (m .entry)) kind g) n)) ⌝ }
 {
     let mut count: usize = 0;
@@ -118,7 +118,7 @@ pub fn list_pieces(
     m: &mut [u64],
     list: &mut [u16],
 ) -> usize
-    requires { ⌜ Bounded n (facts (now run)) × (1 ≤ kind) × (kind ≤ 3) × (g < n) × (n ≤ length (now list)) × Holds n (now d) (partBit n (facts (now run))) × Holds n (now t) (towardBit (voidOf (now voids)) n (facts (now run))) × (length (now m) ≡ 65536) × Voids (now voids) × (false ≡ clash (voidOf (now voids)) n (facts (now run))) ⌝ }
+    requires { ⌜ Bounded n (facts (now run)) × (1 ≤ kind) × (kind ≤ 3) × (g < n) × (n ≤ length (now list)) × Holds n (now d) (partBit n (facts (now run))) × Holds n (now t) (towardBit (voidOf (now voids)) n (facts (now run))) × (IsMatrix (now m)) × Voids (now voids) × (false ≡ clash (voidOf (now voids)) n (facts (now run))) ⌝ }
     ensures { λ k. ⌜ (now (list .exit) ≡ front (passing (λ x. follows (voidOf (now (voids .entry))) n (facts (now (run .entry))) (factOf kind x g)) n) (now (list .entry))) × (k ≡ length (passing (λ x. follows (voidOf (now (voids .entry))) n (facts (now (run .entry))) (factOf kind x g)) n)) ⌝ }
 {
     if kind != 2 {

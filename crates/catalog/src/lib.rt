@@ -9,6 +9,7 @@ ghost use Rattle.records.specs.Check.{bookCheck};
 ghost use Rattle.catalog.specs.Lent.{lent};
 ghost use Rattle.catalog.specs.Call.{Determined};
 ghost use Rattle.catalog.specs.Filling.{asked, Roomy, Asked, Settled, Filled, Ready, Judged};
+use matrices::Matrix;
 use records::BookCheck;
 use records::Refusal;
 
@@ -40,9 +41,9 @@ fn fill(
     nodes: usize,
     shadowed: usize,
     voids: &[u64],
-    m: &mut [u64; 65536],
-    d: &[u64; 65536],
-    t: &[u64; 65536],
+    m: &mut Matrix,
+    d: &Matrix,
+    t: &Matrix,
     places: &[u16],
     list: &mut [u16],
     meets: &mut [u16],
@@ -81,17 +82,17 @@ fn judge(
     meets: &mut [u16],
     apart: &mut [u16],
     notpart: &mut [u16],
-    e: &mut [u64; 65536],
-    d: &mut [u64; 65536],
-    t: &mut [u64; 65536],
+    e: &mut Matrix,
+    d: &mut Matrix,
+    t: &mut Matrix,
 ) -> Listing
     requires { ⌜ Asked n kind g × Ready (now book) n (lent (now parens) (now marks) (now shadows) (now places) (now list) (now meets) (now apart) (now notpart)) ⌝ }
     ensures { λ r. ⌜ Judged (now (book .entry)) kind g n (lent (now (parens .entry)) (now (marks .entry)) (now (shadows .entry)) (now (places .entry)) (now (list .entry)) (now (meets .entry)) (now (apart .entry)) (now (notpart .entry))) r (lent (now (parens .exit)) (now (marks .exit)) (now (shadows .exit)) (now (places .exit)) (now (list .exit)) (now (meets .exit)) (now (apart .exit)) (now (notpart .exit))) ⌝ }
 {
     let mut voids = [0u64; 32];
     closure::marking::mark_voids(book, &mut voids);
-    let mut order = [0u16; 2048];
-    let mut lead = [0u16; 2048];
+    let mut order = [0u16; matrices::ROWS];
+    let mut lead = [0u16; matrices::ROWS];
     let settled = contradiction::settle(
         book,
         n,
@@ -160,16 +161,16 @@ fn check_asked(book: &[u8], kind: usize, g: usize) -> BookCheck
 fn short(list: usize, meets: usize, apart: usize, notpart: usize) -> bool
     ensures { λ r. ⌜ r ≡ (ltb list 2048 || (ltb meets 16384 || (ltb apart 16384 || ltb notpart 16384))) ⌝ }
 {
-    if list < 2048 {
+    if list < records::PIECES {
         return true;
     }
-    if meets < 16384 {
+    if meets < areas::AREA_NUMBERS {
         return true;
     }
-    if apart < 16384 {
+    if apart < areas::AREA_NUMBERS {
         return true;
     }
-    notpart < 16384
+    notpart < areas::AREA_NUMBERS
 }
 
 // Lists the pieces x of which the claim of a kind 1 to 3 about x and g follows, writes the index, and beside it the stored facts as pairs of places.
@@ -185,9 +186,9 @@ pub fn write_catalog(
     meets: &mut [u16],
     apart: &mut [u16],
     notpart: &mut [u16],
-    e: &mut [u64; 65536],
-    d: &mut [u64; 65536],
-    t: &mut [u64; 65536],
+    e: &mut Matrix,
+    d: &mut Matrix,
+    t: &mut Matrix,
 ) -> Listing
     ensures { λ r. ⌜ Determined (now (book .entry)) kind g (lent (now (parens .entry)) (now (marks .entry)) (now (shadows .entry)) (now (places .entry)) (now (list .entry)) (now (meets .entry)) (now (apart .entry)) (now (notpart .entry))) r (lent (now (parens .exit)) (now (marks .exit)) (now (shadows .exit)) (now (places .exit)) (now (list .exit)) (now (meets .exit)) (now (apart .exit)) (now (notpart .exit))) ⌝ }
 {
@@ -205,10 +206,10 @@ pub fn write_catalog(
             n,
             kind,
             g,
-            &mut parens[..2560],
-            &mut marks[..1280],
-            &mut shadows[..8192],
-            &mut places[..2048],
+            &mut parens[..index::PARENTHESES_BYTES],
+            &mut marks[..index::MARKS_BYTES],
+            &mut shadows[..index::SHADOWS],
+            &mut places[..index::PLACES],
             list,
             meets,
             apart,

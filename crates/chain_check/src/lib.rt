@@ -5,6 +5,7 @@ ghost use lib.ListN.{length};
 ghost use Rattle.records.specs.Check.{bookCheck};
 ghost use Rattle.records.specs.declared.BookCheck.the-variants as is;
 ghost use Rattle.chain_check.specs.Call.{passes, Checked};
+use matrices::Matrix;
 use outcomes::Outcome;
 use records::ClaimsCheck;
 
@@ -29,16 +30,16 @@ pub fn check_chain(
     book: &[u8],
     claim: &[u8],
     steps: &[u8],
-    e: &mut [u64; 65536],
-    d: &mut [u64; 65536],
-    t: &mut [u64; 65536],
-    u: &mut [u64; 65536],
-    p: &mut [u64; 65536],
-    q: &mut [u64; 65536],
+    e: &mut Matrix,
+    d: &mut Matrix,
+    t: &mut Matrix,
+    u: &mut Matrix,
+    p: &mut Matrix,
+    q: &mut Matrix,
 ) -> bool
     ensures { λ r. ⌜ r ≡ passes (now (book .entry)) (now (claim .entry)) (now (steps .entry)) ⌝ }
 {
-    if claim.len() != 6 {
+    if claim.len() != records::RECORD_BYTES {
         return false;
     }
     let judged = answers::judge_run(book, e, d, t, u, p, q);

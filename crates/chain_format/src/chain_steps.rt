@@ -21,23 +21,15 @@ use crate::steps;
 use crate::steps::Step;
 use records::Record;
 
-const PART: u8 = 1;
-
-const APART: u8 = 2;
-
-const MEETS: u8 = 3;
-
-const NOTPART: u8 = 4;
-
 // Whether record i marks piece g, which a mark of any origin may be cited for.
 fn marks_piece(book: &[u8], i: usize, g: usize) -> bool
     ensures { λ r. ⌜ ((claim : of.Record) → r ≡ marksPiece g (getD (citing claim (now (book .entry))) i none)) ⌝ }
 {
-    if book.len() / 6 <= i {
+    if book.len() / records::RECORD_BYTES <= i {
         return false;
     }
     let r = records::record_at(book, i);
-    if r.kind != 6 {
+    if r.kind != records::VOID {
         return false;
     }
     r.a == g
@@ -50,7 +42,7 @@ fn void_apart(book: &[u8], s: Step) -> bool
     if s.second != 0 {
         return false;
     }
-    if !steps::shows(s, APART, s.a, s.b) {
+    if !steps::shows(s, records::APART, s.a, s.b) {
         return false;
     }
     if marks_piece(book, s.first, s.a) {
@@ -66,7 +58,7 @@ fn void_part(book: &[u8], s: Step) -> bool
     if s.second != 0 {
         return false;
     }
-    if !steps::shows(s, PART, s.a, s.b) {
+    if !steps::shows(s, records::PART, s.a, s.b) {
         return false;
     }
     marks_piece(book, s.first, s.a)
@@ -120,12 +112,36 @@ fn by_rule(s: Step, p: Step, q: Step, g: usize, h: usize, k: usize) -> bool
 {
     let number = s.rule;
     let form = match number {
-        1 => Form(Fact(PART, g, h), Fact(PART, h, k), Fact(PART, g, k)),
-        2 => Form(Fact(PART, g, h), Fact(APART, h, k), Fact(APART, g, k)),
-        5 => Form(Fact(PART, g, h), Fact(NOTPART, g, k), Fact(NOTPART, h, k)),
-        6 => Form(Fact(NOTPART, g, k), Fact(PART, h, k), Fact(NOTPART, g, h)),
-        7 => Form(Fact(PART, h, k), Fact(MEETS, g, h), Fact(MEETS, g, k)),
-        8 => Form(Fact(MEETS, g, h), Fact(APART, k, h), Fact(NOTPART, g, k)),
+        crate::RULE_A => Form(
+            Fact(records::PART, g, h),
+            Fact(records::PART, h, k),
+            Fact(records::PART, g, k),
+        ),
+        crate::RULE_B => Form(
+            Fact(records::PART, g, h),
+            Fact(records::APART, h, k),
+            Fact(records::APART, g, k),
+        ),
+        crate::RULE_A_PRIME => Form(
+            Fact(records::PART, g, h),
+            Fact(records::NOTPART, g, k),
+            Fact(records::NOTPART, h, k),
+        ),
+        crate::RULE_B_PRIME => Form(
+            Fact(records::NOTPART, g, k),
+            Fact(records::PART, h, k),
+            Fact(records::NOTPART, g, h),
+        ),
+        crate::RULE_C_PRIME => Form(
+            Fact(records::PART, h, k),
+            Fact(records::MEETS, g, h),
+            Fact(records::MEETS, g, k),
+        ),
+        crate::RULE_D_PRIME => Form(
+            Fact(records::MEETS, g, h),
+            Fact(records::APART, k, h),
+            Fact(records::NOTPART, g, k),
+        ),
         _ => return false,
     };
     follows(p, form.0, q, form.1, s, form.2)
@@ -137,12 +153,12 @@ fn by_premises(s: Step, p: Step, q: Step) -> bool
 {
     let number = s.rule;
     match number {
-        1 => by_rule(s, p, q, s.a, p.b, s.b),
-        2 => by_rule(s, p, q, p.a, p.b, other(q.a, q.b, p.b)),
-        5 => by_rule(s, p, q, p.a, s.a, s.b),
-        6 => by_rule(s, p, q, s.a, s.b, p.b),
-        7 => by_rule(s, p, q, other(q.a, q.b, p.a), p.a, p.b),
-        8 => by_rule(s, p, q, s.a, other(p.a, p.b, s.a), s.b),
+        crate::RULE_A => by_rule(s, p, q, s.a, p.b, s.b),
+        crate::RULE_B => by_rule(s, p, q, p.a, p.b, other(q.a, q.b, p.b)),
+        crate::RULE_A_PRIME => by_rule(s, p, q, p.a, s.a, s.b),
+        crate::RULE_B_PRIME => by_rule(s, p, q, s.a, s.b, p.b),
+        crate::RULE_C_PRIME => by_rule(s, p, q, other(q.a, q.b, p.a), p.a, p.b),
+        crate::RULE_D_PRIME => by_rule(s, p, q, s.a, other(p.a, p.b, s.a), s.b),
         _ => false,
     }
 }
@@ -161,22 +177,22 @@ fn step_ok(book: &[u8], n: usize, voids: &[u64], claim: Record, c: &[u8], i: usi
     }
     let number = s.rule;
     match number {
-        0 => {
+        crate::STORED => {
             if s.second != 0 {
                 return false;
             }
             steps::cites(claim, book, s)
         }
-        3 => shows_freely(s, PART, s.a, s.a),
-        4 => shows_freely(s, PART, s.a, 0),
-        9 => {
+        crate::RULE_C => shows_freely(s, records::PART, s.a, s.a),
+        crate::RULE_F => shows_freely(s, records::PART, s.a, 0),
+        crate::RULE_E_PRIME => {
             if matrices::has(voids, s.a) {
                 return false;
             }
-            shows_freely(s, MEETS, s.a, s.a)
+            shows_freely(s, records::MEETS, s.a, s.a)
         }
-        10 => void_apart(book, s),
-        11 => void_part(book, s),
+        crate::RULE_D => void_apart(book, s),
+        crate::RULE_E => void_part(book, s),
         _ => {
             if i <= s.first {
                 return false;
@@ -196,10 +212,10 @@ pub fn check_steps(book: &[u8], n: usize, voids: &[u64], claim: Record, c: &[u8]
     requires { ⌜ (n ≤ 2048) × MarksOf (now book) (now voids) × (stated claim ≡ true) ⌝ }
     ensures { λ r. ⌜ r ≡ chainOk n (citing claim (now (book .entry))) (saying claim) (now (c .entry)) ⌝ }
 {
-    if c.len() % 10 != 0 {
+    if c.len() % crate::STEP_BYTES != 0 {
         return false;
     }
-    let m = c.len() / 10;
+    let m = c.len() / crate::STEP_BYTES;
     if m < 1 {
         return false;
     }

@@ -44,7 +44,7 @@ pub fn step_at(c: &[u8], i: usize) -> Step
     requires { ⌜ 10 * i + 10 ≤ length (now c) ⌝ }
     ensures { λ r. ⌜ r ≡ stepAt (now (c .entry)) i ⌝ }
 {
-    let at = 10 * i;
+    let at = crate::STEP_BYTES * i;
     let a = number_at(c, at + 2);
     let b = number_at(c, at + 4);
     let first = number_at(c, at + 6);
@@ -63,10 +63,10 @@ pub fn step_at(c: &[u8], i: usize) -> Step
 fn unordered(kind: u8) -> bool
     ensures { λ r. ⌜ r ≡ on.unordered kind ⌝ }
 {
-    if kind == 2 {
+    if kind == records::APART {
         return true;
     }
-    kind == 3
+    kind == records::MEETS
 }
 
 fn has_ends(s: Step, a: usize, b: usize) -> bool
@@ -108,7 +108,7 @@ pub fn lets(claim: Record, r: Record) -> bool
 pub fn cites(claim: Record, book: &[u8], s: Step) -> bool
     ensures { λ r. ⌜ r ≡ by.cites (getD (citing claim (now (book .entry))) (s .first) none) s ⌝ }
 {
-    if book.len() / 6 <= s.first {
+    if book.len() / records::RECORD_BYTES <= s.first {
         return false;
     }
     let r = records::record_at(book, s.first);

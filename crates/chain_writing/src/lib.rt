@@ -17,6 +17,7 @@ ghost use Rattle.contradiction.specs.Opened.{Opened};
 ghost use Rattle.closure.specs.Void.{voidOf};
 ghost use Rattle.chain_writing.specs.Call.{Answering, Judged, Written};
 use contradiction::Settled;
+use matrices::Matrix;
 use records::BookCheck;
 use records::ClaimsCheck;
 use records::Record;
@@ -41,9 +42,9 @@ fn write_found(
     claim: Record,
     book: &[u8],
     voids: &[u64],
-    e: &[u64; 65536],
-    d: &[u64; 65536],
-    t: &[u64; 65536],
+    e: &Matrix,
+    d: &Matrix,
+    t: &Matrix,
     c: &mut [u8],
 ) -> Chain
     requires { ⌜ Ground n claim (now book) (now voids) (now e) (now d) (now t) × (stated claim ≡ true) × Within n (saying claim) × (164000 ≤ length (now c)) ⌝ }
@@ -78,9 +79,9 @@ fn write_whole(
     claim: Record,
     book: &[u8],
     voids: &[u64],
-    e: &mut [u64; 65536],
-    d: &[u64; 65536],
-    t: &[u64; 65536],
+    e: &mut Matrix,
+    d: &Matrix,
+    t: &Matrix,
     c: &mut [u8],
 ) -> Chain
     requires { ⌜ (bookCheck (now book) ≡ is.Accepted n) × MarksOf (now book) (now voids) × Opened (voidOf (now voids)) n (facts (now book)) (now d) (now t) false × (claim .origin ≡ 0) × (stated claim ≡ true) × Within n (saying claim) × (164000 ≤ length (now c)) ⌝ }
@@ -117,17 +118,17 @@ fn write_restricted(
     claim: Record,
     book: &[u8],
     voids: &[u64],
-    e: &mut [u64; 65536],
-    d: &mut [u64; 65536],
-    t: &mut [u64; 65536],
+    e: &mut Matrix,
+    d: &mut Matrix,
+    t: &mut Matrix,
     c: &mut [u8],
 ) -> Chain
     requires { ⌜ (bookCheck (now book) ≡ is.Accepted n) × MarksOf (now book) (now voids) × (false ≡ clash (marked (now book)) n (facts (now book))) × ((claim .origin ≡ 0) → ⊥) × (stated claim ≡ true) × Within n (saying claim) × (164000 ≤ length (now c)) ⌝ }
     ensures { λ r. ⌜ Answering n claim (now (book .entry)) (now (c .entry)) r (now (c .exit)) ⌝ }
 {
-    let mut kept = [0u8; 49152];
-    let mut order = [0u16; 2048];
-    let mut lead = [0u16; 2048];
+    let mut kept = [0u8; records::BOOK_BYTES];
+    let mut order = [0u16; matrices::ROWS];
+    let mut lead = [0u16; matrices::ROWS];
     let length = records::keep_sheets(book, &mut kept);
     let run = &kept[..length];
     contradiction::settle_alone(run, n, voids, e, &mut order, &mut lead, d, t);
@@ -150,17 +151,17 @@ fn judge(
     n: usize,
     claim: Record,
     c: &mut [u8],
-    e: &mut [u64; 65536],
-    d: &mut [u64; 65536],
-    t: &mut [u64; 65536],
+    e: &mut Matrix,
+    d: &mut Matrix,
+    t: &mut Matrix,
 ) -> Chain
     requires { ⌜ (bookCheck (now book) ≡ is.Accepted n) × (stated claim ≡ true) × Within n (saying claim) × (164000 ≤ length (now c)) ⌝ }
     ensures { λ r. ⌜ Judged n claim (now (book .entry)) (now (c .entry)) r (now (c .exit)) ⌝ }
 {
     let mut voids = [0u64; 32];
     closure::marking::mark_voids(book, &mut voids);
-    let mut order = [0u16; 2048];
-    let mut lead = [0u16; 2048];
+    let mut order = [0u16; matrices::ROWS];
+    let mut lead = [0u16; matrices::ROWS];
     let settled = contradiction::settle_alone(book, n, &voids, e, &mut order, &mut lead, d, t);
     match settled {
         Settled::Clash(place) => refuse(Refusal::Contradiction, place),
@@ -178,20 +179,20 @@ pub fn write_chain(
     book: &[u8],
     claim: &[u8],
     steps: &mut [u8],
-    e: &mut [u64; 65536],
-    d: &mut [u64; 65536],
-    t: &mut [u64; 65536],
+    e: &mut Matrix,
+    d: &mut Matrix,
+    t: &mut Matrix,
 ) -> Chain
     ensures { λ r. ⌜ Written (now (book .entry)) (now (claim .entry)) (now (steps .entry)) r (now (steps .exit)) ⌝ }
 {
-    if steps.len() < 164000 {
+    if steps.len() < chain_format::CHAIN_BYTES {
         return refuse(Refusal::ShortSteps, 0);
     }
     let checked = records::check_book(book);
     match checked {
         BookCheck::Refused(refusal, place) => refuse(refusal, place),
         BookCheck::Accepted(n) => {
-            if claim.len() != 6 {
+            if claim.len() != records::RECORD_BYTES {
                 return refuse(Refusal::ClaimsLength, 0);
             }
             let fit = records::check_claims(claim, n);

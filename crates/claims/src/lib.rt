@@ -7,6 +7,8 @@ ghost use Rattle.closure.specs.Void.{voidOf};
 ghost use Rattle.verdicts.specs.Answers.{answerByte};
 ghost use Rattle.records.specs.Claimed.{answersTo};
 ghost use Rattle.claims.specs.Answered.{Closing, AnsweredFrom, Answers, restricted, Restrictable, Answerable};
+use matrices::Matrix;
+use matrices::RowNumbers;
 use verdicts::Answer;
 
 // The byte of an answer.
@@ -25,17 +27,17 @@ fn answer_each(
     origin: u8,
     claims: &[u8],
     voids: &[u64],
-    d: &[u64; 65536],
-    u: &[u64; 65536],
-    p: &[u64; 65536],
-    t: &[u64; 65536],
-    q: &[u64; 65536],
+    d: &Matrix,
+    u: &Matrix,
+    p: &Matrix,
+    t: &Matrix,
+    q: &Matrix,
     answers: &mut [u8],
 )
     requires { ⌜ Closing (now claims) (now voids) (length (now answers)) ⌝ }
     ensures { λ _. ⌜ Answers (voidOf (now (voids .entry))) origin (now (claims .entry)) (now (d .entry)) (now (u .entry)) (now (p .entry)) (now (t .entry)) (now (q .entry)) (now (answers .entry)) (now (answers .exit)) ⌝ }
 {
-    let n = claims.len() / 6;
+    let n = claims.len() / records::RECORD_BYTES;
     let mut i: usize = 0;
     while i < n {
         let claim = records::record_at(claims, i);
@@ -53,7 +55,7 @@ fn answer_each(
 fn some_restricted(claims: &[u8]) -> bool
     ensures { λ r. ⌜ r ≡ restricted (now (claims .entry)) ⌝ }
 {
-    let n = claims.len() / 6;
+    let n = claims.len() / records::RECORD_BYTES;
     let mut i: usize = 0;
     while i < n {
         let r = records::record_at(claims, i);
@@ -71,20 +73,20 @@ fn answer_restricted(
     n: usize,
     voids: &[u64],
     claims: &[u8],
-    e: &mut [u64; 65536],
-    order: &mut [u16; 2048],
-    lead: &mut [u16; 2048],
-    d: &mut [u64; 65536],
-    t: &mut [u64; 65536],
-    u: &mut [u64; 65536],
-    p: &mut [u64; 65536],
-    q: &mut [u64; 65536],
+    e: &mut Matrix,
+    order: &mut RowNumbers,
+    lead: &mut RowNumbers,
+    d: &mut Matrix,
+    t: &mut Matrix,
+    u: &mut Matrix,
+    p: &mut Matrix,
+    q: &mut Matrix,
     answers: &mut [u8],
 )
     requires { ⌜ Restrictable (now book) n (now voids) (now claims) (length (now answers)) ⌝ }
     ensures { λ _. ⌜ AnsweredFrom (voidOf (now (voids .entry))) 1 n (facts (sheets (now (book .entry)))) (now (claims .entry)) (now (answers .entry)) (now (answers .exit)) ⌝ }
 {
-    let mut kept = [0u8; 49152];
+    let mut kept = [0u8; records::BOOK_BYTES];
     let length = records::keep_sheets(book, &mut kept);
     let run = &kept[..length];
     contradiction::settle_alone(run, n, voids, e, order, lead, d, t);
@@ -99,20 +101,20 @@ pub fn answer_all(
     n: usize,
     voids: &[u64],
     claims: &[u8],
-    e: &mut [u64; 65536],
-    order: &mut [u16; 2048],
-    lead: &mut [u16; 2048],
-    d: &mut [u64; 65536],
-    t: &mut [u64; 65536],
-    u: &mut [u64; 65536],
-    p: &mut [u64; 65536],
-    q: &mut [u64; 65536],
+    e: &mut Matrix,
+    order: &mut RowNumbers,
+    lead: &mut RowNumbers,
+    d: &mut Matrix,
+    t: &mut Matrix,
+    u: &mut Matrix,
+    p: &mut Matrix,
+    q: &mut Matrix,
     answers: &mut [u8],
 )
     requires { ⌜ Answerable (now book) n (now voids) (now claims) (now e) (now order) (now lead) (now d) (now t) (length (now answers)) ⌝ }
     ensures { λ _. ⌜ now (answers .exit) ≡ answersTo (now (book .entry)) n (now (claims .entry)) ⌝ }
 {
-    if claims.len() < 6 {
+    if claims.len() < records::RECORD_BYTES {
         return;
     }
     closure::complete(book, n, voids, e, order, lead, u, p, q);

@@ -9,21 +9,11 @@ ghost use Rattle.clash.specs.declared.Reply.the-variants.{Refused};
 ghost use Rattle.clash.specs.Clash.{unrestricted, clashOk, passes, Written};
 ghost use Rattle.clash.specs.Silenced.{silencedByte, silenced, Placed, Behind};
 use contradiction::Settled;
+use matrices::Matrix;
+use matrices::RowNumbers;
 use records::BookCheck;
 use records::Record;
 use records::Refusal;
-
-// The kinds 1 to this state a fact.
-const LAST_FACT: u8 = 4;
-
-// A kind that states none.
-const TRAY: u8 = 5;
-
-// 8,192 records.
-const BOOK_BYTES: usize = 49152;
-
-// 16,400 steps.
-const CHAIN_BYTES: usize = 164000;
 
 // What the call says: the book has no contradiction, or the refusal and its place.
 pub enum Reply {
@@ -52,10 +42,10 @@ fn silenced_byte(book: &[u8], i: usize, p: usize) -> u8
     if x < 1 {
         return x;
     }
-    if LAST_FACT < x {
+    if records::NOTPART < x {
         return x;
     }
-    TRAY
+    records::TRAY
 }
 
 // Writes that copy to the front of `out`.
@@ -92,17 +82,17 @@ fn write_behind(
     place: usize,
     n: usize,
     voids: &[u64],
-    e: &mut [u64; 65536],
-    order: &mut [u16; 2048],
-    lead: &mut [u16; 2048],
-    d: &mut [u64; 65536],
-    t: &mut [u64; 65536],
+    e: &mut Matrix,
+    order: &mut RowNumbers,
+    lead: &mut RowNumbers,
+    d: &mut Matrix,
+    t: &mut Matrix,
     c: &mut [u8],
 ) -> usize
     requires { ⌜ Placed (now book) place n (now voids) × (164000 ≤ length (now c)) ⌝ }
     ensures { λ r. ⌜ Behind (now (book .entry)) place (now (c .entry)) r (now (c .exit)) ⌝ }
 {
-    let mut copy = [0u8; BOOK_BYTES];
+    let mut copy = [0u8; records::BOOK_BYTES];
     silence(book, place, &mut copy);
     let length = book.len();
     let run = &copy[..length];
@@ -129,17 +119,17 @@ fn judge(
     book: &[u8],
     n: usize,
     c: &mut [u8],
-    e: &mut [u64; 65536],
-    d: &mut [u64; 65536],
-    t: &mut [u64; 65536],
+    e: &mut Matrix,
+    d: &mut Matrix,
+    t: &mut Matrix,
 ) -> Clash
     requires { ⌜ (bookCheck (now book) ≡ is.Accepted n) × (164000 ≤ length (now c)) ⌝ }
     ensures { λ r. ⌜ Written (now (book .entry)) (now (c .entry)) r (now (c .exit)) ⌝ }
 {
     let mut voids = [0u64; 32];
     closure::marking::mark_voids(book, &mut voids);
-    let mut order = [0u16; 2048];
-    let mut lead = [0u16; 2048];
+    let mut order = [0u16; matrices::ROWS];
+    let mut lead = [0u16; matrices::ROWS];
     let settled = contradiction::settle_alone(book, n, &voids, e, &mut order, &mut lead, d, t);
     match settled {
         Settled::Free(_, _) => Clash {
@@ -169,13 +159,13 @@ fn refuse(refusal: Refusal, place: usize) -> Clash
 pub fn write_clash(
     book: &[u8],
     steps: &mut [u8],
-    e: &mut [u64; 65536],
-    d: &mut [u64; 65536],
-    t: &mut [u64; 65536],
+    e: &mut Matrix,
+    d: &mut Matrix,
+    t: &mut Matrix,
 ) -> Clash
     ensures { λ r. ⌜ Written (now (book .entry)) (now (steps .entry)) r (now (steps .exit)) ⌝ }
 {
-    if steps.len() < CHAIN_BYTES {
+    if steps.len() < chain_format::CHAIN_BYTES {
         return refuse(Refusal::ShortSteps, 0);
     }
     let checked = records::check_book(book);
@@ -190,7 +180,7 @@ fn check_behind(book: &[u8], place: usize, n: usize, voids: &[u64], c: &[u8]) ->
     requires { ⌜ Placed (now book) place n (now voids) ⌝ }
     ensures { λ r. ⌜ r ≡ clashOk (now (book .entry)) place (now (c .entry)) ⌝ }
 {
-    let mut copy = [0u8; BOOK_BYTES];
+    let mut copy = [0u8; records::BOOK_BYTES];
     silence(book, place, &mut copy);
     let length = book.len();
     let run = &copy[..length];
@@ -198,7 +188,7 @@ fn check_behind(book: &[u8], place: usize, n: usize, voids: &[u64], c: &[u8]) ->
     if !chain_format::check_steps(run, n, voids, claim, c) {
         return false;
     }
-    let last = chain_format::step_at(c, c.len() / 10 - 1);
+    let last = chain_format::step_at(c, c.len() / chain_format::STEP_BYTES - 1);
     chain_format::shows(last, 5 - claim.kind, claim.a, claim.b)
 }
 
@@ -207,17 +197,17 @@ fn check_sound(
     book: &[u8],
     n: usize,
     steps: &[u8],
-    e: &mut [u64; 65536],
-    d: &mut [u64; 65536],
-    t: &mut [u64; 65536],
+    e: &mut Matrix,
+    d: &mut Matrix,
+    t: &mut Matrix,
 ) -> bool
     requires { ⌜ bookCheck (now book) ≡ is.Accepted n ⌝ }
     ensures { λ r. ⌜ r ≡ passes (now (book .entry)) (now (steps .entry)) ⌝ }
 {
     let mut voids = [0u64; 32];
     closure::marking::mark_voids(book, &mut voids);
-    let mut order = [0u16; 2048];
-    let mut lead = [0u16; 2048];
+    let mut order = [0u16; matrices::ROWS];
+    let mut lead = [0u16; matrices::ROWS];
     let settled = contradiction::settle_alone(book, n, &voids, e, &mut order, &mut lead, d, t);
     match settled {
         Settled::Free(_, _) => false,
@@ -229,9 +219,9 @@ fn check_sound(
 pub fn check_clash(
     book: &[u8],
     steps: &[u8],
-    e: &mut [u64; 65536],
-    d: &mut [u64; 65536],
-    t: &mut [u64; 65536],
+    e: &mut Matrix,
+    d: &mut Matrix,
+    t: &mut Matrix,
 ) -> bool
     ensures { λ r. ⌜ r ≡ passes (now (book .entry)) (now (steps .entry)) ⌝ }
 {

@@ -10,11 +10,12 @@ ghost use Rattle.closure.specs.Bounded.{Bounded};
 ghost use Rattle.closure.specs.Stepped.{Stepped};
 ghost use Rattle.closure.specs.Closed.{Grown, Holds, partBit};
 ghost use Rattle.closure.specs.Apart.{markedApart, apartBit, Aparts};
+ghost use Rattle.matrices.specs.Matrix.{IsMatrix};
 use crate::storing;
 
 // Each marked piece as apart from piece 0, in both orders.
 fn part_marked(n: usize, voids: &[u64], m: &mut [u64])
-    requires { ⌜ (length (now voids) ≡ 32) × (length (now m) ≡ 65536) × (n ≤ 2048) ⌝ }
+    requires { ⌜ (length (now voids) ≡ 32) × (IsMatrix (now m)) × (n ≤ 2048) ⌝ }
     ensures { λ _. ⌜ Grown (now (m .entry)) (now (m .exit)) (markedApart (voidOf (now (voids .entry))) n) ⌝ }
 {
     let mut i: usize = 0;
@@ -28,7 +29,7 @@ fn part_marked(n: usize, voids: &[u64], m: &mut [u64])
 
 // A: the stored APARTs, and the marks as such.
 fn apart_told(run: &[u8], n: usize, voids: &[u64], m: &mut [u64])
-    requires { ⌜ Bounded n (facts (now run)) × Voids (now voids) × (length (now m) ≡ 65536) ⌝ }
+    requires { ⌜ Bounded n (facts (now run)) × Voids (now voids) × (IsMatrix (now m)) ⌝ }
     ensures { λ _. ⌜ Holds n (now (m .exit)) (apartBit (voidOf (now (voids .entry))) n (facts (now (run .entry)))) ⌝ }
 {
     storing::store(run, n, 2, true, true, m);
@@ -47,7 +48,7 @@ pub fn apart_rows(
     m: &mut [u64],
     a: &mut [u64],
 )
-    requires { ⌜ Bounded n (facts (now run)) × Voids (now voids) × Stepped n (facts (now run)) (now e) (now order) (now lead) × Holds n (now d) (partBit n (facts (now run))) × (length (now m) ≡ 65536) × (length (now a) ≡ 65536) × (clash (voidOf (now voids)) n (facts (now run)) ≡ false) ⌝ }
+    requires { ⌜ Bounded n (facts (now run)) × Voids (now voids) × Stepped n (facts (now run)) (now e) (now order) (now lead) × Holds n (now d) (partBit n (facts (now run))) × (IsMatrix (now m)) × (IsMatrix (now a)) × (clash (voidOf (now voids)) n (facts (now run)) ≡ false) ⌝ }
     ensures { λ _. ⌜ Aparts (voidOf (now (voids .entry))) n (facts (now (run .entry))) (now (a .exit)) ⌝ }
 {
     apart_told(run, n, voids, m);

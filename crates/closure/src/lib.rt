@@ -14,6 +14,7 @@ ghost use Rattle.closure.specs.Bounded.{Bounded};
 ghost use Rattle.matrices.specs.Flow.{Sorted, Carried};
 ghost use Rattle.matrices.specs.Led.{Led};
 ghost use Rattle.closure.specs.Stepped.{Stepped};
+ghost use Rattle.matrices.specs.Matrix.{IsMatrix};
 pub use storing::edges;
 pub use storing::step_stored;
 pub use storing::steps;
@@ -24,7 +25,7 @@ pub mod storing;
 
 // M: the stored MEETS, and each piece that is not marked with itself.
 fn meets(run: &[u8], n: usize, voids: &[u64], m: &mut [u64])
-    requires { ⌜ Bounded n (facts (now run)) × Voids (now voids) × (length (now m) ≡ 65536) ⌝ }
+    requires { ⌜ Bounded n (facts (now run)) × Voids (now voids) × (IsMatrix (now m)) ⌝ }
     ensures { λ _. ⌜ Holds n (now (m .exit)) (meetBit (voidOf (now (voids .entry))) n (facts (now (run .entry)))) ⌝ }
 {
     storing::store(run, n, 3, true, true, m);
@@ -33,7 +34,7 @@ fn meets(run: &[u8], n: usize, voids: &[u64], m: &mut [u64])
 
 // Each row below n becomes the union of the rows of its parts: followers' rows are joined at their leaders.
 fn join_parts(n: usize, e: &[u64], order: &[u16], lead: &[u16], m: &mut [u64])
-    requires { ⌜ (length (now m) ≡ 65536) × (length (now e) ≡ 65536) × (n ≤ 2048) × Sorted (now e) n (now order) × Led n (now lead) ⌝ }
+    requires { ⌜ (IsMatrix (now m)) × (IsMatrix (now e)) × (n ≤ 2048) × Sorted (now e) n (now order) × Led n (now lead) ⌝ }
     ensures { λ _. ⌜ ((fs : List Fact) → Bounded n fs → Stepped n fs (now (e .entry)) (now (order .entry)) (now (lead .entry)) → Carried (partBit n fs) n (now (m .entry)) (now (m .exit))) ⌝ }
 {
     matrices::pool_rows(lead, n, m);
@@ -43,7 +44,7 @@ fn join_parts(n: usize, e: &[u64], order: &[u16], lead: &[u16], m: &mut [u64])
 
 // Each row below n becomes the union of the rows of what it is part of.
 fn join_wholes(n: usize, e: &[u64], order: &[u16], lead: &[u16], m: &mut [u64])
-    requires { ⌜ (length (now m) ≡ 65536) × (length (now e) ≡ 65536) × (n ≤ 2048) × Sorted (now e) n (now order) × Led n (now lead) ⌝ }
+    requires { ⌜ (IsMatrix (now m)) × (IsMatrix (now e)) × (n ≤ 2048) × Sorted (now e) n (now order) × Led n (now lead) ⌝ }
     ensures { λ _. ⌜ ((fs : List Fact) → Bounded n fs → Stepped n fs (now (e .entry)) (now (order .entry)) (now (lead .entry)) → Carried (wholeBit n fs) n (now (m .entry)) (now (m .exit))) ⌝ }
 {
     matrices::pool_rows(lead, n, m);
@@ -61,7 +62,7 @@ pub fn meeting(
     lead: &[u16],
     t: &mut [u64],
 )
-    requires { ⌜ Bounded n (facts (now run)) × Voids (now voids) × Stepped n (facts (now run)) (now e) (now order) (now lead) × (length (now t) ≡ 65536) ⌝ }
+    requires { ⌜ Bounded n (facts (now run)) × Voids (now voids) × Stepped n (facts (now run)) (now e) (now order) (now lead) × (IsMatrix (now t)) ⌝ }
     ensures { λ _. ⌜ Holds n (now (t .exit)) (towardBit (voidOf (now (voids .entry))) n (facts (now (run .entry)))) ⌝ }
 {
     meets(run, n, voids, t);
@@ -70,7 +71,7 @@ pub fn meeting(
 
 // P = U·A.
 fn parting(run: &[u8], n: usize, e: &[u64], order: &[u16], lead: &[u16], p: &mut [u64])
-    requires { ⌜ Bounded n (facts (now run)) × Stepped n (facts (now run)) (now e) (now order) (now lead) × (length (now p) ≡ 65536) ⌝ }
+    requires { ⌜ Bounded n (facts (now run)) × Stepped n (facts (now run)) (now e) (now order) (now lead) × (IsMatrix (now p)) ⌝ }
     ensures { λ _. ⌜ Holds n (now (p .exit)) (awayBit n (facts (now (run .entry)))) ⌝ }
 {
     storing::store(run, n, 2, true, true, p);
@@ -89,7 +90,7 @@ fn outing(
     m: &mut [u64],
     q: &mut [u64],
 )
-    requires { ⌜ Bounded n (facts (now run)) × Voids (now voids) × Stepped n (facts (now run)) (now e) (now order) (now lead) × Holds n (now p) (awayBit n (facts (now run))) × (length (now m) ≡ 65536) × (length (now q) ≡ 65536) ⌝ }
+    requires { ⌜ Bounded n (facts (now run)) × Voids (now voids) × Stepped n (facts (now run)) (now e) (now order) (now lead) × Holds n (now p) (awayBit n (facts (now run))) × (IsMatrix (now m)) × (IsMatrix (now q)) ⌝ }
     ensures { λ _. ⌜ Holds n (now (q .exit)) (outBit (voidOf (now (voids .entry))) n (facts (now (run .entry)))) ⌝ }
 {
     meets(run, n, voids, m);
@@ -110,7 +111,7 @@ pub fn complete(
     p: &mut [u64],
     q: &mut [u64],
 )
-    requires { ⌜ Bounded n (facts (now run)) × Voids (now voids) × Stepped n (facts (now run)) (now e) (now order) (now lead) × (length (now u) ≡ 65536) × (length (now p) ≡ 65536) × (length (now q) ≡ 65536) ⌝ }
+    requires { ⌜ Bounded n (facts (now run)) × Voids (now voids) × Stepped n (facts (now run)) (now e) (now order) (now lead) × (IsMatrix (now u)) × (IsMatrix (now p)) × (IsMatrix (now q)) ⌝ }
     ensures { λ _. ⌜ Holds n (now (u .exit)) (wholeBit n (facts (now (run .entry)))) × Holds n (now (p .exit)) (awayBit n (facts (now (run .entry)))) × Holds n (now (q .exit)) (outBit (voidOf (now (voids .entry))) n (facts (now (run .entry)))) ⌝ }
 {
     parting(run, n, e, order, lead, p);

@@ -12,7 +12,7 @@ fn mark_record(r: Record, voids: &mut [u64])
     requires { ⌜ (length (now voids) ≡ 32) × (r .kind ≡ 6 → r .a < 2048) ⌝ }
     ensures { λ _. ⌜ ((g : ℕ) → g < 2048 → voidOf (now (voids .exit)) g ≡ (marks g r || voidOf (now (voids .entry)) g)) ⌝ }
 {
-    if r.kind != 6 {
+    if r.kind != records::VOID {
         return;
     }
     matrices::put(voids, r.a);
@@ -24,7 +24,7 @@ pub fn mark_voids(book: &[u8], voids: &mut [u64])
     ensures { λ _. ⌜ Voids (now (voids .exit)) × (voidOf (now (voids .exit)) ≡ marked (now (book .entry))) ⌝ }
 {
     matrices::clear(voids);
-    let n = book.len() / 6;
+    let n = book.len() / records::RECORD_BYTES;
     let mut i: usize = 0;
     while i < n {
         mark_record(records::record_at(book, i), voids);

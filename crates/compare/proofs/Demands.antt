@@ -24,7 +24,7 @@ use Rattle.records.specs.declared.BookCheck.the-variants as book
 use Rattle.records.specs.declared.ClaimsCheck.{ClaimsCheck}
 use Rattle.records.specs.declared.ClaimsCheck.the-variants as claims
 use Rattle.records.proofs.Rows.{refused-positive}
-use Rattle.compare.specs.Joint.{pieces, laid, eitherMarked}
+use Rattle.compare.specs.Joint.{pieces, consistent, eitherMarked}
 use Rattle.compare.specs.Agreement.{agreement}
 use Rattle.compare.proofs.JointJoining.{joint-pieces}
 use Rattle.compare.proofs.Threes.{threes-length, threes-at}
@@ -79,15 +79,15 @@ pub record Passed (s t cs : List ℕ) : Type 0 where
 
 module _ (s t cs : List ℕ) where
   abbrev pub Told : Comparison → Type 0
-  Told (Compared c) = Passed s t cs × (c ≡ laid s t)
+  Told (Compared c) = Passed s t cs × (c ≡ consistent s t)
   Told (Refused k r i) = Unit {0}
 
-  claims-told : (a b : ℕ) → ((n : ℕ) → n ≡ max a b → claimsCheck n cs ≡ claims.Accepted → Passed s t cs) → pieces s t ≡ max a b → (c : ClaimsCheck) → claimsCheck (pieces s t) cs ≡ c → Told (byClaims (laid s t) c)
+  claims-told : (a b : ℕ) → ((n : ℕ) → n ≡ max a b → claimsCheck n cs ≡ claims.Accepted → Passed s t cs) → pieces s t ≡ max a b → (c : ClaimsCheck) → claimsCheck (pieces s t) cs ≡ c → Told (byClaims (consistent s t) c)
   unfolding byClaims
   claims-told a b f q (claims.Refused r i) e = tt
   claims-told a b f q claims.Accepted e = (f (pieces s t) q e, refl)
 
-  second-told : (o : Outcome) → freshCall s [] ≡ o → (u : Outcome) → freshCall t [] ≡ u → Told (byBook 1 o (byBook 2 u (byClaims (laid s t) (claimsCheck (pieces s t) cs))))
+  second-told : (o : Outcome) → freshCall s [] ≡ o → (u : Outcome) → freshCall t [] ≡ u → Told (byBook 1 o (byBook 2 u (byClaims (consistent s t) (claimsCheck (pieces s t) cs))))
   unfolding byBook
   second-told (on.Refused r i) e u f = tt
   second-told (on.Accepted a v h) e (on.Refused r i) f = tt
@@ -141,9 +141,9 @@ module _ (s t cs : List ℕ) (P : Passed s t cs) where
       subst (λ (n : ℕ). Right t n cs i (answerOf t n cs i)) same-pieces
       (right t (max (P .a) (P .b)) (second-counted s t cs [] (P .first) (P .second) (P .fit)) cs (P .fit) (P .second-free) i h)
 
-  pub joint-models : (laid s t ≡ true) ↔ ((M : Model (eitherMarked s t) (pieces s t)) × keepsAll M (facts s) × keepsAll M (facts t))
+  pub joint-models : (consistent s t ≡ true) ↔ ((M : Model (eitherMarked s t) (pieces s t)) × keepsAll M (facts s) × keepsAll M (facts t))
   joint-models =
-      subst (λ (n : ℕ). (laid s t ≡ true) ↔ ((M : Model (eitherMarked s t) n) × keepsAll M (facts s) × keepsAll M (facts t))) same-pieces
+      subst (λ (n : ℕ). (consistent s t ≡ true) ↔ ((M : Model (eitherMarked s t) n) × keepsAll M (facts s) × keepsAll M (facts t))) same-pieces
       (laid-iff s t (P .a) (P .b) (P .first) (P .second))
 
 -- byte d of claim i in the output
@@ -191,7 +191,7 @@ module _ (s t cs : List ℕ) where
   unfolding byRows
   first-14 n e =
       iff-trans
-      (fourteen 1 (freshCall s []) (behind s t cs) (second-other (freshCall t []) _ (claims-other (laid s t) (claimsCheck (pieces s t) cs) 1 (omega arith))))
+      (fourteen 1 (freshCall s []) (behind s t cs) (second-other (freshCall t []) _ (claims-other (consistent s t) (claimsCheck (pieces s t) cs) 1 (omega arith))))
       (rw (fresh-runs s n e) (runs-refused s (own-count e)))
 
   -- with a model of the first the second is looked at
@@ -207,7 +207,7 @@ module _ (s t cs : List ℕ) where
   second-14 n m e model f =
       rw (behind-is n e model)
       (iff-trans
-      (fourteen 2 (freshCall t []) (byClaims (laid s t) (claimsCheck (pieces s t) cs)) (claims-other (laid s t) (claimsCheck (pieces s t) cs) 2 (omega arith)))
+      (fourteen 2 (freshCall t []) (byClaims (consistent s t) (claimsCheck (pieces s t) cs)) (claims-other (consistent s t) (claimsCheck (pieces s t) cs) 2 (omega arith)))
       (rw (fresh-runs t m f) (runs-refused t (own-count f))))
 
 -- ---- all of it

@@ -24,9 +24,9 @@ use Rattle.closure.specs.Void.{Markable}
 use Rattle.contradiction.specs.Settleable.{Settleable}
 use Rattle.closure.proofs.VoidRows.{accepted-markable}
 use Rattle.contradiction.proofs.SettlingLaws.{free-model, free-consistent}
-use Rattle.compare.specs.Joint.{pieces, jointRun, laid, eitherMarked}
+use Rattle.compare.specs.Joint.{pieces, jointRun, consistent, eitherMarked}
 use Rattle.compare.proofs.JointJoining.{either-marked, fact-split, joint-clash, joint-pieces, within}
-use Rattle.compare.specs.Judging.{Layable}
+use Rattle.compare.specs.Judging.{Judgeable}
 
 module _ (s t : List ℕ) (a b : ℕ) (first : bookCheck s ≡ book.Accepted a) (second : bookCheck t ≡ book.Accepted b) where
   whole : length s ≡ 6 * records s
@@ -52,16 +52,16 @@ module _ (s t : List ℕ) (a b : ℕ) (first : bookCheck s ≡ book.Accepted a) 
         small = λ g h. marked-append s t whole g ∙ ap₂ _||_ (A .small g h) (B .small g h);
       }
 
-  pub layable : Layable (s ++ t) (max a b)
-  layable = record { settleable = settles; markable = marks }
+  pub judgeable : Judgeable (s ++ t) (max a b)
+  judgeable = record { settleable = settles; markable = marks }
 
-  pub laid-is : not (clash (marked (s ++ t)) (max a b) (facts (s ++ t))) ≡ laid s t
-  unfolding laid
+  pub laid-is : not (clash (marked (s ++ t)) (max a b) (facts (s ++ t))) ≡ consistent s t
+  unfolding consistent
   laid-is =
       ap not (joint-clash s t whole (max a b) (settles .bounded .some) (marks .whole) (within s t a b first second))
       ∙ ap (λ (n : ℕ). not (clash (marked (jointRun s t)) n (facts (jointRun s t)))) (joint-pieces s t a b first second)
 
-  pub joint-consistent : laid s t ≡ true → Contradictory (marked (s ++ t)) (pieces s t) (facts (s ++ t)) → ⊥
+  pub joint-consistent : consistent s t ≡ true → Contradictory (marked (s ++ t)) (pieces s t) (facts (s ++ t)) → ⊥
   joint-consistent e = rw (← joint-pieces s t a b first second) (free-consistent settles (marked (s ++ t)) (marks .whole) (sym (not-is-true _ (laid-is ∙ e))))
 
   -- they can be laid exactly when a model keeps all facts of both
@@ -78,11 +78,11 @@ module _ (s t : List ℕ) (a b : ℕ) (first : bookCheck s ≡ book.Accepted a) 
   both-kept : (M : Model (marked (s ++ t)) (max a b)) → keepsAll M (facts s) → keepsAll M (facts t) → keepsAll M (facts (s ++ t))
   both-kept M k l f m = elim (fact-split s t whole f m) [ inl h ↦ k f h | inr h ↦ l f h ]
 
-  laid-models : (laid s t ≡ true) ↔ ((M : Model (marked (s ++ t)) (max a b)) × keepsAll M (facts s) × keepsAll M (facts t))
+  laid-models : (consistent s t ≡ true) ↔ ((M : Model (marked (s ++ t)) (max a b)) × keepsAll M (facts s) × keepsAll M (facts t))
   laid-models = (
     λ e. let m = free-model settles (marked (s ++ t)) (marks .whole) (sym (not-is-true _ (laid-is ∙ e))) in apart-kept (m .0) (m .1),
     λ x. sym laid-is ∙ ap not (not-true _ (λ e. no-model (clash-iff (marked (s ++ t)) (max a b) (facts (s ++ t)) (within s t a b first second) (settles .bounded .some) (marks .whole) .0 e) (x .0) (both-kept (x .0) (x .1) (x .2)))),
   )
 
-  pub laid-iff : (laid s t ≡ true) ↔ Kept
+  pub laid-iff : (consistent s t ≡ true) ↔ Kept
   laid-iff = rw (either-marked s t whole) at laid-models

@@ -20,8 +20,8 @@ use Rattle.compare.specs.Agreement.{threes}
 use Rattle.outcomes.specs.declared.Outcome.{Outcome}
 use Rattle.outcomes.specs.declared.Outcome.the-variants as on
 use Rattle.compare.specs.declared.Comparison.the-variants.{Compared, Refused}
-use Rattle.compare.specs.Judging.{Layable, Answerable, Answered, Sound, Ready, Judged}
-use Rattle.compare.proofs.Joining.{layable}
+use Rattle.compare.specs.Judging.{Judgeable, Answerable, Answered, Sound, Ready, Judged}
+use Rattle.compare.proofs.Joining.{judgeable}
 use Rattle.compare.proofs.Rows.{first-counted, second-counted, first-clashed, second-clashed, both-judged}
 
 -- ---- claims that fit
@@ -51,8 +51,8 @@ module _ {s t run cs : List ℕ} {a b n room : ℕ} (R : Ready s a t b run cs ro
   pub second-answerable : {k : ℕ} → k ≡ records cs → Answerable t n cs k
   second-answerable q = rw e (record { counted = second-counted s t cs [] (R .sound .first) (R .sound .second) (R .fit); fit = R .fit; rooms = q })
 
-  pub both-layable : Layable run n
-  both-layable = rw (e, R .sound .joint) (layable s t a b (R .sound .first) (R .sound .second))
+  pub both-judgeable : Judgeable run n
+  both-judgeable = rw (e, R .sound .joint) (judgeable s t a b (R .sound .first) (R .sound .second))
 
   module _ {o : Outcome} {ours : List ℕ} (A : Answered s n cs o ours) where
     pub first-refuses : {r : Refusal} {i : ℕ} {out : List ℕ} → o ≡ on.Refused r i → Judged s t cs out (Refused 1 r i) out

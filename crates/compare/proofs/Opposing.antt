@@ -28,7 +28,7 @@ use Rattle.records.proofs.Keeps.{picked-among}
 use Rattle.records.proofs.Accepted.{accepted}
 use Rattle.records.proofs.Orders.{Found, found-before, found-behind, facts-found}
 use Rattle.records.proofs.Marks.{marked-append}
-use Rattle.compare.specs.Joint.{pieces, same, has, jointRun, laid}
+use Rattle.compare.specs.Joint.{pieces, same, has, jointRun, consistent}
 use Rattle.compare.specs.Agreement.{agreement, threes}
 use Rattle.compare.proofs.JointJoining.{joint-pieces}
 use Rattle.compare.proofs.Threes.{threes-at}
@@ -81,7 +81,7 @@ opposed x y (open-is e) (open-is f) q = absurd (let z = rw (e, f) at q in omega 
 
 -- ---- a claim and its opposite, both derived from the records of both books
 
-module _ (s t cs : List ℕ) (P : Passed s t cs) (marks-same : (g : ℕ) → marked s g ≡ marked t g) (can : laid s t ≡ true) (i : ℕ) (h : i < records cs) where
+module _ (s t cs : List ℕ) (P : Passed s t cs) (marks-same : (g : ℕ) → marked s g ≡ marked t g) (can : consistent s t ≡ true) (i : ℕ) (h : i < records cs) where
   whole : length s ≡ 6 * records s
   whole = accepted s (P .a) (P .first) .whole
 
@@ -135,5 +135,5 @@ abbrev meeting : List ℕ
 meeting = bytes 3 0 1 1
 
 pub marks-oppose : MarksOppose
-unfolding outcome byRows byBook byClaims freshCall calls.byBook calls.byClaims byRuns checkBy scan recordFinding formFinding admitted orderRow recordAt stated largest piecesUpTo sameBytes anyBelow claimsCheck claimAt entries entryOf factOf factsOf shortestClash first clash any tab table entry storing turned parting marks marked step rounds containment apart meets notpart derived follows verdict judge laid jointRun has same keptUpTo bytesWhere bytesAt bytesOf threes answerOf agreement claimed picked
+unfolding outcome byRows byBook byClaims freshCall calls.byBook calls.byClaims byRuns checkBy scan recordFinding formFinding admitted orderRow recordAt stated largest piecesUpTo sameBytes anyBelow claimsCheck claimAt entries entryOf factOf factsOf shortestClash first clash any tab table entry storing turned parting marks marked step rounds containment apart meets notpart derived follows verdict judge consistent jointRun has same keptUpTo bytesWhere bytesAt bytesOf threes answerOf agreement claimed picked
 marks-oppose = (marking, stating, meeting, refl, refl)

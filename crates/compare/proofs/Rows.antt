@@ -25,7 +25,7 @@ use Rattle.records.specs.declared.BookCheck.the-variants as book
 use Rattle.records.specs.declared.ClaimsCheck.the-variants as claims
 use Rattle.records.proofs.Accepted.{accepted, accepted-within, accepted-positive, accepted-pieces}
 use Rattle.records.proofs.Marks.{accepted-whole-unmarked}
-use Rattle.compare.specs.Joint.{pieces, laid}
+use Rattle.compare.specs.Joint.{pieces, consistent}
 use Rattle.compare.specs.Agreement.{threes}
 use Rattle.compare.proofs.JointJoining.{joint-pieces}
 use Rattle.compare.proofs.Threes.{threes-same}
@@ -130,7 +130,7 @@ module _ (k : ℕ) (s : List ℕ) (rest : Comparison) {o : Outcome} (e : o ≡ f
 
 -- what comes after the first
 abbrev pub behind : List ℕ → List ℕ → List ℕ → Comparison
-behind s t cs = byBook 2 (freshCall t []) (byClaims (laid s t) (claimsCheck (pieces s t) cs))
+behind s t cs = byBook 2 (freshCall t []) (byClaims (consistent s t) (claimsCheck (pieces s t) cs))
 
 module _ (s t cs out : List ℕ) where
   refused : (k : ℕ) (r : Refusal) (i : ℕ) → Refused k r i ≡ byRows s t cs → Judged s t cs out (Refused k r i) out
@@ -151,7 +151,7 @@ module _ (s t cs out : List ℕ) where
   pub second-refused : {r : Refusal} {i : ℕ} (d : Comparison) → bookCheck t ≡ book.Refused r i → d ≡ byBook 1 (freshCall s []) (Refused 2 r i) → Judged s t cs out d out
   unfolding byRows byBook
   second-refused {r} {i} d e q = (
-    q ∙ ap (byBook 1 (freshCall s [])) (sym (ap (λ (o : Outcome). byBook 2 o (byClaims (laid s t) (claimsCheck (pieces s t) cs))) (fresh-refused t e))),
+    q ∙ ap (byBook 1 (freshCall s [])) (sym (ap (λ (o : Outcome). byBook 2 o (byClaims (consistent s t) (claimsCheck (pieces s t) cs))) (fresh-refused t e))),
     rest-refused 1 2 r i (freshCall s []) d q,
   )
 
@@ -162,7 +162,7 @@ module _ (s t cs out : List ℕ) where
     unfolding byRows byClaims byBook left
     asked-refused {r} {i} d c e p q =
         let f : claimsCheck (pieces s t) cs ≡ claims.Refused r i = ap (λ (n : ℕ). claimsCheck n cs) (sym (joint-pieces s t a b first second)) ∙ e in (
-          q ∙ ap (byBook 1 (freshCall s [])) (p ∙ ap (λ (x : _). byBook 2 (freshCall t []) (byClaims (laid s t) x)) (sym f)),
+          q ∙ ap (byBook 1 (freshCall s [])) (p ∙ ap (λ (x : _). byBook 2 (freshCall t []) (byClaims (consistent s t) x)) (sym f)),
           untouched (freshCall s []) (freshCall t []) (q ∙ ap (byBook 1 (freshCall s [])) p),
         )
       where
@@ -182,23 +182,23 @@ module _ (s t cs out : List ℕ) where
       pub second-counted : Counted t (max a b)
       second-counted = counted t b (max a b) second (omega arith) 0 (Compared true) small
 
-      rows-are : byRows s t cs ≡ byBook 1 (byRuns s (max a b)) (byBook 2 (byRuns t (max a b)) (Compared (laid s t)))
+      rows-are : byRows s t cs ≡ byBook 1 (byRuns s (max a b)) (byBook 2 (byRuns t (max a b)) (Compared (consistent s t)))
       unfolding byRows byClaims
       rows-are =
           let f : claimsCheck (pieces s t) cs ≡ claims.Accepted = ap (λ (n : ℕ). claimsCheck n cs) (sym (joint-pieces s t a b first second)) ∙ fit in
           book-same s a (max a b) first (omega arith) 1 (behind s t cs)
           ∙ ap (byBook 1 (byRuns s (max a b)))
-          (book-same t b (max a b) second (omega arith) 2 (byClaims (laid s t) (claimsCheck (pieces s t) cs)) ∙ ap (λ (x : _). byBook 2 (byRuns t (max a b)) (byClaims (laid s t) x)) f)
+          (book-same t b (max a b) second (omega arith) 2 (byClaims (consistent s t) (claimsCheck (pieces s t) cs)) ∙ ap (λ (x : _). byBook 2 (byRuns t (max a b)) (byClaims (consistent s t) x)) f)
 
       pub first-clashed : {r : Refusal} {i : ℕ} {o : Outcome} → o ≡ byRuns s (max a b) → o ≡ on.Refused r i → Judged s t cs out (Refused 1 r i) out
       unfolding byBook
-      first-clashed {r} {i} e q = refused 1 r i (sym (rows-are ∙ ap (λ (x : Outcome). byBook 1 x (byBook 2 (byRuns t (max a b)) (Compared (laid s t)))) (sym e ∙ q)))
+      first-clashed {r} {i} e q = refused 1 r i (sym (rows-are ∙ ap (λ (x : Outcome). byBook 1 x (byBook 2 (byRuns t (max a b)) (Compared (consistent s t)))) (sym e ∙ q)))
 
       pub second-clashed :
           {r : Refusal} {i x y z : ℕ} {o u : Outcome} → o ≡ byRuns s (max a b) → o ≡ on.Accepted x y z → u ≡ byRuns t (max a b) → u ≡ on.Refused r i
           → Judged s t cs out (Refused 2 r i) out
       unfolding byBook
-      second-clashed {r} {i} e q f p = refused 2 r i (sym (rows-are ∙ ap₂ (λ (x y : Outcome). byBook 1 x (byBook 2 y (Compared (laid s t)))) (sym e ∙ q) (sym f ∙ p)))
+      second-clashed {r} {i} e q f p = refused 2 r i (sym (rows-are ∙ ap₂ (λ (x y : Outcome). byBook 1 x (byBook 2 y (Compared (consistent s t)))) (sym e ∙ q) (sym f ∙ p)))
 
       pub both-judged :
           {x y z u v w : ℕ} {o p : Outcome} (ours theirs out′ : List ℕ) (c : Bool) → Answered s (max a b) cs o ours → Answered t (max a b) cs p theirs
@@ -209,7 +209,7 @@ module _ (s t cs out : List ℕ) where
           let ours-are = A .answers-are _ _ _ q in
           let theirs-are = B .answers-are _ _ _ r in (
             sym
-                (rows-are ∙ ap₂ (λ (x y : Outcome). byBook 1 x (byBook 2 y (Compared (laid s t)))) (sym (A .outcome-is) ∙ q) (sym (B .outcome-is) ∙ r)
+                (rows-are ∙ ap₂ (λ (x y : Outcome). byBook 1 x (byBook 2 y (Compared (consistent s t)))) (sym (A .outcome-is) ∙ q) (sym (B .outcome-is) ∙ r)
                 ∙ ap Compared (sym (d ∙ laid-is s t a b first second))),
             e
                 ∙ ap₂ (λ (x y : List ℕ). front (threes (λ i. getD x i 0) (λ i. getD y i 0) (length x)) out) ours-are theirs-are

@@ -11,7 +11,7 @@ use Rattle.records.specs.Check.{claimsCheck}
 use Rattle.records.specs.declared.Refusal.the-variants.{ShortBuffer}
 use Rattle.records.specs.declared.ClaimsCheck.{ClaimsCheck}
 use Rattle.records.specs.declared.ClaimsCheck.the-variants as claims
-use Rattle.compare.specs.Joint.{pieces, laid}
+use Rattle.compare.specs.Joint.{pieces, consistent}
 use Rattle.outcomes.specs.Fresh.{freshCall}
 use Rattle.outcomes.specs.declared.Outcome.{Outcome}
 use Rattle.outcomes.specs.declared.Outcome.the-variants as on
@@ -32,7 +32,7 @@ byClaims b (claims.Refused r i) = Refused 0 r i
 byClaims b claims.Accepted = Compared b
 
 unfoldable pub byRows : List ℕ → List ℕ → List ℕ → Comparison
-byRows s t cs = byBook 1 (freshCall s []) (byBook 2 (freshCall t []) (byClaims (laid s t) (claimsCheck (pieces s t) cs)))
+byRows s t cs = byBook 1 (freshCall s []) (byBook 2 (freshCall t []) (byClaims (consistent s t) (claimsCheck (pieces s t) cs)))
 
 -- of two books, claims and so many bytes of output
 unfoldable pub outcome : List ℕ → List ℕ → List ℕ → ℕ → Comparison

@@ -28,8 +28,8 @@ unfoldable pub jointRun : List ℕ → List ℕ → List ℕ
 jointRun s t = s ++ kept (λ r. not (has s r)) t
 
 -- they can be laid: their facts are not contradictory with the marks of both
-unfoldable pub laid : List ℕ → List ℕ → Bool
-laid s t = not (clash (marked (jointRun s t)) (pieces s t) (facts (jointRun s t)))
+unfoldable pub consistent : List ℕ → List ℕ → Bool
+consistent s t = not (clash (marked (jointRun s t)) (pieces s t) (facts (jointRun s t)))
 
 -- a piece that one of the two marks
 abbrev pub eitherMarked : List ℕ → List ℕ → ℕ → Bool

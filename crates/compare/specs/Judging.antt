@@ -17,7 +17,7 @@ use Rattle.compare.specs.declared.Comparison.{Comparison}
 use Rattle.compare.specs.Call.{byRows, left}
 
 -- a run about n pieces that can be settled, and whose marks fit
-pub record Layable (run : List ℕ) (n : ℕ) : Type 0 where
+pub record Judgeable (run : List ℕ) (n : ℕ) : Type 0 where
   pub settleable : Settleable n run 4608 2304 16384 2048
   pub markable : Markable run
 

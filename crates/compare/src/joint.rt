@@ -7,6 +7,9 @@ ghost use Rattle.lists.specs.Front.{front};
 ghost use Rattle.compare.specs.Agreement.{agreement, threes};
 ghost use Rattle.compare.specs.Together.{Joins};
 
+// The records of two books.
+pub const JOINT_BYTES: usize = 98304;
+
 // 1 for the same answer, 2 where one alone is open, 3 for opposite ones.
 fn agreement_of(x: u8, y: u8) -> u8
     ensures { λ r. ⌜ r ≡ agreement x y ⌝ }
@@ -56,13 +59,13 @@ fn copy(s: &[u8], at: usize, run: &mut [u8])
 
 // The second book behind the first, where both are as short as a book is, and how many bytes they have. A shared record stands twice, which says no more
 // than once.
-pub fn join(first: &[u8], second: &[u8], run: &mut [u8; 98304]) -> usize
+pub fn join(first: &[u8], second: &[u8], run: &mut [u8; JOINT_BYTES]) -> usize
     ensures { λ r. ⌜ Joins (now (first .entry)) (now (second .entry)) (now (run .exit)) r ⌝ }
 {
-    if 49152 < first.len() {
+    if records::BOOK_BYTES < first.len() {
         return 0;
     }
-    if 49152 < second.len() {
+    if records::BOOK_BYTES < second.len() {
         return 0;
     }
     let at = first.len();

@@ -12,7 +12,8 @@ ghost use Rattle.compare.specs.Together.{Together};
 ghost use Rattle.outcomes.specs.Fresh.{freshCall};
 ghost use Rattle.compare.specs.Call.{byBook, Determined};
 ghost use Rattle.compare.specs.Demands.{Demanded};
-ghost use Rattle.compare.specs.Judging.{Layable, Answerable, Answered, Sound, Ready, Judged};
+ghost use Rattle.compare.specs.Judging.{Judgeable, Answerable, Answered, Sound, Ready, Judged};
+use matrices::Matrix;
 use outcomes::Outcome;
 use records::BookCheck;
 use records::ClaimsCheck;
@@ -27,14 +28,8 @@ pub enum Comparison {
 }
 
 // Whether the records of a run can be laid in ice, all its marks counting. The matrices are scratch.
-fn can_be_laid(
-    run: &[u8],
-    n: usize,
-    e: &mut [u64; 65536],
-    d: &mut [u64; 65536],
-    t: &mut [u64; 65536],
-) -> bool
-    requires { ⌜ Layable (now run) n ⌝ }
+fn are_consistent(run: &[u8], n: usize, e: &mut Matrix, d: &mut Matrix, t: &mut Matrix) -> bool
+    requires { ⌜ Judgeable (now run) n ⌝ }
     ensures { λ r. ⌜ r ≡ not (clash (marked (now (run .entry))) n (facts (now (run .entry)))) ⌝ }
 {
     let mut voids = [0u64; 32];
@@ -47,21 +42,21 @@ fn answer_book(
     book: &[u8],
     n: usize,
     claims: &[u8],
-    e: &mut [u64; 65536],
-    d: &mut [u64; 65536],
-    t: &mut [u64; 65536],
-    u: &mut [u64; 65536],
-    p: &mut [u64; 65536],
-    q: &mut [u64; 65536],
+    e: &mut Matrix,
+    d: &mut Matrix,
+    t: &mut Matrix,
+    u: &mut Matrix,
+    p: &mut Matrix,
+    q: &mut Matrix,
     answers: &mut [u8],
 ) -> Outcome
     requires { ⌜ Answerable (now book) n (now claims) (length (now answers)) ⌝ }
     ensures { λ r. ⌜ Answered (now (book .entry)) n (now (claims .entry)) r (now (answers .exit)) ⌝ }
 {
-    let mut parens = [0u8; 2560];
-    let mut marks = [0u8; 1280];
-    let mut shadows = [0u16; 8192];
-    let mut places = [0u16; 2048];
+    let mut parens = [0u8; index::PARENTHESES_BYTES];
+    let mut marks = [0u8; index::MARKS_BYTES];
+    let mut shadows = [0u16; index::SHADOWS];
+    let mut places = [0u16; index::PLACES];
     answers::judge_in(
         book,
         n,
@@ -92,12 +87,12 @@ fn judge_both(
     ours: &mut [u8],
     theirs: &mut [u8],
     out: &mut [u8],
-    e: &mut [u64; 65536],
-    d: &mut [u64; 65536],
-    t: &mut [u64; 65536],
-    u: &mut [u64; 65536],
-    p: &mut [u64; 65536],
-    q: &mut [u64; 65536],
+    e: &mut Matrix,
+    d: &mut Matrix,
+    t: &mut Matrix,
+    u: &mut Matrix,
+    p: &mut Matrix,
+    q: &mut Matrix,
 ) -> Comparison
     requires { ⌜ Ready (now first) own (now second) count (now run) (now claims) (length (now out)) × (length (now ours) ≡ records (now claims)) × (length (now theirs) ≡ records (now claims)) ⌝ }
     ensures { λ r. ⌜ Judged (now (first .entry)) (now (second .entry)) (now (claims .entry)) (now (out .entry)) r (now (out .exit)) ⌝ }
@@ -111,9 +106,9 @@ fn judge_both(
     if let Outcome::Refused(refusal, place) = two {
         return Comparison::Refused(2, refusal, place);
     }
-    let laid = can_be_laid(run, n, e, d, t);
+    let consistent = are_consistent(run, n, e, d, t);
     joint::write_answers(ours, theirs, out);
-    Comparison::Compared(laid)
+    Comparison::Compared(consistent)
 }
 
 // The refusal of a book by a fresh call, or what comes after it.
@@ -121,12 +116,12 @@ fn after(
     k: usize,
     book: &[u8],
     rest: Comparison,
-    e: &mut [u64; 65536],
-    d: &mut [u64; 65536],
-    t: &mut [u64; 65536],
-    u: &mut [u64; 65536],
-    p: &mut [u64; 65536],
-    q: &mut [u64; 65536],
+    e: &mut Matrix,
+    d: &mut Matrix,
+    t: &mut Matrix,
+    u: &mut Matrix,
+    p: &mut Matrix,
+    q: &mut Matrix,
 ) -> Comparison
     ensures { λ r. ⌜ r ≡ byBook k (freshCall (now (book .entry)) []) rest ⌝ }
 {
@@ -146,12 +141,12 @@ fn check_asked(
     run: &[u8],
     claims: &[u8],
     out: &mut [u8],
-    e: &mut [u64; 65536],
-    d: &mut [u64; 65536],
-    t: &mut [u64; 65536],
-    u: &mut [u64; 65536],
-    p: &mut [u64; 65536],
-    q: &mut [u64; 65536],
+    e: &mut Matrix,
+    d: &mut Matrix,
+    t: &mut Matrix,
+    u: &mut Matrix,
+    p: &mut Matrix,
+    q: &mut Matrix,
 ) -> Comparison
     requires { ⌜ Sound (now first) own (now second) count (now run) (now claims) (length (now out)) ⌝ }
     ensures { λ r. ⌜ Judged (now (first .entry)) (now (second .entry)) (now (claims .entry)) (now (out .entry)) r (now (out .exit)) ⌝ }
@@ -173,9 +168,9 @@ fn check_asked(
             after(1, first, rest, e, d, t, u, p, q)
         }
         ClaimsCheck::Accepted => {
-            let asked = claims.len() / 6;
-            let mut ours = [0u8; 4096];
-            let mut theirs = [0u8; 4096];
+            let asked = claims.len() / records::RECORD_BYTES;
+            let mut ours = [0u8; records::CLAIMS];
+            let mut theirs = [0u8; records::CLAIMS];
             judge_both(
                 first,
                 own,
@@ -204,12 +199,12 @@ fn check_books(
     run: &[u8],
     claims: &[u8],
     out: &mut [u8],
-    e: &mut [u64; 65536],
-    d: &mut [u64; 65536],
-    t: &mut [u64; 65536],
-    u: &mut [u64; 65536],
-    p: &mut [u64; 65536],
-    q: &mut [u64; 65536],
+    e: &mut Matrix,
+    d: &mut Matrix,
+    t: &mut Matrix,
+    u: &mut Matrix,
+    p: &mut Matrix,
+    q: &mut Matrix,
 ) -> Comparison
     requires { ⌜ Together (now first) (now second) (now run) × (3 * records (now claims) ≤ length (now out)) ⌝ }
     ensures { λ r. ⌜ Judged (now (first .entry)) (now (second .entry)) (now (claims .entry)) (now (out .entry)) r (now (out .exit)) ⌝ }
@@ -261,21 +256,21 @@ pub fn compare(
     second: &[u8],
     claims: &[u8],
     out: &mut [u8],
-    e: &mut [u64; 65536],
-    d: &mut [u64; 65536],
-    t: &mut [u64; 65536],
-    u: &mut [u64; 65536],
-    p: &mut [u64; 65536],
-    q: &mut [u64; 65536],
+    e: &mut Matrix,
+    d: &mut Matrix,
+    t: &mut Matrix,
+    u: &mut Matrix,
+    p: &mut Matrix,
+    q: &mut Matrix,
 ) -> Comparison
     ensures determined { λ r. ⌜ Determined (now (first .entry)) (now (second .entry)) (now (claims .entry)) (now (out .entry)) r (now (out .exit)) ⌝ }
     ensures demanded { λ r. ⌜ Demanded (now (first .entry)) (now (second .entry)) (now (claims .entry)) (length (now (out .entry))) (now (out .exit)) r ⌝ }
 {
-    let asked = claims.len() / 6;
+    let asked = claims.len() / records::RECORD_BYTES;
     if out.len() < 3 * asked {
         return Comparison::Refused(0, Refusal::ShortBuffer, 0);
     }
-    let mut run = [0u8; 98304];
+    let mut run = [0u8; joint::JOINT_BYTES];
     let end = joint::join(first, second, &mut run);
     check_books(first, second, &run[..end], claims, out, e, d, t, u, p, q)
 }

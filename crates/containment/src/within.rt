@@ -5,8 +5,15 @@ ghost use lib.ListN.{length, getD};
 ghost use Rattle.containment.specs.Filling.{Setting, Leads, Seeded, Fillable, From, All, Filled, FilledTo, Ready};
 ghost use Rattle.containment.specs.Contents.{Stored, Contents};
 ghost use Rattle.matrices.specs.Led.{Led};
+ghost use Rattle.matrices.specs.Matrix.{IsMatrix};
 use index::DatasetId;
 use index::TreeId;
+
+// How many nodes a tree has that is cheaper with short tables.
+const SMALL_TREE: usize = 512;
+
+// How many nodes the tree of two books' records has at most: one for each piece, and a shadow for each record.
+const JOINT_NODES: usize = 18432;
 
 // The leader of the pieces at a place: `turned` is the place list turned round, with the shadows put in.
 fn piece_at(turned: &[u16], q: TreeId) -> DatasetId
@@ -21,7 +28,7 @@ fn piece_at(turned: &[u16], q: TreeId) -> DatasetId
 // pieces that follow h are there. A part that hangs as a shadow is the one that the shadow stands for, so containment calls itself
 // through shadow targets. Levels rise from container to part, and a row that is filled is filled for good.
 fn fill(places: &[u16], ends: &[u16], turned: &[u16], rows: &mut [u64], h: DatasetId)
-    requires { ⌜ (length (now rows) ≡ 65536) × Fillable (now places) (now ends) (now turned) (now rows) (h .0) ⌝ }
+    requires { ⌜ (IsMatrix (now rows)) × Fillable (now places) (now ends) (now turned) (now rows) (h .0) ⌝ }
     ensures { λ _. ⌜ ((s : Setting (now (places .entry)) (now (ends .entry)) (now (turned .entry))) → From s (now (rows .entry)) (h .0) → h .0 < s .n → s .leader (s .number (h .0)) ≡ h .0 → Filled s (now (rows .entry)) (now (rows .exit)) (h .0)) ⌝ }
 {
     let x = h.0;
@@ -51,7 +58,7 @@ fn end_at(ends: &[u16], q: TreeId) -> TreeId
 
 // Puts each piece below n that follows another into that one's row, and clears every other bit of the rows below n.
 fn seed(n: usize, lead: &[u16], rows: &mut [u64])
-    requires { ⌜ (n ≤ 2048) × (length (now rows) ≡ 65536) × Led n (now lead) ⌝ }
+    requires { ⌜ (n ≤ 2048) × (IsMatrix (now rows)) × Led n (now lead) ⌝ }
     ensures { λ _. ⌜ Seeded n n (now (lead .entry)) (now (rows .exit)) ⌝ }
 {
     matrices::clear_rows(rows, n);
@@ -69,7 +76,7 @@ fn seed(n: usize, lead: &[u16], rows: &mut [u64])
 
 // Fills the row of the leader of each piece below n.
 fn fill_all(n: usize, places: &[u16], ends: &[u16], turned: &[u16], lead: &[u16], rows: &mut [u64])
-    requires { ⌜ (length (now rows) ≡ 65536) × Ready n (now places) (now ends) (now turned) (now lead) (now rows) ⌝ }
+    requires { ⌜ (IsMatrix (now rows)) × Ready n (now places) (now ends) (now turned) (now lead) (now rows) ⌝ }
     ensures { λ _. ⌜ ((s : Setting (now (places .entry)) (now (ends .entry)) (now (turned .entry))) → n ≡ s .n → Leads s (now (lead .entry)) → All s (now (rows .entry)) → FilledTo s (now (rows .exit)) n) ⌝ }
 {
     let mut g: usize = 0;
@@ -94,7 +101,7 @@ fn contents_by(
     ends: &mut [u16],
     turned: &mut [u16],
 )
-    requires { ⌜ (n ≤ 2048) × (nodes ≤ 18432) × (length (now rows) ≡ 65536) × Stored n nodes (now parens) (now marks) (now shadows) (now places) (now lead) × (nodes ≤ length (now ends)) × (nodes ≤ length (now turned)) ⌝ }
+    requires { ⌜ (n ≤ 2048) × (nodes ≤ 18432) × (IsMatrix (now rows)) × Stored n nodes (now parens) (now marks) (now shadows) (now places) (now lead) × (nodes ≤ length (now ends)) × (nodes ≤ length (now turned)) ⌝ }
     ensures { λ _. ⌜ Contents n (now (parens .entry)) (now (marks .entry)) (now (shadows .entry)) (now (places .entry)) (now (rows .exit)) ⌝ }
 {
     let bytes = (nodes + 3) / 4;
@@ -117,12 +124,12 @@ pub fn contents(
     lead: &[u16],
     rows: &mut [u64],
 )
-    requires { ⌜ (n ≤ 2048) × (nodes ≤ 18432) × (length (now rows) ≡ 65536) × Stored n nodes (now parens) (now marks) (now shadows) (now places) (now lead) ⌝ }
+    requires { ⌜ (n ≤ 2048) × (nodes ≤ 18432) × (IsMatrix (now rows)) × Stored n nodes (now parens) (now marks) (now shadows) (now places) (now lead) ⌝ }
     ensures { λ _. ⌜ Contents n (now (parens .entry)) (now (marks .entry)) (now (shadows .entry)) (now (places .entry)) (now (rows .exit)) ⌝ }
 {
-    if nodes <= 512 {
-        let mut ends = [0u16; 512];
-        let mut turned = [0u16; 512];
+    if nodes <= SMALL_TREE {
+        let mut ends = [0u16; SMALL_TREE];
+        let mut turned = [0u16; SMALL_TREE];
         contents_by(
             n,
             nodes,
@@ -137,8 +144,8 @@ pub fn contents(
         );
         return;
     }
-    let mut ends = [0u16; 18432];
-    let mut turned = [0u16; 18432];
+    let mut ends = [0u16; JOINT_NODES];
+    let mut turned = [0u16; JOINT_NODES];
     contents_by(
         n,
         nodes,

@@ -14,15 +14,17 @@ ghost use Rattle.records.specs.PartIn.{partIn};
 ghost use Rattle.contradiction.specs.Numbered.{Numbered};
 ghost use Rattle.contradiction.specs.Opened.{Opened};
 ghost use Rattle.contradiction.specs.Settleable.{Settleable, Sizes};
+use matrices::Matrix;
+use matrices::RowNumbers;
 
 // The groups of the run's pieces: the number of each piece's, its leader, and an order of the pieces. e is scratch.
 fn grouped(
     run: &[u8],
     n: usize,
-    e: &mut [u64; 65536],
-    number: &mut [u16; 2048],
-    lead: &mut [u16; 2048],
-    order: &mut [u16; 2048],
+    e: &mut Matrix,
+    number: &mut RowNumbers,
+    lead: &mut RowNumbers,
+    order: &mut RowNumbers,
 ) -> usize
     requires { ⌜ Bounded n (facts (now run)) ⌝ }
     ensures { λ r. ⌜ Grouped n (partIn (facts (now (run .entry)))) (now (number .exit)) (now (lead .exit)) (now (order .exit)) r ⌝ }
@@ -36,8 +38,8 @@ fn index_of(
     run: &[u8],
     n: usize,
     count: usize,
-    number: &[u16; 2048],
-    x: &mut [u64; 65536],
+    number: &RowNumbers,
+    x: &mut Matrix,
     parens: &mut [u8],
     marks: &mut [u8],
     shadows: &mut [u16],
@@ -46,7 +48,7 @@ fn index_of(
     requires { ⌜ Bounded n (facts (now run)) × Numbered n (facts (now run)) (now number) count × Roomy n (length (now run) / 6) (length (now parens)) (length (now marks)) (length (now shadows)) (length (now places)) ⌝ }
     ensures { λ r. ⌜ BookIndex n (partIn (facts (now (run .entry)))) (now (parens .exit)) (now (marks .exit)) (now (shadows .exit)) (now (places .exit)) (r .nodes) (r .shadows) ⌝ }
 {
-    let mut groups = [0u16; 2048];
+    let mut groups = [0u16; matrices::ROWS];
     closure::step_stored(run, number, n, x);
     let counts = index::build(count, x, parens, marks, shadows, &mut groups);
     index::place_members(n, number, &groups, places);
@@ -65,11 +67,11 @@ pub fn begin(
     run: &[u8],
     n: usize,
     voids: &[u64],
-    e: &mut [u64; 65536],
-    order: &mut [u16; 2048],
-    lead: &mut [u16; 2048],
-    d: &mut [u64; 65536],
-    t: &mut [u64; 65536],
+    e: &mut Matrix,
+    order: &mut RowNumbers,
+    lead: &mut RowNumbers,
+    d: &mut Matrix,
+    t: &mut Matrix,
     parens: &mut [u8],
     marks: &mut [u8],
     shadows: &mut [u16],
@@ -78,7 +80,7 @@ pub fn begin(
     requires { ⌜ Settleable n (now run) (length (now parens)) (length (now marks)) (length (now shadows)) (length (now places)) × Voids (now voids) ⌝ }
     ensures { λ r. ⌜ Opened (voidOf (now (voids .entry))) n (facts (now (run .entry))) (now (d .exit)) (now (t .exit)) (r .clash) × Stepped n (facts (now (run .entry))) (now (e .exit)) (now (order .exit)) (now (lead .exit)) × BookIndex n (partIn (facts (now (run .entry)))) (now (parens .exit)) (now (marks .exit)) (now (shadows .exit)) (now (places .exit)) (r .nodes) (r .shadows) ⌝ }
 {
-    let mut number = [0u16; 2048];
+    let mut number = [0u16; matrices::ROWS];
     let count = grouped(run, n, e, &mut number, lead, order);
     let counts = index_of(run, n, count, &number, t, parens, marks, shadows, places);
     let nodes = counts.nodes;
@@ -98,19 +100,19 @@ pub fn begin_alone(
     run: &[u8],
     n: usize,
     voids: &[u64],
-    e: &mut [u64; 65536],
-    order: &mut [u16; 2048],
-    lead: &mut [u16; 2048],
-    d: &mut [u64; 65536],
-    t: &mut [u64; 65536],
+    e: &mut Matrix,
+    order: &mut RowNumbers,
+    lead: &mut RowNumbers,
+    d: &mut Matrix,
+    t: &mut Matrix,
 ) -> Begun
     requires { ⌜ Settleable n (now run) 4608 2304 16384 2048 × Voids (now voids) ⌝ }
     ensures { λ r. ⌜ Opened (voidOf (now (voids .entry))) n (facts (now (run .entry))) (now (d .exit)) (now (t .exit)) (r .clash) × Stepped n (facts (now (run .entry))) (now (e .exit)) (now (order .exit)) (now (lead .exit)) × Sizes n (now (run .entry)) (r .nodes) (r .shadows) ⌝ }
 {
     let mut parens = [0u8; 4608];
     let mut marks = [0u8; 2304];
-    let mut shadows = [0u16; 16384];
-    let mut places = [0u16; 2048];
+    let mut shadows = [0u16; 2 * index::SHADOWS];
+    let mut places = [0u16; index::PLACES];
     begin(
         run,
         n,
@@ -132,15 +134,15 @@ pub fn contradicts(
     run: &[u8],
     n: usize,
     voids: &[u64],
-    e: &mut [u64; 65536],
-    d: &mut [u64; 65536],
-    t: &mut [u64; 65536],
+    e: &mut Matrix,
+    d: &mut Matrix,
+    t: &mut Matrix,
 ) -> bool
     requires { ⌜ Settleable n (now run) 4608 2304 16384 2048 × Voids (now voids) ⌝ }
     ensures { λ r. ⌜ r ≡ clash (voidOf (now (voids .entry))) n (facts (now (run .entry))) ⌝ }
 {
-    let mut order = [0u16; 2048];
-    let mut lead = [0u16; 2048];
+    let mut order = [0u16; matrices::ROWS];
+    let mut lead = [0u16; matrices::ROWS];
     let begun = begin_alone(run, n, voids, e, &mut order, &mut lead, d, t);
     begun.clash
 }

@@ -10,6 +10,8 @@ ghost use Rattle.closure.specs.Void.{voidOf, Voids};
 ghost use Rattle.contradiction.specs.Settleable.{Settleable};
 ghost use Rattle.contradiction.specs.Settled.{Settles, Steps, Sized, Indexes};
 use crate::opening;
+use matrices::Matrix;
+use matrices::RowNumbers;
 
 // The place of the contradiction in a contradictory book: the last record of the shortest contradictory run from the start, found by halving, since
 // contradiction only grows with the run. The matrices are scratch.
@@ -17,15 +19,15 @@ fn contradiction(
     book: &[u8],
     n: usize,
     voids: &[u64],
-    e: &mut [u64; 65536],
-    d: &mut [u64; 65536],
-    t: &mut [u64; 65536],
+    e: &mut Matrix,
+    d: &mut Matrix,
+    t: &mut Matrix,
 ) -> usize
     requires { ⌜ Settleable n (now book) 4608 2304 16384 2048 × Voids (now voids) × (clash (voidOf (now voids)) n (facts (now book)) ≡ true) ⌝ }
     ensures { λ r. ⌜ r + 1 ≡ shortestClash (voidOf (now (voids .entry))) n (entries (now (book .entry))) ⌝ }
 {
     let mut low: usize = 0;
-    let mut high = book.len() / 6;
+    let mut high = book.len() / records::RECORD_BYTES;
     while low + 1 < high {
         let mid = (low + high) / 2;
         let end = 6 * mid;
@@ -49,11 +51,11 @@ pub fn settle(
     run: &[u8],
     n: usize,
     voids: &[u64],
-    e: &mut [u64; 65536],
-    order: &mut [u16; 2048],
-    lead: &mut [u16; 2048],
-    d: &mut [u64; 65536],
-    t: &mut [u64; 65536],
+    e: &mut Matrix,
+    order: &mut RowNumbers,
+    lead: &mut RowNumbers,
+    d: &mut Matrix,
+    t: &mut Matrix,
     parens: &mut [u8],
     marks: &mut [u8],
     shadows: &mut [u16],
@@ -87,11 +89,11 @@ pub fn settle_alone(
     run: &[u8],
     n: usize,
     voids: &[u64],
-    e: &mut [u64; 65536],
-    order: &mut [u16; 2048],
-    lead: &mut [u16; 2048],
-    d: &mut [u64; 65536],
-    t: &mut [u64; 65536],
+    e: &mut Matrix,
+    order: &mut RowNumbers,
+    lead: &mut RowNumbers,
+    d: &mut Matrix,
+    t: &mut Matrix,
 ) -> Settled
     requires { ⌜ Settleable n (now run) 4608 2304 16384 2048 × Voids (now voids) ⌝ }
     ensures { λ r. ⌜ Settles (voidOf (now (voids .entry))) n (now (run .entry)) (now (d .exit)) (now (t .exit)) r × Steps n (now (run .entry)) (now (e .exit)) (now (order .exit)) (now (lead .exit)) r × Sized n (now (run .entry)) r ⌝ }

@@ -8,6 +8,7 @@ ghost use Rattle.convert.specs.Conversion.{number, Determined};
 ghost use Rattle.convert.specs.Same.{InForce, SameAnswers};
 ghost use Rattle.convert.specs.Writing.{FormerBook, Judged, Room};
 use contradiction::Settled;
+use matrices::Matrix;
 use records::BookCheck;
 use records::Refusal;
 
@@ -22,12 +23,12 @@ fn drop_trays(book: &[u8], out: &mut [u8]) -> usize
     requires { ⌜ length (now book) ≤ length (now out) ⌝ }
     ensures { λ r. ⌜ (r ≡ length (noTrays (now (book .entry)))) × (now (out .exit) ≡ front (noTrays (now (book .entry))) (now (out .entry))) ⌝ }
 {
-    let n = book.len() / 6;
+    let n = book.len() / records::RECORD_BYTES;
     let mut at: usize = 0;
     let mut i: usize = 0;
     while i < n {
         let r = records::record_at(book, i);
-        at = records::copy_where(r.kind != 5, book, i, out, at);
+        at = records::copy_where(r.kind != records::TRAY, book, i, out, at);
         i += 1;
     }
     at
@@ -47,19 +48,13 @@ fn write_book(book: &[u8], n: usize, out: &mut [u8]) -> usize
 }
 
 // Row 14 of a book of the former edition, which has no marks.
-fn settle(
-    book: &[u8],
-    n: usize,
-    e: &mut [u64; 65536],
-    d: &mut [u64; 65536],
-    t: &mut [u64; 65536],
-) -> Settled
+fn settle(book: &[u8], n: usize, e: &mut Matrix, d: &mut Matrix, t: &mut Matrix) -> Settled
     requires { ⌜ FormerBook (now book) n ⌝ }
     ensures { λ r. ⌜ Judged (now (book .entry)) n r ⌝ }
 {
     let voids = [0u64; 32];
-    let mut order = [0u16; 2048];
-    let mut lead = [0u16; 2048];
+    let mut order = [0u16; matrices::ROWS];
+    let mut lead = [0u16; matrices::ROWS];
     contradiction::settle_alone(book, n, &voids, e, &mut order, &mut lead, d, t)
 }
 
@@ -67,9 +62,9 @@ fn settle(
 pub fn convert(
     book: &[u8],
     out: &mut [u8],
-    e: &mut [u64; 65536],
-    d: &mut [u64; 65536],
-    t: &mut [u64; 65536],
+    e: &mut Matrix,
+    d: &mut Matrix,
+    t: &mut Matrix,
 ) -> Conversion
     ensures determined { λ r. ⌜ Determined (now (book .entry)) (now (out .entry)) r (now (out .exit)) ⌝ }
     ensures accepted { λ r. ⌜ (number r ≡ 0 → InForce (now (book .entry)) (converted (now (book .entry)))) ⌝ }

@@ -8,8 +8,12 @@ ghost use Rattle.records.specs.Facts.{facts};
 ghost use Rattle.records.specs.Kept.{picked};
 ghost use Rattle.derivations.specs.Queue.{Queue, Spread, Hopped};
 ghost use Rattle.derivations.specs.Sources.{Sources};
+ghost use Rattle.matrices.specs.Matrix.{IsMatrix};
 use crate::writing::wide;
 use records::Record;
+
+// What stands for no record in a list of records.
+pub const NO_RECORD: usize = 65535;
 
 fn narrow(x: usize) -> u16
     requires { ⌜ x < 65536 ⌝ }
@@ -27,14 +31,14 @@ fn spread(
     order: &mut [u16],
     tail: usize,
 ) -> usize
-    requires { ⌜ (length (now e) ≡ 65536) × (head < tail) × Queue n (now e) (now hop) (now order) tail ⌝ }
+    requires { ⌜ (IsMatrix (now e)) × (head < tail) × Queue n (now e) (now hop) (now order) tail ⌝ }
     ensures { λ r. ⌜ Spread n (now (e .entry)) (getD (now (order .entry)) head 0) (now (hop .entry)) (now (order .entry)) tail (now (hop .exit)) (now (order .exit)) r ⌝ }
 {
     let c = wide(order[head]);
     let mut end = tail;
     let mut p = matrices::next_bit(e, c, 0);
     while p < n {
-        if hop[p] != 2048 {
+        if hop[p] != index::NONE {
             p = matrices::next_bit(e, c, p + 1);
             continue;
         }
@@ -48,10 +52,10 @@ fn spread(
 
 // The hops towards k along the steps in the matrix e: bit x of row y for "x is part of y".
 pub fn find_hops(k: usize, n: usize, e: &[u64], hop: &mut [u16], order: &mut [u16])
-    requires { ⌜ (length (now e) ≡ 65536) × (n ≤ 2048) × (k < n) × (length (now hop) ≡ 2048) × (length (now order) ≡ 2048) ⌝ }
+    requires { ⌜ (IsMatrix (now e)) × (n ≤ 2048) × (k < n) × (length (now hop) ≡ 2048) × (length (now order) ≡ 2048) ⌝ }
     ensures { λ _. ⌜ Hopped n (now (e .entry)) k (now (hop .exit)) ⌝ }
 {
-    index::fill(hop, 2048);
+    index::fill(hop, index::NONE);
     hop[k] = narrow(k);
     order[0] = narrow(k);
     let mut head: usize = 0;
@@ -68,11 +72,11 @@ pub fn find_sources(claim: Record, book: &[u8], hop: &[u16], source: &mut [u16])
     ensures { λ _. ⌜ Sources claim (now (book .entry)) (now (hop .entry)) (records (now (book .entry))) (now (source .exit)) ⌝ }
 {
     index::fill(source, 65535);
-    let m = book.len() / 6;
+    let m = book.len() / records::RECORD_BYTES;
     let mut i: usize = 0;
     while i < m {
         let r = records::record_at(book, i);
-        if r.kind != 1 {
+        if r.kind != records::PART {
             i += 1;
             continue;
         }

@@ -36,8 +36,8 @@ fn chain_part(
             c,
             0,
             Step {
-                rule: 11,
-                kind: 1,
+                rule: chain_format::RULE_E,
+                kind: records::PART,
                 a,
                 b,
                 first: i,
@@ -62,8 +62,8 @@ fn void_step(book: &[u8], g: usize, a: usize, b: usize, c: &mut [u8]) -> usize
         c,
         0,
         Step {
-            rule: 10,
-            kind: 2,
+            rule: chain_format::RULE_D,
+            kind: records::APART,
             a,
             b,
             first: i,
@@ -96,7 +96,7 @@ fn chain_apart(
         return void_step(book, b, a, b, c);
     }
     let i = crate::search::find_record(Aim::Apart, claim, book, d, t, a, b);
-    if book.len() / 6 <= i {
+    if book.len() / records::RECORD_BYTES <= i {
         return 0;
     }
     let w = crate::search::cite_record(Aim::Apart, n, claim, book, voids, e, d, t, a, b, i);
@@ -149,8 +149,8 @@ fn chain_outside_void(
         c,
         0,
         Step {
-            rule: 9,
-            kind: 3,
+            rule: chain_format::RULE_E_PRIME,
+            kind: records::MEETS,
             a,
             b: a,
             first: 0,
@@ -161,8 +161,8 @@ fn chain_outside_void(
         c,
         1,
         Step {
-            rule: 10,
-            kind: 2,
+            rule: chain_format::RULE_D,
+            kind: records::APART,
             a: b,
             b: a,
             first: i,
@@ -173,8 +173,8 @@ fn chain_outside_void(
         c,
         2,
         Step {
-            rule: 8,
-            kind: 4,
+            rule: chain_format::RULE_D_PRIME,
+            kind: records::NOTPART,
             a,
             b,
             first: 0,
@@ -247,7 +247,7 @@ fn chain_notpart(
     if verdicts::marks_tell(4, a, b, voids) {
         return chain_outside_void(n, claim, book, voids, e, d, t, a, b, c);
     }
-    let m = book.len() / 6;
+    let m = book.len() / records::RECORD_BYTES;
     let i = crate::search::find_record(Aim::NotPart, claim, book, d, t, a, b);
     if i < m {
         let w = crate::search::cite_record(Aim::NotPart, n, claim, book, voids, e, d, t, a, b, i);
@@ -278,13 +278,13 @@ pub fn chain_for(
     requires { ⌜ Ground n claim (now book) (now voids) (now e) (now d) (now t) × (a < n) × (b < n) × (164000 ≤ length (now c)) ⌝ }
     ensures { λ r. ⌜ Chained n claim (now (book .entry)) (fact.factOf kind a b) (now (c .entry)) (now (c .exit)) r ⌝ }
 {
-    if kind == 1 {
+    if kind == records::PART {
         return chain_part(n, claim, book, voids, e, d, t, a, b, c);
     }
-    if kind == 2 {
+    if kind == records::APART {
         return chain_apart(n, claim, book, voids, e, d, t, a, b, c);
     }
-    if kind == 3 {
+    if kind == records::MEETS {
         return chain_meets(n, claim, book, voids, e, d, t, a, b, c);
     }
     chain_notpart(n, claim, book, voids, e, d, t, a, b, c)

@@ -3,7 +3,7 @@ ghost use mathlib.Core.Path.{_≡_};
 ghost use mathlib.Core.Bool.{true, false, not, _&&_};
 ghost use Prim.Native.Nat.{_+_, _<_, _≤_};
 ghost use lib.ListN.{length};
-ghost use Rattle.matrices.specs.Matrix.{bitOf};
+ghost use Rattle.matrices.specs.Matrix.{bitOf, IsMatrix};
 ghost use Rattle.rules.specs.Fact.{AllWithin};
 ghost use Rattle.records.specs.Record.{recordAt, records};
 ghost use Rattle.records.specs.Facts.{facts};
@@ -46,7 +46,7 @@ pub struct Single {
 
 // Two bits of a matrix.
 fn both(d: &[u64], r: usize, i: usize, s: usize, j: usize) -> bool
-    requires { ⌜ (length (now d) ≡ 65536) × (r < 2048) × (i < 2048) × (s < 2048) × (j < 2048) ⌝ }
+    requires { ⌜ (IsMatrix (now d)) × (r < 2048) × (i < 2048) × (s < 2048) × (j < 2048) ⌝ }
     ensures { λ b. ⌜ b ≡ (bitOf (now (d .entry)) r i && bitOf (now (d .entry)) s j) ⌝ }
 {
     if !matrices::test(d, r, i) {
@@ -57,7 +57,7 @@ fn both(d: &[u64], r: usize, i: usize, s: usize, j: usize) -> bool
 
 // Whether the pieces x and y of a record lead to a fact about a and b.
 fn joins(aim: Aim, d: &[u64], t: &[u64], a: usize, b: usize, x: usize, y: usize) -> bool
-    requires { ⌜ (length (now d) ≡ 65536) × (length (now t) ≡ 65536) × (a < 2048) × (b < 2048) × (x < 2048) × (y < 2048) ⌝ }
+    requires { ⌜ (IsMatrix (now d)) × (IsMatrix (now t)) × (a < 2048) × (b < 2048) × (x < 2048) × (y < 2048) ⌝ }
     ensures { λ r. ⌜ r ≡ joining aim (now (d .entry)) (now (t .entry)) a b x y ⌝ }
 {
     match aim {
@@ -86,7 +86,7 @@ fn kind_for(aim: Aim) -> u8
 
 // Whether a record may be cited and leads to a fact about a and b.
 fn serves(aim: Aim, claim: Record, d: &[u64], t: &[u64], a: usize, b: usize, r: Record) -> bool
-    requires { ⌜ (length (now d) ≡ 65536) × (length (now t) ≡ 65536) × (a < 2048) × (b < 2048) × (1 ≤ r .kind → r .kind ≤ 4 → (r .a < 2048) × (r .b < 2048)) ⌝ }
+    requires { ⌜ (IsMatrix (now d)) × (IsMatrix (now t)) × (a < 2048) × (b < 2048) × (1 ≤ r .kind → r .kind ≤ 4 → (r .a < 2048) × (r .b < 2048)) ⌝ }
     ensures { λ x. ⌜ x ≡ serving aim claim (now (d .entry)) (now (t .entry)) a b r ⌝ }
 {
     if r.kind != kind_for(aim) {
@@ -98,7 +98,7 @@ fn serves(aim: Aim, claim: Record, d: &[u64], t: &[u64], a: usize, b: usize, r: 
     if joins(aim, d, t, a, b, r.a, r.b) {
         return true;
     }
-    if r.kind == 4 {
+    if r.kind == records::NOTPART {
         return false;
     }
     joins(aim, d, t, a, b, r.b, r.a)
@@ -114,10 +114,10 @@ pub fn find_record(
     a: usize,
     b: usize,
 ) -> usize
-    requires { ⌜ (length (now d) ≡ 65536) × (length (now t) ≡ 65536) × (a < 2048) × (b < 2048) × AllWithin 2048 (facts (now book)) ⌝ }
+    requires { ⌜ (IsMatrix (now d)) × (IsMatrix (now t)) × (a < 2048) × (b < 2048) × AllWithin 2048 (facts (now book)) ⌝ }
     ensures { λ r. ⌜ Found (λ i. serving aim claim (now (d .entry)) (now (t .entry)) a b (recordAt (now (book .entry)) i)) (records (now (book .entry))) r ⌝ }
 {
-    let m = book.len() / 6;
+    let m = book.len() / records::RECORD_BYTES;
     let mut i: usize = 0;
     while i < m {
         let r = records::record_at(book, i);
@@ -148,7 +148,7 @@ pub fn cite_record(
 {
     let r = records::record_at(book, i);
     let step = Step {
-        rule: 0,
+        rule: chain_format::STORED,
         kind: r.kind,
         a: r.a,
         b: r.b,
@@ -175,7 +175,7 @@ pub fn find_single(n: usize, claim: Record, book: &[u8], kind: u8, a: usize, b: 
     ensures { λ r. ⌜ Singly n (citing claim (now (book .entry))) kind a b r ⌝ }
 {
     let mut step = Step {
-        rule: 4,
+        rule: chain_format::RULE_F,
         kind,
         a,
         b,
@@ -185,11 +185,11 @@ pub fn find_single(n: usize, claim: Record, book: &[u8], kind: u8, a: usize, b: 
     if chain_format::shows(step, 1, a, 0) {
         return Single { found: true, step };
     }
-    let m = book.len() / 6;
+    let m = book.len() / records::RECORD_BYTES;
     let mut i: usize = 0;
     while i < m {
         step = Step {
-            rule: 0,
+            rule: chain_format::STORED,
             kind,
             a,
             b,
@@ -208,11 +208,11 @@ pub fn find_single(n: usize, claim: Record, book: &[u8], kind: u8, a: usize, b: 
 pub fn find_mark(book: &[u8], g: usize) -> usize
     ensures { λ r. ⌜ Found (λ i. marks g (recordAt (now (book .entry)) i)) (records (now (book .entry))) r ⌝ }
 {
-    let m = book.len() / 6;
+    let m = book.len() / records::RECORD_BYTES;
     let mut i: usize = 0;
     while i < m {
         let r = records::record_at(book, i);
-        if r.kind != 6 {
+        if r.kind != records::VOID {
             i += 1;
             continue;
         }
@@ -226,7 +226,7 @@ pub fn find_mark(book: &[u8], g: usize) -> usize
 
 // The first piece in both a and b that is not marked; n where there is none.
 fn find_common(n: usize, voids: &[u64], d: &[u64], a: usize, b: usize) -> usize
-    requires { ⌜ (n ≤ 2048) × (length (now voids) ≡ 32) × (length (now d) ≡ 65536) × (a < 2048) × (b < 2048) ⌝ }
+    requires { ⌜ (n ≤ 2048) × (length (now voids) ≡ 32) × (IsMatrix (now d)) × (a < 2048) × (b < 2048) ⌝ }
     ensures { λ r. ⌜ Found (λ x. not (voidOf (now (voids .entry)) x) && (bitOf (now (d .entry)) a x && bitOf (now (d .entry)) b x)) n r ⌝ }
 {
     let mut x: usize = 0;
@@ -248,8 +248,8 @@ fn meeting_in(g: usize) -> Meeting
     ensures { λ r. ⌜ r ≡ (record { found = true; step = record { rule = 9; kind = 3; a = g; b = g; first = 0; second = 0 }; x = g; y = g }) ⌝ }
 {
     let itself = Step {
-        rule: 9,
-        kind: 3,
+        rule: chain_format::RULE_E_PRIME,
+        kind: records::MEETS,
         a: g,
         b: g,
         first: 0,
@@ -268,7 +268,7 @@ fn no_meeting() -> Meeting
     ensures { λ r. ⌜ r .found ≡ false ⌝ }
 {
     let nothing = Step {
-        rule: 0,
+        rule: chain_format::STORED,
         kind: 0,
         a: 0,
         b: 0,
@@ -303,7 +303,7 @@ pub fn find_meeting(
         return meeting_in(g);
     }
     let i = find_record(Aim::Meets, claim, book, d, t, a, b);
-    if book.len() / 6 <= i {
+    if book.len() / records::RECORD_BYTES <= i {
         return no_meeting();
     }
     let w = cite_record(Aim::Meets, n, claim, book, voids, e, d, t, a, b, i);

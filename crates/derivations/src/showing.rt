@@ -6,7 +6,7 @@ ghost use lib.ListN.{length};
 ghost use Rattle.rules.specs.Fact as fact;
 ghost use Rattle.chain_format.specs.Citing.{citing};
 ghost use Rattle.chain_format.specs.Step.{shows};
-ghost use Rattle.matrices.specs.Matrix.{bitOf};
+ghost use Rattle.matrices.specs.Matrix.{bitOf, IsMatrix};
 ghost use Rattle.derivations.specs.Hops.{Reaches};
 ghost use Rattle.derivations.specs.Distinct.{Upward};
 ghost use Rattle.derivations.specs.Lifts.{Setting, Telling, Unmarked, Inside, Reached, Lifted, Grounded, Carried, Lifts, Spans, Outlies};
@@ -28,9 +28,9 @@ pub fn show_part(
     requires { ⌜ Setting n claim (now book) (now e) × (g < n) × (k < n) × Inside n claim (now book) g k × (164000 ≤ length (now c)) × (at + 4095 ≤ 16400) ⌝ }
     ensures { λ r. ⌜ Reached n claim (now (book .entry)) g k (now (c .entry)) at (now (c .exit)) r ⌝ }
 {
-    let mut hop = [0u16; 2048];
-    let mut order = [0u16; 2048];
-    let mut source = [0u16; 2048];
+    let mut hop = [0u16; matrices::ROWS];
+    let mut order = [0u16; matrices::ROWS];
+    let mut source = [0u16; matrices::ROWS];
     crate::hops::find_hops(k, n, e, &mut hop, &mut order);
     crate::hops::find_sources(claim, book, &hop, &mut source);
     crate::writing::write_part(g, k, &hop, &source, c, at)
@@ -134,16 +134,16 @@ pub fn show_apart(
     ensures { λ r. ⌜ Spans n claim (now (book .entry)) (fact.APART a b) 2 a x b y (now (c .entry)) at (now (c .exit)) r ⌝ }
 {
     let s = Step {
-        rule: 2,
-        kind: 2,
+        rule: chain_format::RULE_B,
+        kind: records::APART,
         a,
         b: y,
         first: 0,
         second: 0,
     };
     let t = Step {
-        rule: 2,
-        kind: 2,
+        rule: chain_format::RULE_B,
+        kind: records::APART,
         a,
         b,
         first: 0,
@@ -170,16 +170,16 @@ fn show_meets(
     ensures { λ r. ⌜ Spans n claim (now (book .entry)) (fact.MEETS a b) 3 x a y b (now (c .entry)) at (now (c .exit)) r ⌝ }
 {
     let s = Step {
-        rule: 7,
-        kind: 3,
+        rule: chain_format::RULE_C_PRIME,
+        kind: records::MEETS,
         a,
         b: y,
         first: 0,
         second: 0,
     };
     let t = Step {
-        rule: 7,
-        kind: 3,
+        rule: chain_format::RULE_C_PRIME,
+        kind: records::MEETS,
         a,
         b,
         first: 0,
@@ -201,8 +201,8 @@ fn rise(n: usize, hop: &[u16], source: &[u16], g: usize, k: usize, c: &mut [u8],
         c,
         m,
         Step {
-            rule: 7,
-            kind: 3,
+            rule: chain_format::RULE_C_PRIME,
+            kind: records::MEETS,
             a: k,
             b: g,
             first: m - 1,
@@ -214,7 +214,7 @@ fn rise(n: usize, hop: &[u16], source: &[u16], g: usize, k: usize, c: &mut [u8],
 
 // The last piece in b on the way that the hops lead from x, which is in b, to a.
 fn last_inside(hop: &[u16], d: &[u64], x: usize, a: usize, b: usize) -> usize
-    requires { ⌜ (length (now hop) ≡ 2048) × (length (now d) ≡ 65536) × (b < 2048) × Reaches (now hop) a x 2047 × (bitOf (now d) b x ≡ true) × ((y : ℕ) → Upward (now hop) a x y → y < 2048) ⌝ }
+    requires { ⌜ (length (now hop) ≡ 2048) × (IsMatrix (now d)) × (b < 2048) × Reaches (now hop) a x 2047 × (bitOf (now d) b x ≡ true) × ((y : ℕ) → Upward (now hop) a x y → y < 2048) ⌝ }
     ensures { λ r. ⌜ Last (now (hop .entry)) (now (d .entry)) a b x r ⌝ }
 {
     let mut last = x;
@@ -251,9 +251,9 @@ fn show_common(
     requires { ⌜ Setting n claim (now book) (now e) × Telling n claim (now book) (now d) × Unmarked n claim (now book) x × (x < n) × (a < n) × (b < n) × Inside n claim (now book) x a × Inside n claim (now book) x b × (164000 ≤ length (now c)) × (at + 8190 ≤ 16400) ⌝ }
     ensures { λ r. ⌜ Joined n claim (now (book .entry)) x x a b (now (c .entry)) at (now (c .exit)) r ⌝ }
 {
-    let mut hop = [0u16; 2048];
-    let mut order = [0u16; 2048];
-    let mut source = [0u16; 2048];
+    let mut hop = [0u16; matrices::ROWS];
+    let mut order = [0u16; matrices::ROWS];
+    let mut source = [0u16; matrices::ROWS];
     crate::hops::find_hops(a, n, e, &mut hop, &mut order);
     crate::hops::find_sources(claim, book, &hop, &mut source);
     let g = last_inside(&hop, d, x, a, b);
@@ -261,8 +261,8 @@ fn show_common(
         c,
         at,
         Step {
-            rule: 9,
-            kind: 3,
+            rule: chain_format::RULE_E_PRIME,
+            kind: records::MEETS,
             a: g,
             b: g,
             first: 0,
@@ -271,8 +271,8 @@ fn show_common(
     );
     let m = rise(n, &hop, &source, g, a, c, at + 1);
     let t = Step {
-        rule: 7,
-        kind: 3,
+        rule: chain_format::RULE_C_PRIME,
+        kind: records::MEETS,
         a,
         b,
         first: 0,
@@ -323,16 +323,16 @@ pub fn show_notpart(
     ensures { λ r. ⌜ Spans n claim (now (book .entry)) (fact.NOTPART a b) 4 x a b y (now (c .entry)) at (now (c .exit)) r ⌝ }
 {
     let s = Step {
-        rule: 5,
-        kind: 4,
+        rule: chain_format::RULE_A_PRIME,
+        kind: records::NOTPART,
         a,
         b: y,
         first: 0,
         second: 0,
     };
     let t = Step {
-        rule: 6,
-        kind: 4,
+        rule: chain_format::RULE_B_PRIME,
+        kind: records::NOTPART,
         a,
         b,
         first: 0,
@@ -380,8 +380,8 @@ pub fn show_outside(
 {
     crate::writing::put_step(c, at, apart);
     let s = Step {
-        rule: 2,
-        kind: 2,
+        rule: chain_format::RULE_B,
+        kind: records::APART,
         a: b,
         b: v,
         first: 0,
@@ -393,8 +393,8 @@ pub fn show_outside(
         c,
         j,
         Step {
-            rule: 8,
-            kind: 4,
+            rule: chain_format::RULE_D_PRIME,
+            kind: records::NOTPART,
             a,
             b,
             first: j - 1,

@@ -37,7 +37,7 @@ pub fn put_step(c: &mut [u8], i: usize, s: Step)
     requires { ⌜ (10 * i + 10 ≤ length (now c)) × (s .a < 65536) × (s .b < 65536) × (s .first < 65536) × (s .second < 65536) ⌝ }
     ensures { λ _. ⌜ Put (now (c .entry)) (now (c .exit)) i s ⌝ }
 {
-    let at = 10 * i;
+    let at = chain_format::STEP_BYTES * i;
     c[at] = s.rule;
     c[at + 1] = s.kind;
     put_number(c, at + 2, s.a);
@@ -50,10 +50,10 @@ pub fn put_step(c: &mut [u8], i: usize, s: Step)
 fn hop_step(x: usize, y: usize, source: usize) -> Step
     ensures { λ r. ⌜ r ≡ hopStep x y source ⌝ }
 {
-    if source == 65535 {
+    if source == crate::hops::NO_RECORD {
         return Step {
-            rule: 4,
-            kind: 1,
+            rule: chain_format::RULE_F,
+            kind: records::PART,
             a: x,
             b: y,
             first: 0,
@@ -61,8 +61,8 @@ fn hop_step(x: usize, y: usize, source: usize) -> Step
         };
     }
     Step {
-        rule: 0,
-        kind: 1,
+        rule: chain_format::STORED,
+        kind: records::PART,
         a: x,
         b: y,
         first: source,
@@ -93,8 +93,8 @@ fn climb(
             c,
             i + 1,
             Step {
-                rule: 1,
-                kind: 1,
+                rule: chain_format::RULE_A,
+                kind: records::PART,
                 a: g,
                 b: y,
                 first: i - 1,
@@ -117,8 +117,8 @@ pub fn write_part(g: usize, k: usize, hop: &[u16], source: &[u16], c: &mut [u8],
             c,
             at,
             Step {
-                rule: 3,
-                kind: 1,
+                rule: chain_format::RULE_C,
+                kind: records::PART,
                 a: g,
                 b: g,
                 first: 0,

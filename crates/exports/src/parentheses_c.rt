@@ -18,7 +18,7 @@ use parentheses::Found;
 pub extern "C" fn parentheses_ones_before(bytes: &[u8], k: usize) -> usize
     ensures { λ r. ⌜ Either ((length (now (bytes .entry)) ≤ 2560) × (k ≤ 8 * length (now (bytes .entry)))) r (rank (bits (now (bytes .entry))) k) 0 ⌝ }
 {
-    if bytes.len() > 2560 {
+    if bytes.len() > index::PARENTHESES_BYTES {
         return 0;
     }
     if k > bytes.len() * 8 {
@@ -31,7 +31,7 @@ pub extern "C" fn parentheses_ones_before(bytes: &[u8], k: usize) -> usize
 pub extern "C" fn parentheses_select(bytes: &[u8], j: usize) -> usize
     ensures { λ r. ⌜ Either (length (now (bytes .entry)) ≤ 2560) r (positionOf (8 * length (now (bytes .entry))) (foundBelow (8 * length (now (bytes .entry))) (select (bits (now (bytes .entry))) j))) 0 ⌝ }
 {
-    if bytes.len() > 2560 {
+    if bytes.len() > index::PARENTHESES_BYTES {
         return 0;
     }
     let Found::At(position) = parentheses::select(bytes, j) else {
@@ -44,7 +44,7 @@ pub extern "C" fn parentheses_select(bytes: &[u8], j: usize) -> usize
 pub extern "C" fn parentheses_find_close(bytes: &[u8], open: usize) -> usize
     ensures { λ r. ⌜ Either ((length (now (bytes .entry)) ≤ 2560) × («open» < 8 * length (now (bytes .entry))) × (getD (bits (now (bytes .entry))) «open» false ≡ true)) r (positionOf (8 * length (now (bytes .entry))) (foundBelow (8 * length (now (bytes .entry))) (close (bits (now (bytes .entry))) «open»))) 0 ⌝ }
 {
-    if bytes.len() > 2560 {
+    if bytes.len() > index::PARENTHESES_BYTES {
         return 0;
     }
     if open >= bytes.len() * 8 {
@@ -64,7 +64,7 @@ pub extern "C" fn parentheses_find_close(bytes: &[u8], open: usize) -> usize
 pub extern "C" fn parentheses_find_close_by(bytes: &[u8], open: usize) -> usize
     ensures { λ r. ⌜ Either ((length (now (bytes .entry)) ≤ 2560) × («open» < 8 * length (now (bytes .entry))) × (getD (bits (now (bytes .entry))) «open» false ≡ true)) r (positionOf (8 * length (now (bytes .entry))) (foundBelow (8 * length (now (bytes .entry))) (close (bits (now (bytes .entry))) «open»))) 0 ⌝ }
 {
-    if bytes.len() > 2560 {
+    if bytes.len() > index::PARENTHESES_BYTES {
         return 0;
     }
     if open >= bytes.len() * 8 {
@@ -85,7 +85,7 @@ pub extern "C" fn parentheses_find_close_by(bytes: &[u8], open: usize) -> usize
 pub extern "C" fn parentheses_enclose(bytes: &[u8], open: usize) -> usize
     ensures { λ r. ⌜ Either ((length (now (bytes .entry)) ≤ 2560) × («open» ≤ 8 * length (now (bytes .entry)))) r (positionOf (8 * length (now (bytes .entry))) (enclosing (bits (now (bytes .entry))) «open»)) 0 ⌝ }
 {
-    if bytes.len() > 2560 {
+    if bytes.len() > index::PARENTHESES_BYTES {
         return 0;
     }
     if open > bytes.len() * 8 {
@@ -101,7 +101,7 @@ pub extern "C" fn parentheses_enclose(bytes: &[u8], open: usize) -> usize
 pub extern "C" fn parentheses_subtree_end(bytes: &[u8], place: usize) -> usize
     ensures { λ r. ⌜ Either (length (now (bytes .entry)) ≤ 2560) r (after (bits (now (bytes .entry))) place) 0 ⌝ }
 {
-    if bytes.len() > 2560 {
+    if bytes.len() > index::PARENTHESES_BYTES {
         return 0;
     }
     parentheses::subtree_end(bytes, place)

@@ -14,10 +14,10 @@ pub extern "C" fn relation_union_within(m: &mut [u64], d: usize, s: usize)
     if m.len() != 65536 {
         return;
     }
-    if 2048 <= d {
+    if matrices::ROWS <= d {
         return;
     }
-    if 2048 <= s {
+    if matrices::ROWS <= s {
         return;
     }
     matrices::union_within(m, d, s);
@@ -33,10 +33,10 @@ pub extern "C" fn relation_meet(m: &[u64], r: usize, n: &[u64], s: usize) -> boo
     if n.len() != 65536 {
         return false;
     }
-    if 2048 <= r {
+    if matrices::ROWS <= r {
         return false;
     }
-    if 2048 <= s {
+    if matrices::ROWS <= s {
         return false;
     }
     matrices::meet(m, r, n, s)

@@ -31,7 +31,7 @@ use Rattle.outcomes.proofs.Kept.{claim-in, answer-at}
 use Rattle.grids.specs.declared.rounds.Grids.{Grids}
 use Rattle.grids.specs.Closed.{holds}
 use Rattle.grids.specs.Answers.{Answers}
-use Rattle.grids.specs.Sheet.{sized, bySize, gridOutcome, bitFor, Gridded}
+use Rattle.grids.specs.Gridded.{sized, bySize, gridOutcome, bitFor, Gridded}
 use Rattle.grids.specs.Agree.{GridAgrees}
 use Rattle.grids.proofs.Agrees.{bit-verdict}
 

@@ -32,7 +32,7 @@ use Rattle.grids.specs.declared.rounds.Grids.{Grids}
 use Rattle.grids.specs.Closed.{holds}
 use Rattle.grids.specs.Answers as on
 use Rattle.grids.specs.Loaded.{among}
-use Rattle.grids.specs.Sheet.{sized, bySize, gridOutcome, bitFor, Gridded}
+use Rattle.grids.specs.Gridded.{sized, bySize, gridOutcome, bitFor, Gridded}
 use Rattle.grids.specs.EachBit.{claimOf, Asked, EachBit, EachBitAgrees}
 use Rattle.grids.proofs.Facts.{among-lt}
 use Rattle.grids.proofs.Agreements.{grid-agrees}

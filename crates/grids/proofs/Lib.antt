@@ -9,6 +9,6 @@ pub mod Agrees
 pub mod Puts
 pub mod Loads
 pub mod Starts
-pub mod Sheets
+pub mod Griddings
 pub mod Agreements
 pub mod EachBits

@@ -12,7 +12,7 @@ use Rattle.outcomes.specs.Outcome.{number}
 use Rattle.outcomes.specs.declared.Outcome.{Outcome}
 use Rattle.grids.specs.declared.rounds.Grids.{Grids}
 use Rattle.grids.specs.Closed.{holds}
-use Rattle.grids.specs.Sheet.{Gridded}
+use Rattle.grids.specs.Gridded.{Gridded}
 
 -- where both calls accept the book, the bit of a claim on all facts is set exactly where the question call answers it by 1, FOLLOWS
 abbrev pub GridAgrees : Type 0

@@ -13,7 +13,7 @@ use Rattle.outcomes.specs.Outcome.{number}
 use Rattle.outcomes.specs.declared.Outcome.{Outcome}
 use Rattle.grids.specs.declared.rounds.Grids.{Grids}
 use Rattle.grids.specs.Closed.{holds}
-use Rattle.grids.specs.Sheet.{Gridded}
+use Rattle.grids.specs.Gridded.{Gridded}
 
 -- the claim of a bit, on all facts: a piece below 64 has 0 for its high byte
 abbrev pub claimOf : Fact → List ℕ

@@ -2,6 +2,6 @@ pub mod Grid
 pub mod Closed
 pub mod Loaded
 pub mod Answers
-pub mod Sheet
+pub mod Gridded
 pub mod Agree
 pub mod EachBit

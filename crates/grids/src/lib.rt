@@ -12,16 +12,18 @@ ghost use Rattle.grids.specs.Answers.{Answers};
 ghost use Rattle.records.specs.Facts.{facts};
 ghost use Rattle.records.specs.Marked.{marked};
 ghost use Rattle.records.specs.Check.{bookCheck};
-ghost use Rattle.grids.specs.Sheet.{Blank, Gridded};
+ghost use Rattle.grids.specs.Gridded.{Blank, Gridded};
+use matrices::Matrix;
 use outcomes::Outcome;
 use records::BookCheck;
 use records::Refusal;
+use rounds::Grid;
 use rounds::Grids;
 
 pub mod rounds;
 
 // The grid with bit b of row a set.
-fn insert(l: [u64; 64], a: usize, b: usize) -> [u64; 64]
+fn insert(l: Grid, a: usize, b: usize) -> Grid
     requires { ⌜ (a < 64) × (b < 64) ⌝ }
     ensures { λ r. ⌜ Inserted l r a b ⌝ }
 {
@@ -39,7 +41,7 @@ fn put(g: Grids, kind: u8, a: usize, b: usize) -> Grids
     let apart = g.apart;
     let meets = g.meets;
     let notpart = g.notpart;
-    if kind == 1 {
+    if kind == records::PART {
         let with = insert(part, a, b);
         return Grids {
             part: with,
@@ -48,7 +50,7 @@ fn put(g: Grids, kind: u8, a: usize, b: usize) -> Grids
             notpart,
         };
     }
-    if kind == 2 {
+    if kind == records::APART {
         let with = insert(apart, a, b);
         return Grids {
             part,
@@ -57,7 +59,7 @@ fn put(g: Grids, kind: u8, a: usize, b: usize) -> Grids
             notpart,
         };
     }
-    if kind == 3 {
+    if kind == records::MEETS {
         let with = insert(meets, a, b);
         return Grids {
             part,
@@ -105,10 +107,10 @@ fn no_bits() -> Grids
     ensures { λ r. ⌜ Blank r ⌝ }
 {
     Grids {
-        part: [0u64; 64],
-        apart: [0u64; 64],
-        meets: [0u64; 64],
-        notpart: [0u64; 64],
+        part: [0u64; rounds::SIDE],
+        apart: [0u64; rounds::SIDE],
+        meets: [0u64; rounds::SIDE],
+        notpart: [0u64; rounds::SIDE],
     }
 }
 
@@ -118,11 +120,11 @@ fn start(n: usize, marks: u64) -> Grids
     ensures { λ r. ⌜ Loaded (bit marks) n [] r ⌝ }
 {
     let all = pieces_below(n);
-    let mut part = [0u64; 64];
-    let mut apart = [0u64; 64];
-    let mut meets = [0u64; 64];
+    let mut part = [0u64; rounds::SIDE];
+    let mut apart = [0u64; rounds::SIDE];
+    let mut meets = [0u64; rounds::SIDE];
     let mut a: usize = 0;
-    while a < 64 {
+    while a < rounds::SIDE {
         let whole = rounds::chosen(marks, a, all);
         part[a] = rounds::chosen(all, a, all & ((1 << a) | 1 | whole));
         apart[a] = rounds::chosen(all, a, whole);
@@ -133,7 +135,7 @@ fn start(n: usize, marks: u64) -> Grids
         part,
         apart,
         meets,
-        notpart: [0u64; 64],
+        notpart: [0u64; rounds::SIDE],
     }
 }
 
@@ -142,7 +144,7 @@ fn load(book: &[u8], n: usize, marks: u64) -> Grids
     requires { ⌜ Loadable n (now book) ⌝ }
     ensures { λ r. ⌜ Loaded (bit marks) n (facts (now (book .entry))) r ⌝ }
 {
-    let count = book.len() / 6;
+    let count = book.len() / records::RECORD_BYTES;
     let mut g = start(n, marks);
     let mut i: usize = 0;
     while i < count {
@@ -157,15 +159,15 @@ fn load(book: &[u8], n: usize, marks: u64) -> Grids
 }
 
 // What the call comes to, and the grids: without a bit where it is refused.
-pub struct Sheet {
+pub struct GridAnswer {
     pub outcome: Outcome,
     pub grids: Grids,
 }
 
-fn refuse(refusal: Refusal, place: usize) -> Sheet
+fn refuse(refusal: Refusal, place: usize) -> GridAnswer
     ensures { λ r. ⌜ (r .outcome ≡ Outcome.Refused refusal place) × Blank (r .grids) ⌝ }
 {
-    Sheet {
+    GridAnswer {
         outcome: Outcome::Refused(refusal, place),
         grids: no_bits(),
     }
@@ -184,24 +186,24 @@ fn grids_of(book: &[u8], n: usize) -> Grids
 // The grids of a book: rows 3 to 14, then 16.
 pub fn grid(
     book: &[u8],
-    e: &mut [u64; 65536],
-    d: &mut [u64; 65536],
-    t: &mut [u64; 65536],
-    u: &mut [u64; 65536],
-    p: &mut [u64; 65536],
-    q: &mut [u64; 65536],
-) -> Sheet
+    e: &mut Matrix,
+    d: &mut Matrix,
+    t: &mut Matrix,
+    u: &mut Matrix,
+    p: &mut Matrix,
+    q: &mut Matrix,
+) -> GridAnswer
     ensures { λ r. ⌜ Gridded (now (book .entry)) (r .outcome) (r .grids) ⌝ }
 {
     let outcome = answers::judge_run(book, e, d, t, u, p, q);
     match outcome {
         Outcome::Refused(refusal, place) => refuse(refusal, place),
         Outcome::Accepted(n, nodes, shadows) => {
-            if 64 < n {
+            if rounds::SIDE < n {
                 return refuse(Refusal::TooManyPieces, 0);
             }
             let grids = grids_of(book, n);
-            Sheet {
+            GridAnswer {
                 outcome: Outcome::Accepted(n, nodes, shadows),
                 grids,
             }

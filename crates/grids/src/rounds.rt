@@ -6,12 +6,17 @@ ghost use Rattle.matrices.specs.Matrix.{bit};
 ghost use Rattle.grids.specs.Grid.{bitAt, Gathered, Multiplied, Swept, Turned, Mirrored};
 ghost use Rattle.grids.specs.Closed.{holds, Closed, Grown, Same, Rounded};
 
+// How many pieces a grid has room for: a row is one word.
+pub const SIDE: usize = 64;
+
+pub type Grid = [u64; SIDE];
+
 // Bit b of row a of a grid is the claim of its kind about pieces a and b.
 pub struct Grids {
-    pub part: [u64; 64],
-    pub apart: [u64; 64],
-    pub meets: [u64; 64],
-    pub notpart: [u64; 64],
+    pub part: Grid,
+    pub apart: Grid,
+    pub meets: Grid,
+    pub notpart: Grid,
 }
 
 // The row where bit h of x is set; else no bit.
@@ -26,12 +31,12 @@ pub fn chosen(x: u64, h: usize, row: u64) -> u64
 }
 
 // The row y with each row h of z put in whose bit is set in x.
-fn gather(y: u64, x: u64, z: &[u64; 64]) -> u64
+fn gather(y: u64, x: u64, z: &Grid) -> u64
     ensures { λ r. ⌜ Gathered y x (now (z .entry)) r ⌝ }
 {
     let mut r = y;
     let mut h: usize = 0;
-    while h < 64 {
+    while h < SIDE {
         r = r | chosen(x, h, z[h]);
         h += 1;
     }
@@ -39,13 +44,13 @@ fn gather(y: u64, x: u64, z: &[u64; 64]) -> u64
 }
 
 // Column i of x as a row.
-fn column(x: &[u64; 64], i: usize) -> u64
+fn column(x: &Grid, i: usize) -> u64
     requires { ⌜ i < 64 ⌝ }
     ensures { λ r. ⌜ ((k : ℕ) → k < 64 → bit r k ≡ bitAt (now (x .entry)) k i) ⌝ }
 {
     let mut r: u64 = 0;
     let mut g: usize = 0;
-    while g < 64 {
+    while g < SIDE {
         r = r | chosen(x[g], i, 1 << g);
         g += 1;
     }
@@ -53,12 +58,12 @@ fn column(x: &[u64; 64], i: usize) -> u64
 }
 
 // y with the product of x and z put in.
-fn product(y: [u64; 64], x: [u64; 64], z: [u64; 64]) -> [u64; 64]
+fn product(y: Grid, x: Grid, z: Grid) -> Grid
     ensures { λ r. ⌜ Multiplied y x z r ⌝ }
 {
     let mut r = y;
     let mut g: usize = 0;
-    while g < 64 {
+    while g < SIDE {
         r[g] = gather(y[g], x[g], &z);
         g += 1;
     }
@@ -67,12 +72,12 @@ fn product(y: [u64; 64], x: [u64; 64], z: [u64; 64]) -> [u64; 64]
 
 // x with the product of x and itself put in; a row takes in the rows before it as they are by then, so that books whose
 // containers have lower numbers are closed in one sweep.
-fn swept(x: [u64; 64]) -> [u64; 64]
+fn swept(x: Grid) -> Grid
     ensures { λ r. ⌜ Swept x r ⌝ }
 {
     let mut r = x;
     let mut g: usize = 0;
-    while g < 64 {
+    while g < SIDE {
         let row = r[g];
         r[g] = gather(row, row, &r);
         g += 1;
@@ -81,12 +86,12 @@ fn swept(x: [u64; 64]) -> [u64; 64]
 }
 
 // The transpose of x.
-fn turned(x: [u64; 64]) -> [u64; 64]
+fn turned(x: Grid) -> Grid
     ensures { λ r. ⌜ Turned x r ⌝ }
 {
     let mut r = x;
     let mut g: usize = 0;
-    while g < 64 {
+    while g < SIDE {
         r[g] = column(&x, g);
         g += 1;
     }
@@ -94,12 +99,12 @@ fn turned(x: [u64; 64]) -> [u64; 64]
 }
 
 // x with its transpose put in.
-fn mirrored(x: [u64; 64]) -> [u64; 64]
+fn mirrored(x: Grid) -> Grid
     ensures { λ r. ⌜ Mirrored x r ⌝ }
 {
     let mut r = x;
     let mut g: usize = 0;
-    while g < 64 {
+    while g < SIDE {
         r[g] = x[g] | column(&x, g);
         g += 1;
     }
@@ -133,11 +138,11 @@ fn round(g: Grids) -> Grids
 }
 
 // Whether two grids have the same rows.
-fn same(a: [u64; 64], b: [u64; 64]) -> bool
+fn same(a: Grid, b: Grid) -> bool
     ensures { λ t. ⌜ (t ≡ true → a ≡ b) × (t ≡ false → a ≡ b → ⊥) ⌝ }
 {
     let mut i: usize = 0;
-    while i < 64 {
+    while i < SIDE {
         if a[i] != b[i] {
             return false;
         }

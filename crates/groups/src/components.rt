@@ -5,6 +5,7 @@ ghost use Prim.Native.Nat.{ℕ, _+_, _-_, _<_, _≤_};
 ghost use lib.ListN.{length, getD, set};
 ghost use Rattle.matrices.specs.Matrix.{bitOf};
 ghost use Rattle.groups.specs.Search.{stateOf, WayOf, GoodOf, VisitedOf, Leading, Callable, Cut, Numbered, Inside, Room, Searchable, Searched};
+use matrices::RowNumbers;
 
 // How long the path is, how many groups it has, and how many have ended.
 struct Path {
@@ -14,7 +15,7 @@ struct Path {
 }
 
 // How many bounds are left, if those after p go.
-fn cut(bounds: &[u16; 2048], top: usize, p: usize) -> usize
+fn cut(bounds: &RowNumbers, top: usize, p: usize) -> usize
     requires { ⌜ top ≤ 2048 ⌝ }
     ensures { λ t. ⌜ Cut (now (bounds .entry)) top p t ⌝ }
 {
@@ -29,7 +30,7 @@ fn cut(bounds: &[u16; 2048], top: usize, p: usize) -> usize
 }
 
 // Gives the pieces of the path from `at` on the number `count`.
-fn close(path: &[u16; 2048], done: &mut [u16; 2048], at: usize, len: usize, count: usize)
+fn close(path: &RowNumbers, done: &mut RowNumbers, at: usize, len: usize, count: usize)
     requires { ⌜ (len ≤ 2048) × (at ≤ len) × (count < 65536) × (length (now done) ≡ 2048) × Inside (now path) at len 2048 ⌝ }
     ensures { λ _. ⌜ Numbered (now (path .entry)) (now (done .entry)) (now (done .exit)) at len count ⌝ }
 {
@@ -44,9 +45,9 @@ fn close(path: &[u16; 2048], done: &mut [u16; 2048], at: usize, len: usize, coun
 // Puts v at the end of the path, as a group of its own.
 fn push(
     v: usize,
-    pos: &mut [u16; 2048],
-    path: &mut [u16; 2048],
-    bounds: &mut [u16; 2048],
+    pos: &mut RowNumbers,
+    path: &mut RowNumbers,
+    bounds: &mut RowNumbers,
     len: usize,
     top: usize,
 )
@@ -64,10 +65,10 @@ fn visit(
     n: usize,
     e: &[u64],
     v: usize,
-    pos: &mut [u16; 2048],
-    done: &mut [u16; 2048],
-    path: &mut [u16; 2048],
-    bounds: &mut [u16; 2048],
+    pos: &mut RowNumbers,
+    done: &mut RowNumbers,
+    path: &mut RowNumbers,
+    bounds: &mut RowNumbers,
     s: Path,
 ) -> Path
     requires { ⌜ Callable n (now e) (now pos) (now done) (now path) (now bounds) (s .len) (s .top) (s .count) v ⌝ }
@@ -81,7 +82,7 @@ fn visit(
     let mut count = s.count;
     let mut w = matrices::next_bit(e, v, 0);
     while w < n {
-        if index::wide(pos[w]) == 2048 {
+        if index::wide(pos[w]) == matrices::ROWS {
             let r = visit(n, e, w, pos, done, path, bounds, Path { len, top, count });
             len = r.len;
             top = r.top;
@@ -89,7 +90,7 @@ fn visit(
             w = matrices::next_bit(e, v, w + 1);
             continue;
         }
-        if index::wide(done[w]) == 2048 {
+        if index::wide(done[w]) == matrices::ROWS {
             top = cut(bounds, top, index::wide(pos[w]));
             w = matrices::next_bit(e, v, w + 1);
             continue;
@@ -108,14 +109,14 @@ fn visit(
 }
 
 // The number of each piece's group, in an order in which parts come before what contains them. Row 0 of the matrix has every other piece.
-pub fn search(n: usize, e: &[u64]) -> [u16; 2048]
+pub fn search(n: usize, e: &[u64]) -> RowNumbers
     requires { ⌜ Searchable n (now e) 2048 ⌝ }
     ensures { λ r. ⌜ Searched n 2048 (bitOf (now (e .entry))) (WayOf n (now (e .entry))) (λ x. getD r x 0) ⌝ }
 {
-    let mut pos = [2048u16; 2048];
-    let mut done = [2048u16; 2048];
-    let mut path = [0u16; 2048];
-    let mut bounds = [0u16; 2048];
+    let mut pos = [index::NONE; matrices::ROWS];
+    let mut done = [index::NONE; matrices::ROWS];
+    let mut path = [0u16; matrices::ROWS];
+    let mut bounds = [0u16; matrices::ROWS];
     visit(
         n,
         e,

@@ -6,6 +6,7 @@ ghost use lib.ListN.{length, getD};
 ghost use Rattle.groups.specs.Grouped.{Edged, Grouped};
 ghost use Rattle.groups.specs.Ranks.{Numerable, Ranked, Arrangeable, Arranged};
 ghost use Rattle.groups.specs.Search.{Searchable};
+use matrices::RowNumbers;
 
 pub mod components;
 
@@ -13,7 +14,7 @@ pub mod components;
 // lowest member of each number of the search.
 fn number_groups(
     n: usize,
-    done: &[u16; 2048],
+    done: &RowNumbers,
     number: &mut [u16],
     lead: &mut [u16],
     heads: &mut [u16],
@@ -21,13 +22,13 @@ fn number_groups(
     requires { ⌜ Numerable n (now done) (length (now number)) (length (now lead)) (length (now heads)) ⌝ }
     ensures { λ k. ⌜ Ranked n (λ x. getD (now (done .entry)) x 0) (now (number .exit)) (now (lead .exit)) k ⌝ }
 {
-    index::fill(heads, 2048);
+    index::fill(heads, index::NONE);
     let mut k: usize = 0;
     let mut g: usize = 0;
     while g < n {
         let f = index::wide(done[g]);
         let t = index::wide(heads[f]);
-        if t == 2048 {
+        if t == matrices::ROWS {
             heads[f] = index::narrow(g);
             number[g] = index::narrow(k);
             lead[g] = index::narrow(g);
@@ -43,7 +44,7 @@ fn number_groups(
 }
 
 // The followers, and then the m leaders in the order in which their groups ended.
-fn arrange(n: usize, m: usize, done: &[u16; 2048], lead: &[u16], order: &mut [u16])
+fn arrange(n: usize, m: usize, done: &RowNumbers, lead: &[u16], order: &mut [u16])
     requires { ⌜ Arrangeable n m (now done) (now lead) (length (now order)) ⌝ }
     ensures { λ _. ⌜ Arranged n m (now (done .entry)) (now (lead .entry)) (now (order .exit)) ⌝ }
 {

@@ -6,8 +6,10 @@ ghost use Rattle.index.specs.Pairs.{joined};
 ghost use Rattle.index.specs.Index.{Indexed};
 ghost use Rattle.index.specs.Matrix.{pairOf, Buildable, Completed};
 ghost use Rattle.index.specs.Steps.{Held, Joinable, Parented, Zero, Walkable, Walked};
+ghost use Rattle.matrices.specs.Matrix.{IsMatrix};
 use crate::DatasetId;
 use crate::TreeId;
+use matrices::RowNumbers;
 
 pub struct Counts {
     pub nodes: usize,
@@ -15,8 +17,8 @@ pub struct Counts {
 }
 
 // Joins each piece but 0 that is nobody's part to 0.
-fn join(n: usize, edges: &mut [u64], held: &[u16; 2048])
-    requires { ⌜ (n ≤ 2048) × (0 < n) × (length (now edges) ≡ 65536) × Held n (now edges) (now held) ⌝ }
+fn join(n: usize, edges: &mut [u64], held: &RowNumbers)
+    requires { ⌜ (n ≤ 2048) × (0 < n) × (IsMatrix (now edges)) × Held n (now edges) (now held) ⌝ }
     ensures { λ _. ⌜ Completed n (now (edges .entry)) (now (edges .exit)) ⌝ }
 {
     let mut p: usize = 1;
@@ -35,7 +37,7 @@ fn join(n: usize, edges: &mut [u64], held: &[u16; 2048])
 fn walk(
     n: usize,
     edges: &[u64],
-    parent: &[u16; 2048],
+    parent: &RowNumbers,
     parens: &mut [u8],
     marks: &mut [u8],
     shadows: &mut [u16],
@@ -84,11 +86,11 @@ fn walk(
 }
 
 // Puts the joins into row 0, and then finds the parents.
-fn complete(n: usize, edges: &mut [u64]) -> [u16; 2048]
+fn complete(n: usize, edges: &mut [u64]) -> RowNumbers
     requires { ⌜ Joinable n (now edges) ⌝ }
     ensures { λ r. ⌜ Completed n (now (edges .entry)) (now (edges .exit)) × Parented n (pairOf n (now (edges .exit))) r ⌝ }
 {
-    let mut held = [0u16; 2048];
+    let mut held = [0u16; matrices::ROWS];
     crate::mark_held(n, edges, &mut held);
     join(n, edges, &held);
     crate::find_parents(n, edges)

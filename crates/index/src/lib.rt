@@ -6,10 +6,27 @@ ghost use Rattle.lists.specs.Tab.{tab};
 ghost use Rattle.parentheses.specs.Padded.{padded};
 ghost use Rattle.index.specs.Matrix.{pairOf};
 ghost use Rattle.index.specs.Steps.{Marked, Held, Sized, unmet, Spread, Parented, Zero, Resolvable, Resolved};
+ghost use Rattle.matrices.specs.Matrix.{IsMatrix};
 pub use building::Counts;
 pub use building::build;
+use matrices::RowNumbers;
 
 pub mod building;
+
+// The lengths of the four parts of an index: bytes of parentheses and of marks, numbers of the shadow list and of the place list.
+pub const PARENTHESES_BYTES: usize = 2560;
+
+pub const MARKS_BYTES: usize = 1280;
+
+pub const SHADOWS: usize = 8192;
+
+pub const PLACES: usize = 2048;
+
+// How many nodes and shadows an index has at most.
+pub const NODES: usize = 10240;
+
+// What stands for no piece in a list of pieces.
+pub const NONE: u16 = 2048;
 
 // A piece's number.
 pub struct DatasetId(pub usize);
@@ -51,20 +68,20 @@ pub fn fill(list: &mut [u16], v: u16)
 }
 
 // Marks the parts of c.
-fn mark_parts(edges: &[u64], c: usize, held: &mut [u16; 2048])
-    requires { ⌜ (length (now edges) ≡ 65536) × (c < 2048) × (length (now held) ≡ 2048) ⌝ }
+fn mark_parts(edges: &[u64], c: usize, held: &mut RowNumbers)
+    requires { ⌜ (IsMatrix (now edges)) × (c < 2048) × (length (now held) ≡ 2048) ⌝ }
     ensures { λ _. ⌜ Marked (now (edges .entry)) c (now (held .entry)) (now (held .exit)) ⌝ }
 {
     let mut p = matrices::next_bit(edges, c, 0);
-    while p < 2048 {
+    while p < matrices::ROWS {
         held[p] = 1;
         p = matrices::next_bit(edges, c, p + 1);
     }
 }
 
 // Marks the pieces that are somebody's part.
-pub fn mark_held(n: usize, edges: &[u64], held: &mut [u16; 2048])
-    requires { ⌜ (n ≤ 2048) × (length (now edges) ≡ 65536) × (length (now held) ≡ 2048) × Zero (now held) ⌝ }
+pub fn mark_held(n: usize, edges: &[u64], held: &mut RowNumbers)
+    requires { ⌜ (n ≤ 2048) × (IsMatrix (now edges)) × (length (now held) ≡ 2048) × Zero (now held) ⌝ }
     ensures { λ _. ⌜ Held n (now (edges .entry)) (now (held .exit)) ⌝ }
 {
     let mut c: usize = 0;
@@ -79,8 +96,8 @@ fn spread(
     n: usize,
     c: usize,
     edges: &[u64],
-    parent: &mut [u16; 2048],
-    order: &mut [u16; 2048],
+    parent: &mut RowNumbers,
+    order: &mut RowNumbers,
     tail: usize,
 ) -> usize
     requires { ⌜ Sized n (now edges) (length (now parent)) (length (now order)) × (c < n) × (tail + length (unmet n (now parent)) ≤ length (now order)) × (length (now order) ≡ 2048) ⌝ }
@@ -89,7 +106,7 @@ fn spread(
     let mut end = tail;
     let mut p = matrices::next_bit(edges, c, 1);
     while p < n {
-        if parent[p] == 2048 {
+        if parent[p] == crate::NONE {
             parent[p] = narrow(c);
             order[end] = narrow(p);
             end += 1;
@@ -102,12 +119,12 @@ fn spread(
 }
 
 // The parent of each piece but 0, breadth first from 0. 2048 stands for none yet.
-pub fn find_parents(n: usize, edges: &[u64]) -> [u16; 2048]
+pub fn find_parents(n: usize, edges: &[u64]) -> RowNumbers
     requires { ⌜ Sized n (now edges) 2048 2048 ⌝ }
     ensures { λ r. ⌜ Parented n (pairOf n (now (edges .entry))) r ⌝ }
 {
-    let mut parent = [2048u16; 2048];
-    let mut order = [0u16; 2048];
+    let mut parent = [crate::NONE; matrices::ROWS];
+    let mut order = [0u16; matrices::ROWS];
     let mut head: usize = 0;
     let mut tail: usize = 1;
     while head < tail {

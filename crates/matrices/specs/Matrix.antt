@@ -4,8 +4,12 @@ use mathlib.Core.List.{List}
 use mathlib.Core.Bool.{Bool, true, false, _||_, _&&_}
 use Prim.Native.Nat.{ℕ, _+_, _*_, _/_, _%_, _^_, _<_, _≤_}
 use lib.Dec.{eqb}
-use lib.ListN.{getD}
+use lib.ListN.{length, getD}
 use Rattle.lists.specs.Any.{anyBelow}
+
+-- a row for each piece, 32 words a row
+abbrev pub IsMatrix : List ℕ → Type 0
+IsMatrix m = length m ≡ 65536
 
 -- bit k of the word x
 unfoldable pub bit : ℕ → ℕ → Bool

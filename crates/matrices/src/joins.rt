@@ -5,18 +5,18 @@ ghost use lib.ListN.{length};
 ghost use mathlib.Core.Bool.{Bool, false};
 ghost use Rattle.matrices.specs.Flow.{Sorted, Pushed, Reached, Carried, along, against};
 ghost use Rattle.matrices.specs.Led.{Led, Pooled, Shared};
-ghost use Rattle.matrices.specs.Matrix.{bitOf, Gathered, Multiplied};
+ghost use Rattle.matrices.specs.Matrix.{bitOf, Gathered, Multiplied, IsMatrix};
 use crate::relation;
 
 // Row r of the product of a and b is put into row r of dst.
 pub fn gather(dst: &mut [u64], a: &[u64], r: usize, b: &[u64])
-    requires { ⌜ (length (now dst) ≡ 65536) × (length (now a) ≡ 65536) × (length (now b) ≡ 65536) × (r < 2048) ⌝ }
+    requires { ⌜ (IsMatrix (now dst)) × (IsMatrix (now a)) × (IsMatrix (now b)) × (r < 2048) ⌝ }
     ensures { λ _. ⌜ Gathered (now (dst .entry)) (now (dst .exit)) (now (a .entry)) r (now (b .entry)) ⌝ }
 {
     let mut from: usize = 0;
-    while from < 2048 {
+    while from < crate::ROWS {
         let x = relation::next_bit(a, r, from);
-        if 2048 <= x {
+        if crate::ROWS <= x {
             return;
         }
         relation::union_row(dst, r, b, x);
@@ -26,7 +26,7 @@ pub fn gather(dst: &mut [u64], a: &[u64], r: usize, b: &[u64])
 
 // The rows below n of the product of a and b are put into dst.
 pub fn product(dst: &mut [u64], a: &[u64], b: &[u64], n: usize)
-    requires { ⌜ (length (now dst) ≡ 65536) × (length (now a) ≡ 65536) × (length (now b) ≡ 65536) × (n ≤ 2048) ⌝ }
+    requires { ⌜ (IsMatrix (now dst)) × (IsMatrix (now a)) × (IsMatrix (now b)) × (n ≤ 2048) ⌝ }
     ensures { λ _. ⌜ Multiplied (now (dst .entry)) (now (dst .exit)) (now (a .entry)) (now (b .entry)) n ⌝ }
 {
     let mut r: usize = 0;
@@ -38,13 +38,13 @@ pub fn product(dst: &mut [u64], a: &[u64], b: &[u64], n: usize)
 
 // Puts into row h of m the rows to which edges lead from h.
 fn pull(e: &[u64], h: usize, m: &mut [u64])
-    requires { ⌜ (length (now e) ≡ 65536) × (length (now m) ≡ 65536) × (h < 2048) × (bitOf (now e) h h ≡ false) ⌝ }
+    requires { ⌜ (IsMatrix (now e)) × (IsMatrix (now m)) × (h < 2048) × (bitOf (now e) h h ≡ false) ⌝ }
     ensures { λ _. ⌜ Gathered (now (m .entry)) (now (m .exit)) (now (e .entry)) h (now (m .entry)) ⌝ }
 {
     let mut from: usize = 0;
-    while from < 2048 {
+    while from < crate::ROWS {
         let p = relation::next_bit(e, h, from);
-        if 2048 <= p {
+        if crate::ROWS <= p {
             return;
         }
         relation::union_within(m, h, p);
@@ -54,13 +54,13 @@ fn pull(e: &[u64], h: usize, m: &mut [u64])
 
 // Puts row h of m into the rows to which edges lead from h.
 fn push(e: &[u64], h: usize, m: &mut [u64])
-    requires { ⌜ (length (now e) ≡ 65536) × (length (now m) ≡ 65536) × (h < 2048) × (bitOf (now e) h h ≡ false) ⌝ }
+    requires { ⌜ (IsMatrix (now e)) × (IsMatrix (now m)) × (h < 2048) × (bitOf (now e) h h ≡ false) ⌝ }
     ensures { λ _. ⌜ Pushed (now (e .entry)) (now (m .entry)) (now (m .exit)) h ⌝ }
 {
     let mut from: usize = 0;
-    while from < 2048 {
+    while from < crate::ROWS {
         let p = relation::next_bit(e, h, from);
-        if 2048 <= p {
+        if crate::ROWS <= p {
             return;
         }
         relation::union_within(m, p, h);
@@ -77,7 +77,7 @@ fn wide(x: u16) -> usize
 // Each row below n becomes the union of the rows that it reaches along the edges. Edges lead to rows that come before in `order`, so
 // each is whole when it is used.
 pub fn join_along(e: &[u64], order: &[u16], n: usize, m: &mut [u64])
-    requires { ⌜ (length (now e) ≡ 65536) × (length (now m) ≡ 65536) × (n ≤ 2048) × Sorted (now e) n (now order) ⌝ }
+    requires { ⌜ (IsMatrix (now e)) × (IsMatrix (now m)) × (n ≤ 2048) × Sorted (now e) n (now order) ⌝ }
     ensures { λ _. ⌜ ((r : ℕ → ℕ → Bool) → Reached (along (now (e .entry))) n r → Carried r n (now (m .entry)) (now (m .exit))) ⌝ }
 {
     let mut i: usize = 0;
@@ -90,7 +90,7 @@ pub fn join_along(e: &[u64], order: &[u16], n: usize, m: &mut [u64])
 
 // Each row below n becomes the union of the rows that it reaches against the edges.
 pub fn join_against(e: &[u64], order: &[u16], n: usize, m: &mut [u64])
-    requires { ⌜ (length (now e) ≡ 65536) × (length (now m) ≡ 65536) × (n ≤ 2048) × Sorted (now e) n (now order) ⌝ }
+    requires { ⌜ (IsMatrix (now e)) × (IsMatrix (now m)) × (n ≤ 2048) × Sorted (now e) n (now order) ⌝ }
     ensures { λ _. ⌜ ((r : ℕ → ℕ → Bool) → Reached (against (now (e .entry))) n r → Carried r n (now (m .entry)) (now (m .exit))) ⌝ }
 {
     let mut i = n;
@@ -103,7 +103,7 @@ pub fn join_against(e: &[u64], order: &[u16], n: usize, m: &mut [u64])
 
 // Puts each row below n that follows another into its leader's.
 pub fn pool_rows(lead: &[u16], n: usize, m: &mut [u64])
-    requires { ⌜ (length (now m) ≡ 65536) × (n ≤ 2048) × Led n (now lead) ⌝ }
+    requires { ⌜ (IsMatrix (now m)) × (n ≤ 2048) × Led n (now lead) ⌝ }
     ensures { λ _. ⌜ Pooled n (now (lead .entry)) (now (m .entry)) (now (m .exit)) ⌝ }
 {
     let mut i: usize = 0;
@@ -120,7 +120,7 @@ pub fn pool_rows(lead: &[u16], n: usize, m: &mut [u64])
 
 // Puts the leader's row into each row below n that follows it.
 pub fn share_rows(lead: &[u16], n: usize, m: &mut [u64])
-    requires { ⌜ (length (now m) ≡ 65536) × (n ≤ 2048) × Led n (now lead) ⌝ }
+    requires { ⌜ (IsMatrix (now m)) × (n ≤ 2048) × Led n (now lead) ⌝ }
     ensures { λ _. ⌜ Shared n (now (lead .entry)) (now (m .entry)) (now (m .exit)) ⌝ }
 {
     let mut i: usize = 0;

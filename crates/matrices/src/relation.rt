@@ -4,14 +4,14 @@ ghost use Prim.Native.Nat.{_+_, _-_, _*_, _<_, _≤_};
 ghost use lib.ListN.{length, replicate};
 ghost use Rattle.lists.specs.First.{first};
 ghost use mathlib.Core.Bool.{false};
-ghost use Rattle.matrices.specs.Matrix.{bitOf, common, Blank, Inserted, United};
+ghost use Rattle.matrices.specs.Matrix.{bitOf, common, Blank, Inserted, United, IsMatrix};
 
 // Whether bit i of row r is set.
 pub fn test(m: &[u64], r: usize, i: usize) -> bool
-    requires { ⌜ (length (now m) ≡ 65536) × (r < 2048) × (i < 2048) ⌝ }
+    requires { ⌜ (IsMatrix (now m)) × (r < 2048) × (i < 2048) ⌝ }
     ensures { λ b. ⌜ b ≡ bitOf (now (m .entry)) r i ⌝ }
 {
-    (m[r * 32 + i / 64] >> (i % 64)) & 1 == 1
+    (m[r * crate::ROW_WORDS + i / crate::WORD_BITS] >> (i % crate::WORD_BITS)) & 1 == 1
 }
 
 // Whether bit i of a row that stands alone is set.
@@ -19,16 +19,16 @@ pub fn has(row: &[u64], i: usize) -> bool
     requires { ⌜ (length (now row) ≡ 32) × (i < 2048) ⌝ }
     ensures { λ b. ⌜ b ≡ bitOf (now (row .entry)) 0 i ⌝ }
 {
-    (row[i / 64] >> (i % 64)) & 1 == 1
+    (row[i / crate::WORD_BITS] >> (i % crate::WORD_BITS)) & 1 == 1
 }
 
 // Sets bit i of row r.
 pub fn insert(m: &mut [u64], r: usize, i: usize)
-    requires { ⌜ (length (now m) ≡ 65536) × (r < 2048) × (i < 2048) ⌝ }
+    requires { ⌜ (IsMatrix (now m)) × (r < 2048) × (i < 2048) ⌝ }
     ensures { λ _. ⌜ Inserted (now (m .entry)) (now (m .exit)) r i ⌝ }
 {
-    let w = r * 32 + i / 64;
-    m[w] = m[w] | (1 << (i % 64));
+    let w = r * crate::ROW_WORDS + i / crate::WORD_BITS;
+    m[w] = m[w] | (1 << (i % crate::WORD_BITS));
 }
 
 // Sets bit i of a row that stands alone.
@@ -36,19 +36,19 @@ pub fn put(row: &mut [u64], i: usize)
     requires { ⌜ (length (now row) ≡ 32) × (i < 2048) ⌝ }
     ensures { λ _. ⌜ Inserted (now (row .entry)) (now (row .exit)) 0 i ⌝ }
 {
-    let w = i / 64;
-    row[w] = row[w] | (1 << (i % 64));
+    let w = i / crate::WORD_BITS;
+    row[w] = row[w] | (1 << (i % crate::WORD_BITS));
 }
 
 // Puts row s of src into row d of dst. Two words a turn, both read before either is written: such a pair is one vector.
 pub fn union_row(dst: &mut [u64], d: usize, src: &[u64], s: usize)
-    requires { ⌜ (length (now dst) ≡ 65536) × (length (now src) ≡ 65536) × (d < 2048) × (s < 2048) ⌝ }
+    requires { ⌜ (IsMatrix (now dst)) × (IsMatrix (now src)) × (d < 2048) × (s < 2048) ⌝ }
     ensures { λ _. ⌜ United (now (dst .entry)) (now (dst .exit)) d (now (src .entry)) s ⌝ }
 {
-    let a = d * 32;
-    let b = s * 32;
+    let a = d * crate::ROW_WORDS;
+    let b = s * crate::ROW_WORDS;
     let mut i: usize = 0;
-    while i < 32 {
+    while i < crate::ROW_WORDS {
         let j = i + 1;
         let x = dst[a + i] | src[b + i];
         let y = dst[a + j] | src[b + j];
@@ -60,13 +60,13 @@ pub fn union_row(dst: &mut [u64], d: usize, src: &[u64], s: usize)
 
 // Puts row s of m into row d of m.
 pub fn union_within(m: &mut [u64], d: usize, s: usize)
-    requires { ⌜ (length (now m) ≡ 65536) × (d < 2048) × (s < 2048) ⌝ }
+    requires { ⌜ (IsMatrix (now m)) × (d < 2048) × (s < 2048) ⌝ }
     ensures { λ _. ⌜ United (now (m .entry)) (now (m .exit)) d (now (m .entry)) s ⌝ }
 {
-    let a = d * 32;
-    let b = s * 32;
+    let a = d * crate::ROW_WORDS;
+    let b = s * crate::ROW_WORDS;
     let mut i: usize = 0;
-    while i < 32 {
+    while i < crate::ROW_WORDS {
         m[a + i] = m[a + i] | m[b + i];
         i += 1;
     }
@@ -74,13 +74,13 @@ pub fn union_within(m: &mut [u64], d: usize, s: usize)
 
 // Whether row r of m and row s of n have a bit in common.
 pub fn meet(m: &[u64], r: usize, n: &[u64], s: usize) -> bool
-    requires { ⌜ (length (now m) ≡ 65536) × (length (now n) ≡ 65536) × (r < 2048) × (s < 2048) ⌝ }
+    requires { ⌜ (IsMatrix (now m)) × (IsMatrix (now n)) × (r < 2048) × (s < 2048) ⌝ }
     ensures { λ t. ⌜ t ≡ common (now (m .entry)) r (now (n .entry)) s ⌝ }
 {
-    let a = r * 32;
-    let b = s * 32;
+    let a = r * crate::ROW_WORDS;
+    let b = s * crate::ROW_WORDS;
     let mut i: usize = 0;
-    while i < 32 {
+    while i < crate::ROW_WORDS {
         if m[a + i] & n[b + i] != 0 {
             return true;
         }
@@ -102,10 +102,10 @@ pub fn clear(m: &mut [u64])
 
 // Clears the rows below n.
 pub fn clear_rows(m: &mut [u64], n: usize)
-    requires { ⌜ (length (now m) ≡ 65536) × (n ≤ 2048) ⌝ }
+    requires { ⌜ (IsMatrix (now m)) × (n ≤ 2048) ⌝ }
     ensures { λ _. ⌜ Blank n (now (m .exit)) ⌝ }
 {
-    let end = n * 32;
+    let end = n * crate::ROW_WORDS;
     let mut i: usize = 0;
     while i < end {
         m[i] = 0;
@@ -115,32 +115,32 @@ pub fn clear_rows(m: &mut [u64], n: usize)
 
 // The first set bit of row r from word w on; 2,048 where there is none.
 fn next_word(m: &[u64], r: usize, w: usize) -> usize
-    requires { ⌜ (length (now m) ≡ 65536) × (r < 2048) × (w ≤ 32) ⌝ }
+    requires { ⌜ (IsMatrix (now m)) × (r < 2048) × (w ≤ 32) ⌝ }
     ensures { λ p. ⌜ p ≡ first (bitOf (now (m .entry)) r) (w * 64) (2048 - w * 64) ⌝ }
 {
-    let a = r * 32;
+    let a = r * crate::ROW_WORDS;
     let mut i = w;
-    while i < 32 {
+    while i < crate::ROW_WORDS {
         let x = m[a + i];
         if x != 0 {
-            return i * 64 + u64::trailing_zeros(x) as usize;
+            return i * crate::WORD_BITS + u64::trailing_zeros(x) as usize;
         }
         i += 1;
     }
-    2048
+    crate::ROWS
 }
 
 // The first set bit of row r from column `from` on; 2,048 where there is none. Words that are 0 are passed over whole.
 pub fn next_bit(m: &[u64], r: usize, from: usize) -> usize
-    requires { ⌜ (length (now m) ≡ 65536) × (r < 2048) × (from ≤ 2048) ⌝ }
+    requires { ⌜ (IsMatrix (now m)) × (r < 2048) × (from ≤ 2048) ⌝ }
     ensures { λ p. ⌜ p ≡ first (bitOf (now (m .entry)) r) from (2048 - from) ⌝ }
 {
-    if 2048 <= from {
-        return 2048;
+    if crate::ROWS <= from {
+        return crate::ROWS;
     }
-    let x = m[r * 32 + from / 64] >> (from % 64);
+    let x = m[r * crate::ROW_WORDS + from / crate::WORD_BITS] >> (from % crate::WORD_BITS);
     if x != 0 {
         return from + u64::trailing_zeros(x) as usize;
     }
-    next_word(m, r, from / 64 + 1)
+    next_word(m, r, from / crate::WORD_BITS + 1)
 }

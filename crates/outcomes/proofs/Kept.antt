@@ -107,10 +107,10 @@ module _ (s cs : List ℕ) (l : Lent) where
       rw (← counted s cs l n (t .0), answer-at s cs l n (t .0) i h) (entailed s (own-count (t .0 .sound)) cs (t .0 .fit) i h ok)
   three (Refused r i) t q j h = absurd (refused-positive r q)
 
-  laid : (r : Outcome) → Told s cs l r → of.number r ≡ 0 → (M : Model (marked s) (pieceCount s)) × keepsAll M (facts s)
-  laid (Accepted n nodes shadows) t q =
+  modelled : (r : Outcome) → Told s cs l r → of.number r ≡ 0 → (M : Model (marked s) (pieceCount s)) × keepsAll M (facts s)
+  modelled (Accepted n nodes shadows) t q =
       subst (λ (m : ℕ). (M : Model (marked s) m) × keepsAll M (facts s)) (counted s cs l n (t .0)) (free-model (settles s cs l n (t .0)) (marked s) (unmarked s cs l n (t .0)) (free s cs l n (t .0) (t .1)))
-  laid (Refused r i) t q = absurd (refused-positive r q)
+  modelled (Refused r i) t q = absurd (refused-positive r q)
 
   placed : (r : Outcome) → Told s cs l r → Contradicted s (of.number r) (of.place r)
   placed (Accepted n nodes shadows) t q = absurd (omega arith)
@@ -138,7 +138,7 @@ module _ (s cs : List ℕ) (l : Lent) where
         record {
           answered = rw (d .1) (three r telling);
           refused = λ n p. rw (d .0 ∙ passed-outcome s cs l n p) (runs-refused s (own-count (p .sound)));
-          laid = laid r telling;
+          modelled = modelled r telling;
         }
 
     pub kept-place : Contradicted s (of.number r) (of.place r)

@@ -39,7 +39,7 @@ pub record Entailed (void : ℕ → Bool) (n : ℕ) (fs : List Fact) (f : Fact) 
 pub record Demand3 (book claims : List ℕ) (l : Lent) (answers : List ℕ) (number : ℕ) : Type 0 where
   pub answered : number ≡ 0 → (i : ℕ) → i < records claims → Entailed (marked book) (pieceCount book) (pickedFacts book claims i) (claimed claims i) (getD answers i 0)
   pub refused : (n : ℕ) → Passed book claims l n → (number ≡ 14) ↔ ((M : Model (marked book) n) → keepsAll M (facts book) → ⊥)
-  pub laid : number ≡ 0 → (M : Model (marked book) (pieceCount book)) × keepsAll M (facts book)
+  pub modelled : number ≡ 0 → (M : Model (marked book) (pieceCount book)) × keepsAll M (facts book)
 
 -- refusal 14: with the book's marks the records up to the place are contradictory, and no fewer are
 abbrev pub Contradicted : List ℕ → ℕ → ℕ → Type 0

@@ -19,11 +19,11 @@ pub fn reported_of(comparison: Comparison) -> PiecebookComparison
     ensures { λ r. ⌜ Reported comparison r ⌝ }
 {
     match comparison {
-        Comparison::Compared(laid) => PiecebookComparison {
+        Comparison::Compared(consistent) => PiecebookComparison {
             number: 0,
             place: 0,
             book: 0,
-            together: laid as usize,
+            together: consistent as usize,
         },
         Comparison::Refused(book, refusal, place) => PiecebookComparison {
             number: crate::results::wide(records::refusal_number(refusal)),

@@ -5,7 +5,7 @@ ghost use Rattle.outcomes.specs.Lent.{lent};
 ghost use Rattle.outcomes.specs.Demands.{Demand2, Demand3, Contradicted};
 ghost use Rattle.outcomes.specs.Fitting.{Fitting};
 ghost use Rattle.piecebook.specs.Exported.{Exported};
-ghost use Rattle.piecebook.specs.Sheeted.{Sheeted};
+ghost use Rattle.piecebook.specs.GridResult.{GridResult};
 ghost use Rattle.piecebook.specs.OpenBook.{Started, Added, Withdrawn, Answered, Replied, stateOf};
 ghost use Rattle.convert.specs.Converted.{converted};
 ghost use Rattle.convert.specs.Same.{InForce, SameAnswers};
@@ -108,7 +108,7 @@ pub extern "C" fn piecebook_grid_with(
     p: &mut [u64; 65536],
     q: &mut [u64; 65536],
 ) -> PiecebookGrids
-    ensures { λ r. ⌜ Sheeted (now (book .entry)) r ⌝ }
+    ensures { λ r. ⌜ GridResult (now (book .entry)) r ⌝ }
 {
     let sheet = grids::grid(book, e, d, t, u, p, q);
     let outcome = sheet.outcome;

@@ -4,7 +4,10 @@ ghost use lib.ListN.{length};
 ghost use Rattle.io.specs.Counts.{Counts};
 use libc::STDIN_FILENO;
 use libc::STDOUT_FILENO;
-use report::Laid;
+use pages::Written;
+
+// Bytes of a book that are read: one record more than row 4 lets pass, so that row 4 can tell.
+const BOOK_READ: usize = 49158;
 
 // As much of the file book.rec as fits; nothing, the empty book, where it cannot be opened.
 fn read_book(book: &mut [u8]) -> usize
@@ -20,18 +23,18 @@ fn read_book(book: &mut [u8]) -> usize
 }
 
 fn main() {
-    let mut book = [0u8; 49158];
+    let mut book = [0u8; BOOK_READ];
     let taken = read_book(&mut book);
-    let mut claims = [0u8; 24582];
+    let mut claims = [0u8; report::CLAIMS_READ];
     let asked = io::read_full(STDIN_FILENO, &mut claims);
-    let mut page = [0u8; 135285];
-    let mut e = [0u64; 65536];
-    let mut d = [0u64; 65536];
-    let mut t = [0u64; 65536];
-    let mut u = [0u64; 65536];
-    let mut p = [0u64; 65536];
-    let mut q = [0u64; 65536];
-    let Laid::Text(end) = report::ask(
+    let mut page = [0u8; report::PAGE_BYTES];
+    let mut e = [0u64; matrices::WORDS];
+    let mut d = [0u64; matrices::WORDS];
+    let mut t = [0u64; matrices::WORDS];
+    let mut u = [0u64; matrices::WORDS];
+    let mut p = [0u64; matrices::WORDS];
+    let mut q = [0u64; matrices::WORDS];
+    let Written::Text(end) = report::ask(
         &book[..taken],
         &claims[..asked],
         &mut page,

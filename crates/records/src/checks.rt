@@ -17,6 +17,17 @@ use crate::Finding;
 use crate::Record;
 use crate::Refusal;
 
+// How many records are few: their keys and filter are shorter. A filter is words of 64 bits, and its mask the number of its last bit.
+const FEW_RECORDS: usize = 256;
+
+const SHORT_FILTER: usize = 256;
+
+const SHORT_MASK: usize = 16383;
+
+const LONG_FILTER: usize = 4096;
+
+const LONG_MASK: usize = 262143;
+
 // Whether an edition has the kind of a record.
 fn admits(edition: Edition, r: Record) -> bool
     ensures { λ t. ⌜ t ≡ admitted edition r ⌝ }
@@ -25,8 +36,8 @@ fn admits(edition: Edition, r: Record) -> bool
         return true;
     }
     match edition {
-        Edition::Former => r.kind == 5,
-        Edition::Current => r.kind == 6,
+        Edition::Former => r.kind == crate::TRAY,
+        Edition::Current => r.kind == crate::VOID,
     }
 }
 
@@ -47,7 +58,7 @@ fn check_mark(r: Record) -> Finding
 fn check_order(r: Record) -> Finding
     ensures { λ f. ⌜ f ≡ row (rising r) Order Fit ⌝ }
 {
-    if r.kind != 1 {
+    if r.kind != crate::PART {
         return Finding::Fit;
     }
     if r.b < r.a {
@@ -66,10 +77,10 @@ fn check_form(edition: Edition, r: Record) -> Finding
     if 1 < r.origin {
         return Finding::Unfit(Refusal::Origin);
     }
-    if 2047 < crate::largest_named(r) {
+    if crate::LAST_PIECE < crate::largest_named(r) {
         return Finding::Unfit(Refusal::PieceNumber);
     }
-    if r.kind == 6 {
+    if r.kind == crate::VOID {
         return check_mark(r);
     }
     match edition {
@@ -181,14 +192,14 @@ fn check_records(edition: Edition, book: &[u8], n: usize) -> BookCheck
     requires { ⌜ (n ≤ 8192) × (6 * n ≤ length (now book)) ⌝ }
     ensures { λ r. ⌜ r ≡ recordsCheck edition (now (book .entry)) n ⌝ }
 {
-    if n <= 256 {
-        let mut keys = [0u64; 256];
-        let mut seen = [0u64; 256];
-        return check_records_by(edition, book, n, 16383, &mut keys, &mut seen);
+    if n <= FEW_RECORDS {
+        let mut keys = [0u64; FEW_RECORDS];
+        let mut seen = [0u64; SHORT_FILTER];
+        return check_records_by(edition, book, n, SHORT_MASK, &mut keys, &mut seen);
     }
-    let mut keys = [0u64; 8192];
-    let mut seen = [0u64; 4096];
-    check_records_by(edition, book, n, 262143, &mut keys, &mut seen)
+    let mut keys = [0u64; crate::RECORDS];
+    let mut seen = [0u64; LONG_FILTER];
+    check_records_by(edition, book, n, LONG_MASK, &mut keys, &mut seen)
 }
 
 // Rows 3 to 9 of a book, by an edition.
@@ -198,8 +209,8 @@ fn check_by(edition: Edition, book: &[u8]) -> BookCheck
     if book.len() % 6 != 0 {
         return BookCheck::Refused(Refusal::BookLength, 0);
     }
-    let n = book.len() / 6;
-    if 8192 < n {
+    let n = book.len() / crate::RECORD_BYTES;
+    if crate::RECORDS < n {
         return BookCheck::Refused(Refusal::TooManyRecords, 0);
     }
     check_records(edition, book, n)
@@ -241,8 +252,8 @@ pub fn check_claims(claims: &[u8], pieces: usize) -> ClaimsCheck
     if claims.len() % 6 != 0 {
         return ClaimsCheck::Refused(Refusal::ClaimsLength, 0);
     }
-    let n = claims.len() / 6;
-    if 4096 < n {
+    let n = claims.len() / crate::RECORD_BYTES;
+    if crate::CLAIMS < n {
         return ClaimsCheck::Refused(Refusal::TooManyClaims, 0);
     }
     let mut i: usize = 0;

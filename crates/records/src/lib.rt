@@ -15,6 +15,32 @@ pub use checks::check_former;
 
 pub mod checks;
 
+// What a book has at most: pieces, records, bytes; and claims about it.
+pub const PIECES: usize = 2048;
+
+pub const LAST_PIECE: usize = 2047;
+
+pub const RECORDS: usize = 8192;
+
+pub const RECORD_BYTES: usize = 6;
+
+pub const BOOK_BYTES: usize = 49152;
+
+pub const CLAIMS: usize = 4096;
+
+// The kinds of records. TRAY is the former edition's alone.
+pub const PART: u8 = 1;
+
+pub const APART: u8 = 2;
+
+pub const MEETS: u8 = 3;
+
+pub const NOTPART: u8 = 4;
+
+pub const TRAY: u8 = 5;
+
+pub const VOID: u8 = 6;
+
 // A record, or a claim: its kind, its origin, and two 16-bit numbers. The origin is 0 for a cutting sheet and 1 for the scanner; that of a claim
 // picks the facts, 0 for all and 1 for those of cutting sheets.
 pub struct Record {
@@ -135,7 +161,7 @@ pub fn states_fact(r: Record) -> bool
     if r.kind < 1 {
         return false;
     }
-    r.kind <= 4
+    r.kind <= crate::NOTPART
 }
 
 // The largest piece number that a record names: a in every kind, b in kinds 1 to 4.
@@ -161,7 +187,7 @@ pub fn larger_of(x: usize, y: usize) -> usize
 pub fn piece_count(run: &[u8]) -> usize
     ensures { λ r. ⌜ r ≡ pieceCount (now (run .entry)) ⌝ }
 {
-    let n = run.len() / 6;
+    let n = run.len() / crate::RECORD_BYTES;
     let mut pieces: usize = 1;
     let mut i: usize = 0;
     while i < n {
@@ -202,7 +228,7 @@ pub fn keep_sheets(s: &[u8], out: &mut [u8]) -> usize
     requires { ⌜ length (now s) ≤ length (now out) ⌝ }
     ensures { λ r. ⌜ (r ≡ length (sheets (now (s .entry)))) × (now (out .exit) ≡ front (sheets (now (s .entry))) (now (out .entry))) ⌝ }
 {
-    let n = s.len() / 6;
+    let n = s.len() / crate::RECORD_BYTES;
     let mut at: usize = 0;
     let mut i: usize = 0;
     while i < n {

@@ -15,16 +15,21 @@ ghost use Rattle.replicates.specs.Log.{entryCount, entryAt, sequence, wi
 ghost use Rattle.replicates.specs.Call.{badWindow, entryFinding, byPart, bytesIn, Determined};
 ghost use Rattle.replicates.specs.Writing.{Writable, Begun, Followed, Judged};
 use contradiction::Settled;
+use matrices::Matrix;
+use matrices::RowNumbers;
 use outcomes::Outcome;
 use records::BookCheck;
 use records::Refusal;
 
 pub mod windows;
 
+// How many entries a part of the log has at most.
+pub const LOG_ENTRIES: usize = 32768;
+
 // The up to 31 entries before a part of the log, oldest first, and how many they are; laid out as C does.
 #[repr(C)]
 pub struct Window {
-    pub pieces: [u16; 31],
+    pub pieces: [u16; windows::WINDOW],
     pub count: usize,
 }
 
@@ -80,7 +85,7 @@ fn bad_window(n: usize, window: Window) -> bool
 {
     let count = window.count;
     let pieces = window.pieces;
-    if 31 < count {
+    if windows::WINDOW < count {
         return true;
     }
     let mut j: usize = 0;
@@ -115,7 +120,7 @@ fn check_part(n: usize, nodes: usize, shadows: usize, window: Window, log: &[u8]
     if log.len() % 2 != 0 {
         return Outcome::Refused(Refusal::LogLength, 0);
     }
-    if 32768 < log.len() / 2 {
+    if LOG_ENTRIES < log.len() / 2 {
         return Outcome::Refused(Refusal::LogLength, 0);
     }
     if bad_window(n, window) {
@@ -157,7 +162,7 @@ fn last_window(xs: &[u16]) -> Window
 {
     let from = windows::oldest_of(xs.len());
     let count = xs.len() - from;
-    let mut pieces = [0u16; 31];
+    let mut pieces = [0u16; windows::WINDOW];
     let mut i: usize = 0;
     while i < count {
         pieces[i] = xs[from + i];
@@ -171,12 +176,12 @@ fn write_part(
     book: &[u8],
     n: usize,
     voids: &[u64],
-    e: &[u64; 65536],
-    order: &[u16; 2048],
-    lead: &[u16; 2048],
-    d: &[u64; 65536],
-    t: &mut [u64; 65536],
-    a: &mut [u64; 65536],
+    e: &Matrix,
+    order: &RowNumbers,
+    lead: &RowNumbers,
+    d: &Matrix,
+    t: &mut Matrix,
+    a: &mut Matrix,
     window: Window,
     log: &[u8],
     out: &mut [u8],
@@ -185,7 +190,7 @@ fn write_part(
     ensures { λ r. ⌜ (r ≡ windowOf (sequence window (now (log .entry)))) × (now (out .exit) ≡ front (bytesIn (now (book .entry)) n window (now (log .entry))) (now (out .entry))) ⌝ }
 {
     closure::apart::apart_rows(book, n, voids, e, order, lead, d, t, a);
-    let mut xs = [0u16; 32799];
+    let mut xs = [0u16; LOG_ENTRIES + windows::WINDOW];
     let count = window.count;
     put_window(window, &mut xs);
     put_entries(log, count, &mut xs);
@@ -212,18 +217,18 @@ fn judge(
     window: Window,
     log: &[u8],
     out: &mut [u8],
-    e: &mut [u64; 65536],
-    d: &mut [u64; 65536],
-    t: &mut [u64; 65536],
-    a: &mut [u64; 65536],
+    e: &mut Matrix,
+    d: &mut Matrix,
+    t: &mut Matrix,
+    a: &mut Matrix,
 ) -> Replicated
     requires { ⌜ (bookCheck (now book) ≡ on.Accepted n) × (2 * entryCount (now log) ≤ length (now out)) ⌝ }
     ensures { λ r. ⌜ Judged (now (book .entry)) n window (now (log .entry)) (now (out .entry)) r (now (out .exit)) ⌝ }
 {
     let mut voids = [0u64; 32];
     closure::marking::mark_voids(book, &mut voids);
-    let mut order = [0u16; 2048];
-    let mut lead = [0u16; 2048];
+    let mut order = [0u16; matrices::ROWS];
+    let mut lead = [0u16; matrices::ROWS];
     let settled = contradiction::settle_alone(book, n, &voids, e, &mut order, &mut lead, d, t);
     match settled {
         Settled::Clash(place) => refuse(Refusal::Contradiction, place, window),
@@ -260,10 +265,10 @@ pub fn replicates(
     window: Window,
     log: &[u8],
     out: &mut [u8],
-    e: &mut [u64; 65536],
-    d: &mut [u64; 65536],
-    t: &mut [u64; 65536],
-    a: &mut [u64; 65536],
+    e: &mut Matrix,
+    d: &mut Matrix,
+    t: &mut Matrix,
+    a: &mut Matrix,
 ) -> Replicated
     ensures { λ r. ⌜ Determined (now (book .entry)) window (now (log .entry)) (now (out .entry)) r (now (out .exit)) ⌝ }
 {

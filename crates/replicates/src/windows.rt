@@ -7,6 +7,9 @@ ghost use Rattle.replicates.specs.Before.{oldest};
 ghost use Rattle.replicates.specs.Looking.{Sequence, seeing, Looked, Reach};
 ghost use Rattle.records.specs.declared.BookCheck.the-variants as on;
 
+// How many entries before one are looked at.
+pub const WINDOW: usize = 31;
+
 // How many of the entries looked at are apart, and the number from which on all are.
 pub struct Seen {
     pub apart: u8,
@@ -17,10 +20,10 @@ pub struct Seen {
 pub fn oldest_of(q: usize) -> usize
     ensures { λ r. ⌜ r ≡ oldest q ⌝ }
 {
-    if q < 31 {
+    if q < WINDOW {
         return 0;
     }
-    q - 31
+    q - WINDOW
 }
 
 // One entry more, number j, that is apart or not.

@@ -4,8 +4,8 @@ use mathlib.Core.List.{List}
 use Prim.Native.Nat.{ℕ}
 use Rattle.io.specs.Counts.{Counts}
 use Rattle.report.specs.Asked.{Asked}
-use Rattle.report.specs.declared.Laid.{Laid}
-use Rattle.report.specs.declared.Laid.the-variants.{Text}
+use Rattle.pages.specs.declared.Written.{Written}
+use Rattle.pages.specs.declared.Written.the-variants.{Text}
 
-pub text-counts : (book claims page page′ : List ℕ) (r : Laid) (end : ℕ) → r ≡ Text end → Asked book claims page page′ r → Counts end page′
+pub text-counts : (book claims page page′ : List ℕ) (r : Written) (end : ℕ) → r ≡ Text end → Asked book claims page page′ r → Counts end page′
 text-counts book claims page page′ r end is a = (subst (Asked book claims page page′) is a) .1 .counts

@@ -10,14 +10,16 @@ ghost use Rattle.report.specs.Room.{bytesFor};
 ghost use Rattle.report.specs.Page.{printed};
 ghost use Rattle.report.specs.Answered.{Answered};
 ghost use Rattle.report.specs.Asked.{Asked};
+use matrices::Matrix;
 use outcomes::Outcome;
+use pages::Written;
 use records::Record;
 
-// How many bytes of the page are text; or the page is too short for the longest session, or the claims are longer than any that is read.
-pub enum Laid {
-    Text(usize),
-    NoRoom,
-}
+// Bytes of claims that a session reads: one claim more than row 11 lets pass, so that row 11 can tell.
+pub const CLAIMS_READ: usize = 24582;
+
+// Bytes of a page that always serve: `Room.bytesFor` of so many claims.
+pub const PAGE_BYTES: usize = 135285;
 
 // The line of claim i.
 fn put_claim(page: &mut [u8], at: usize, i: usize, claim: Record, answer: u8) -> usize
@@ -66,7 +68,7 @@ fn answer_at(answers: &[u8], i: usize) -> u8
 pub fn put_claims(page: &mut [u8], at: usize, claims: &[u8], answers: &[u8]) -> usize
     ensures { λ r. ⌜ Put (now (page .entry)) at (claimLines (now (claims .entry)) (now (answers .entry)) (records (now (claims .entry)))) (now (page .exit)) r ⌝ }
 {
-    let n = claims.len() / 6;
+    let n = claims.len() / records::RECORD_BYTES;
     let mut end = at;
     let mut i: usize = 0;
     while i < n {
@@ -104,20 +106,20 @@ pub fn answer(
     book: &[u8],
     claims: &[u8],
     answers: &mut [u8],
-    e: &mut [u64; 65536],
-    d: &mut [u64; 65536],
-    t: &mut [u64; 65536],
-    u: &mut [u64; 65536],
-    p: &mut [u64; 65536],
-    q: &mut [u64; 65536],
+    e: &mut Matrix,
+    d: &mut Matrix,
+    t: &mut Matrix,
+    u: &mut Matrix,
+    p: &mut Matrix,
+    q: &mut Matrix,
 ) -> Outcome
     requires { ⌜ now answers ≡ replicate 4097 0 ⌝ }
     ensures { λ r. ⌜ Answered (now (book .entry)) (now (claims .entry)) (now (answers .exit)) r ⌝ }
 {
-    let mut parens = [0u8; 2560];
-    let mut marks = [0u8; 1280];
-    let mut shadows = [0u16; 8192];
-    let mut places = [0u16; 2048];
+    let mut parens = [0u8; index::PARENTHESES_BYTES];
+    let mut marks = [0u8; index::MARKS_BYTES];
+    let mut shadows = [0u16; index::SHADOWS];
+    let mut places = [0u16; index::PLACES];
     answers::answer_claims(
         book,
         claims,
@@ -140,17 +142,17 @@ fn write_session(
     book: &[u8],
     claims: &[u8],
     page: &mut [u8],
-    e: &mut [u64; 65536],
-    d: &mut [u64; 65536],
-    t: &mut [u64; 65536],
-    u: &mut [u64; 65536],
-    p: &mut [u64; 65536],
-    q: &mut [u64; 65536],
+    e: &mut Matrix,
+    d: &mut Matrix,
+    t: &mut Matrix,
+    u: &mut Matrix,
+    p: &mut Matrix,
+    q: &mut Matrix,
 ) -> usize
     requires { ⌜ (length (now claims) ≤ 24582) × (135285 ≤ length (now page)) ⌝ }
     ensures { λ r. ⌜ Printed (now (page .entry)) (printed (now (book .entry)) (now (claims .entry))) (now (page .exit)) r ⌝ }
 {
-    let mut answers = [0u8; 4097];
+    let mut answers = [0u8; records::CLAIMS + 1];
     let outcome = answer(book, claims, &mut answers, e, d, t, u, p, q);
     match outcome {
         Outcome::Refused(refusal, place) => put_session(
@@ -181,21 +183,21 @@ pub fn ask(
     book: &[u8],
     claims: &[u8],
     page: &mut [u8],
-    e: &mut [u64; 65536],
-    d: &mut [u64; 65536],
-    t: &mut [u64; 65536],
-    u: &mut [u64; 65536],
-    p: &mut [u64; 65536],
-    q: &mut [u64; 65536],
-) -> Laid
+    e: &mut Matrix,
+    d: &mut Matrix,
+    t: &mut Matrix,
+    u: &mut Matrix,
+    p: &mut Matrix,
+    q: &mut Matrix,
+) -> Written
     ensures { λ r. ⌜ Asked (now (book .entry)) (now (claims .entry)) (now (page .entry)) (now (page .exit)) r ⌝ }
 {
-    if 24582 < claims.len() {
-        return Laid::NoRoom;
+    if CLAIMS_READ < claims.len() {
+        return Written::NoRoom;
     }
-    if page.len() < 135285 {
-        return Laid::NoRoom;
+    if page.len() < PAGE_BYTES {
+        return Written::NoRoom;
     }
     let end = write_session(book, claims, page, e, d, t, u, p, q);
-    Laid::Text(end)
+    Written::Text(end)
 }

@@ -8,7 +8,7 @@ ghost use Rattle.rules.specs.Fact.{factOf, AllWithin};
 ghost use Rattle.records.specs.Facts.{facts};
 ghost use Rattle.closure.specs.Void.{voidOf};
 ghost use Rattle.verdicts.specs.ByMarks.{byMarks};
-ghost use Rattle.matrices.specs.Matrix.{bitOf};
+ghost use Rattle.matrices.specs.Matrix.{bitOf, IsMatrix};
 ghost use Rattle.verdicts.specs.Opposed.{opposed};
 ghost use Rattle.verdicts.specs.Tells.{Derived, Answered, Clashing};
 ghost use Rattle.verdicts.specs.Answers.{answerByte};
@@ -45,7 +45,7 @@ fn second_marked(voids: &[u64], a: usize, b: usize) -> bool
 
 // Whether a is marked, or part of b by the stored facts.
 fn part_or_marked(voids: &[u64], d: &[u64], a: usize, b: usize) -> bool
-    requires { ⌜ (length (now voids) ≡ 32) × (length (now d) ≡ 65536) × (a < 2048) × (b < 2048) ⌝ }
+    requires { ⌜ (length (now voids) ≡ 32) × (IsMatrix (now d)) × (a < 2048) × (b < 2048) ⌝ }
     ensures { λ r. ⌜ r ≡ (voidOf (now (voids .entry)) a || bitOf (now (d .entry)) b a) ⌝ }
 {
     if matrices::has(voids, a) {
@@ -56,19 +56,19 @@ fn part_or_marked(voids: &[u64], d: &[u64], a: usize, b: usize) -> bool
 
 // Whether the marks and the closure contradict a record.
 fn opposes(r: Record, voids: &[u64], d: &[u64], t: &[u64]) -> bool
-    requires { ⌜ (length (now voids) ≡ 32) × (length (now d) ≡ 65536) × (length (now t) ≡ 65536) × (1 ≤ r .kind → r .kind ≤ 4 → (r .a < 2048) × (r .b < 2048)) ⌝ }
+    requires { ⌜ (length (now voids) ≡ 32) × (IsMatrix (now d)) × (IsMatrix (now t)) × (1 ≤ r .kind → r .kind ≤ 4 → (r .a < 2048) × (r .b < 2048)) ⌝ }
     ensures { λ b. ⌜ b ≡ opposed (voidOf (now (voids .entry))) (now (d .entry)) (now (t .entry)) r ⌝ }
 {
-    if r.kind == 1 {
+    if r.kind == records::PART {
         return second_marked(voids, r.a, r.b);
     }
-    if r.kind == 2 {
+    if r.kind == records::APART {
         return matrices::meet(t, r.a, d, r.b);
     }
-    if r.kind == 3 {
+    if r.kind == records::MEETS {
         return either_marked(voids, r.a, r.b);
     }
-    if r.kind == 4 {
+    if r.kind == records::NOTPART {
         return part_or_marked(voids, d, r.a, r.b);
     }
     false
@@ -76,10 +76,10 @@ fn opposes(r: Record, voids: &[u64], d: &[u64], t: &[u64]) -> bool
 
 // Whether the run is contradictory, where d and t are those of its facts: only stored facts are looked at.
 pub fn clashes(run: &[u8], voids: &[u64], d: &[u64], t: &[u64]) -> bool
-    requires { ⌜ (length (now voids) ≡ 32) × (length (now d) ≡ 65536) × (length (now t) ≡ 65536) × AllWithin 2048 (facts (now run)) ⌝ }
+    requires { ⌜ (length (now voids) ≡ 32) × (IsMatrix (now d)) × (IsMatrix (now t)) × AllWithin 2048 (facts (now run)) ⌝ }
     ensures { λ b. ⌜ Clashing (voidOf (now (voids .entry))) (facts (now (run .entry))) (now (d .entry)) (now (t .entry)) b ⌝ }
 {
-    let n = run.len() / 6;
+    let n = run.len() / records::RECORD_BYTES;
     let mut i: usize = 0;
     while i < n {
         let r = records::record_at(run, i);
@@ -96,13 +96,13 @@ pub fn marks_tell(kind: u8, a: usize, b: usize, voids: &[u64]) -> bool
     requires { ⌜ (length (now voids) ≡ 32) × (a < 2048) × (b < 2048) ⌝ }
     ensures { λ r. ⌜ r ≡ byMarks (voidOf (now (voids .entry))) (factOf kind a b) ⌝ }
 {
-    if kind == 1 {
+    if kind == records::PART {
         return matrices::has(voids, a);
     }
-    if kind == 2 {
+    if kind == records::APART {
         return either_marked(voids, a, b);
     }
-    if kind == 3 {
+    if kind == records::MEETS {
         return false;
     }
     second_marked(voids, a, b)
@@ -119,16 +119,16 @@ fn derived(
     t: &[u64],
     q: &[u64],
 ) -> bool
-    requires { ⌜ (a < 2048) × (b < 2048) × (length (now d) ≡ 65536) × (length (now u) ≡ 65536) × (length (now p) ≡ 65536) × (length (now t) ≡ 65536) × (length (now q) ≡ 65536) ⌝ }
+    requires { ⌜ (a < 2048) × (b < 2048) × (IsMatrix (now d)) × (IsMatrix (now u)) × (IsMatrix (now p)) × (IsMatrix (now t)) × (IsMatrix (now q)) ⌝ }
     ensures { λ r. ⌜ Derived (now (d .entry)) (now (u .entry)) (now (p .entry)) (now (t .entry)) (now (q .entry)) kind a b r ⌝ }
 {
-    if kind == 1 {
+    if kind == records::PART {
         return matrices::test(d, b, a);
     }
-    if kind == 2 {
+    if kind == records::APART {
         return matrices::meet(p, a, u, b);
     }
-    if kind == 3 {
+    if kind == records::MEETS {
         return matrices::meet(t, a, d, b);
     }
     matrices::meet(q, a, u, b)
@@ -157,7 +157,7 @@ pub fn answer_to(
     t: &[u64],
     q: &[u64],
 ) -> Answer
-    requires { ⌜ (1 ≤ kind) × (kind ≤ 4) × (a < 2048) × (b < 2048) × (length (now voids) ≡ 32) × (length (now d) ≡ 65536) × (length (now u) ≡ 65536) × (length (now p) ≡ 65536) × (length (now t) ≡ 65536) × (length (now q) ≡ 65536) ⌝ }
+    requires { ⌜ (1 ≤ kind) × (kind ≤ 4) × (a < 2048) × (b < 2048) × (length (now voids) ≡ 32) × (IsMatrix (now d)) × (IsMatrix (now u)) × (IsMatrix (now p)) × (IsMatrix (now t)) × (IsMatrix (now q)) ⌝ }
     ensures { λ r. ⌜ Answered (voidOf (now (voids .entry))) (now (d .entry)) (now (u .entry)) (now (p .entry)) (now (t .entry)) (now (q .entry)) kind a b (answerByte r) ⌝ }
 {
     if either_marked(voids, a, b) {

@@ -45,7 +45,7 @@ pub fn settle(
             outcome,
         },
         Outcome::Accepted(pieces, _, _) => {
-            runs::write_runs(run, &run[..0], &mut area[..49152]);
+            runs::write_runs(run, &run[..0], &mut area[..records::BOOK_BYTES]);
             Settled {
                 working: Working { records, pieces },
                 outcome,

@@ -10,6 +10,7 @@ ghost use Rattle.working.specs.Kept.{Extended, Started, Added, Withdrawn
 use keeping::Asked;
 pub use keeping::Settled;
 pub use keeping::Working;
+use matrices::Matrix;
 use outcomes::Outcome;
 use records::Refusal;
 
@@ -20,20 +21,20 @@ pub mod runs;
 fn answer_run(
     run: &[u8],
     claim: &[u8],
-    e: &mut [u64; 65536],
-    d: &mut [u64; 65536],
-    t: &mut [u64; 65536],
-    u: &mut [u64; 65536],
-    p: &mut [u64; 65536],
-    q: &mut [u64; 65536],
+    e: &mut Matrix,
+    d: &mut Matrix,
+    t: &mut Matrix,
+    u: &mut Matrix,
+    p: &mut Matrix,
+    q: &mut Matrix,
 ) -> Asked
     requires { ⌜ length (now claim) ≡ 6 ⌝ }
     ensures { λ r. ⌜ (r .outcome ≡ freshCall (now (run .entry)) (now (claim .entry))) × (r .answer ≡ answerOf (now (run .entry)) (now (claim .entry)) (r .outcome)) ⌝ }
 {
-    let mut parens = [0u8; 2560];
-    let mut marks = [0u8; 1280];
-    let mut shadows = [0u16; 8192];
-    let mut places = [0u16; 2048];
+    let mut parens = [0u8; index::PARENTHESES_BYTES];
+    let mut marks = [0u8; index::MARKS_BYTES];
+    let mut shadows = [0u16; index::SHADOWS];
+    let mut places = [0u16; index::PLACES];
     let mut answers = [0u8; 1];
     let outcome = answers::answer_claims(
         run,
@@ -59,12 +60,12 @@ fn answer_run(
 // A start: no records.
 pub fn start(
     area: &mut [u8],
-    e: &mut [u64; 65536],
-    d: &mut [u64; 65536],
-    t: &mut [u64; 65536],
-    u: &mut [u64; 65536],
-    p: &mut [u64; 65536],
-    q: &mut [u64; 65536],
+    e: &mut Matrix,
+    d: &mut Matrix,
+    t: &mut Matrix,
+    u: &mut Matrix,
+    p: &mut Matrix,
+    q: &mut Matrix,
 ) -> Settled
     ensures { λ r. ⌜ Started (now (area .entry)) (r .outcome) (r .working) (now (area .exit)) ⌝ }
 {
@@ -72,7 +73,7 @@ pub fn start(
         records: 0,
         pieces: 0,
     };
-    if area.len() < 49152 {
+    if area.len() < records::BOOK_BYTES {
         return keeping::refuse(none, Refusal::ShortBuffer);
     }
     let run = [0u8; 0];
@@ -85,12 +86,12 @@ fn extend(
     was: Working,
     area: &mut [u8],
     addition: &[u8],
-    e: &mut [u64; 65536],
-    d: &mut [u64; 65536],
-    t: &mut [u64; 65536],
-    u: &mut [u64; 65536],
-    p: &mut [u64; 65536],
-    q: &mut [u64; 65536],
+    e: &mut Matrix,
+    d: &mut Matrix,
+    t: &mut Matrix,
+    u: &mut Matrix,
+    p: &mut Matrix,
+    q: &mut Matrix,
 ) -> Settled
     requires { ⌜ (was .records < 8192) × ((49152 ≤ length (now area)) × (length (now addition) ≡ 6)) ⌝ }
     ensures { λ r. ⌜ Extended was (now (area .entry)) (extended (now (area .entry)) (was .records) (now (addition .entry))) r (now (area .exit)) ⌝ }
@@ -98,7 +99,7 @@ fn extend(
     let records = was.records;
     let end = 6 * records;
     let next = end + 6;
-    let mut run = [0u8; 49152];
+    let mut run = [0u8; records::BOOK_BYTES];
     runs::write_runs(&area[..end], addition, &mut run[..next]);
     let outcome = answers::judge_run(&run[..next], e, d, t, u, p, q);
     keeping::settle(was, area, &run[..next], records + 1, outcome)
@@ -108,26 +109,26 @@ pub fn add_to(
     was: Working,
     area: &mut [u8],
     addition: &[u8],
-    e: &mut [u64; 65536],
-    d: &mut [u64; 65536],
-    t: &mut [u64; 65536],
-    u: &mut [u64; 65536],
-    p: &mut [u64; 65536],
-    q: &mut [u64; 65536],
+    e: &mut Matrix,
+    d: &mut Matrix,
+    t: &mut Matrix,
+    u: &mut Matrix,
+    p: &mut Matrix,
+    q: &mut Matrix,
 ) -> Settled
     ensures { λ r. ⌜ Added was (now (area .entry)) (now (addition .entry)) (r .outcome) (r .working) (now (area .exit)) ⌝ }
 {
     let records = was.records;
-    if area.len() < 49152 {
+    if area.len() < records::BOOK_BYTES {
         return keeping::refuse(was, Refusal::ShortBuffer);
     }
-    if 8192 < records {
+    if records::RECORDS < records {
         return keeping::refuse(was, Refusal::TooManyRecords);
     }
-    if addition.len() != 6 {
+    if addition.len() != records::RECORD_BYTES {
         return keeping::refuse(was, Refusal::BookLength);
     }
-    if 8192 <= records {
+    if records::RECORDS <= records {
         return keeping::refuse(was, Refusal::TooManyRecords);
     }
     extend(was, area, addition, e, d, t, u, p, q)
@@ -138,12 +139,12 @@ fn remove(
     was: Working,
     area: &mut [u8],
     number: usize,
-    e: &mut [u64; 65536],
-    d: &mut [u64; 65536],
-    t: &mut [u64; 65536],
-    u: &mut [u64; 65536],
-    p: &mut [u64; 65536],
-    q: &mut [u64; 65536],
+    e: &mut Matrix,
+    d: &mut Matrix,
+    t: &mut Matrix,
+    u: &mut Matrix,
+    p: &mut Matrix,
+    q: &mut Matrix,
 ) -> Settled
     requires { ⌜ (number < was .records) × ((was .records ≤ 8192) × (49152 ≤ length (now area))) ⌝ }
     ensures { λ r. ⌜ Extended was (now (area .entry)) (without (now (area .entry)) (was .records) number) r (now (area .exit)) ⌝ }
@@ -152,7 +153,7 @@ fn remove(
     let at = 6 * number;
     let end = 6 * records;
     let next = end - 6;
-    let mut run = [0u8; 49152];
+    let mut run = [0u8; records::BOOK_BYTES];
     runs::write_without(area, at, end, &mut run[..next]);
     let outcome = answers::judge_run(&run[..next], e, d, t, u, p, q);
     keeping::settle(was, area, &run[..next], records - 1, outcome)
@@ -162,20 +163,20 @@ pub fn withdraw_from(
     was: Working,
     area: &mut [u8],
     number: usize,
-    e: &mut [u64; 65536],
-    d: &mut [u64; 65536],
-    t: &mut [u64; 65536],
-    u: &mut [u64; 65536],
-    p: &mut [u64; 65536],
-    q: &mut [u64; 65536],
+    e: &mut Matrix,
+    d: &mut Matrix,
+    t: &mut Matrix,
+    u: &mut Matrix,
+    p: &mut Matrix,
+    q: &mut Matrix,
 ) -> Settled
     ensures { λ r. ⌜ Withdrawn was (now (area .entry)) number (r .outcome) (r .working) (now (area .exit)) ⌝ }
 {
     let records = was.records;
-    if area.len() < 49152 {
+    if area.len() < records::BOOK_BYTES {
         return keeping::refuse(was, Refusal::ShortBuffer);
     }
-    if 8192 < records {
+    if records::RECORDS < records {
         return keeping::refuse(was, Refusal::TooManyRecords);
     }
     if records <= number {
@@ -188,30 +189,30 @@ pub fn ask_of(
     was: Working,
     area: &[u8],
     claim: &[u8],
-    e: &mut [u64; 65536],
-    d: &mut [u64; 65536],
-    t: &mut [u64; 65536],
-    u: &mut [u64; 65536],
-    p: &mut [u64; 65536],
-    q: &mut [u64; 65536],
+    e: &mut Matrix,
+    d: &mut Matrix,
+    t: &mut Matrix,
+    u: &mut Matrix,
+    p: &mut Matrix,
+    q: &mut Matrix,
 ) -> Asked
     ensures { λ r. ⌜ Answered was (now (area .entry)) (now (claim .entry)) r ⌝ }
 {
     let records = was.records;
-    if area.len() < 49152 {
+    if area.len() < records::BOOK_BYTES {
         return Asked {
             outcome: Outcome::Refused(Refusal::ShortBuffer, 0),
             answer: 0,
         };
     }
-    if 8192 < records {
+    if records::RECORDS < records {
         return Asked {
             outcome: Outcome::Refused(Refusal::TooManyRecords, 0),
             answer: 0,
         };
     }
     let end = 6 * records;
-    if claim.len() != 6 {
+    if claim.len() != records::RECORD_BYTES {
         let outcome = keeping::misfit(&area[..end], claim);
         return Asked { outcome, answer: 0 };
     }

@@ -1,7 +1,7 @@
 use mathlib.Core.Path.{sym, _∙_}
 use native.Mathlib.Omega.{arith}
 use Rattle.answers.proofs.Fresh.{fresh-sound}
-use Rattle.grids.proofs.Sheets.{refused-grid, large-grid, small-grid}
+use Rattle.grids.proofs.Griddings.{refused-grid, large-grid, small-grid}
 use borrow.Author.Needs.{needs}
 use Rattle.grids.proofs.grid.Statement.{statement}
 use Rattle.grids.proofs.grid.Tie as tie

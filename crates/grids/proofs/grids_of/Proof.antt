@@ -2,7 +2,7 @@ use Rattle.records.proofs.Accepted.{accepted}
 use Rattle.closure.proofs.VoidRows.{accepted-markable}
 use Rattle.grids.proofs.Agrees.{agrees}
 use Rattle.grids.proofs.Starts.{loaded-marks}
-use Rattle.grids.proofs.Sheets.{loadable, first-word}
+use Rattle.grids.proofs.Griddings.{loadable, first-word}
 use borrow.Author.Needs.{needs}
 use Rattle.grids.proofs.grids_of.Statement.{statement}
 use Rattle.grids.proofs.grids_of.Tie as tie

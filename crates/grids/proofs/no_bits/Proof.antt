@@ -1,5 +1,5 @@
 use mathlib.Core.Path.{refl}
-use Rattle.grids.proofs.Sheets.{no-bits}
+use Rattle.grids.proofs.Griddings.{no-bits}
 use Rattle.grids.proofs.no_bits.Statement.{statement}
 use Rattle.grids.proofs.no_bits.Tie as tie
 

@@ -25,7 +25,7 @@ use Rattle.grids.specs.Grid.{bitAt}
 use Rattle.grids.specs.Loaded.{Loadable}
 use Rattle.grids.specs.Closed.{holds}
 use Rattle.grids.specs.Answers.{Answers}
-use Rattle.grids.specs.Sheet.{sized, bySize, gridOutcome, bitFor, Blank, Gridded}
+use Rattle.grids.specs.Gridded.{sized, bySize, gridOutcome, bitFor, Blank, Gridded}
 
 module _ (s : List ℕ) (g : Grids) where
   gridded : (o : Outcome) → gridOutcome s ≡ o → ((f : Fact) → Within 64 f → holds g f ≡ bitFor s o f) → Gridded s o g

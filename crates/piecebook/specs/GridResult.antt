@@ -6,7 +6,7 @@ use Rattle.rules.specs.Fact.{Fact, Within}
 use Rattle.outcomes.specs.Outcome.{number, place}
 use Rattle.grids.specs.declared.rounds.Grids.{Grids}
 use Rattle.grids.specs.Closed.{holds}
-use Rattle.grids.specs.Sheet.{gridOutcome, bitFor}
+use Rattle.grids.specs.Gridded.{gridOutcome, bitFor}
 use Rattle.piecebook.specs.declared.PiecebookGrids.{PiecebookGrids}
 
 -- the four grids
@@ -14,7 +14,7 @@ abbrev pub gridsOf : PiecebookGrids → Grids
 gridsOf r = record { part = r .part; apart = r .apart; meets = r .meets; notpart = r .notpart }
 
 -- document 01's numbers of the outcome, and every bit
-pub record Sheeted (s : List ℕ) (r : PiecebookGrids) : Type 0 where
+pub record GridResult (s : List ℕ) (r : PiecebookGrids) : Type 0 where
   pub number-is : r .number ≡ number (gridOutcome s)
   pub place-is : r .place ≡ place (gridOutcome s)
   pub bits : (f : Fact) → Within 64 f → holds (gridsOf r) f ≡ bitFor s (gridOutcome s) f

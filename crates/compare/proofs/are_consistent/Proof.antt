@@ -2,8 +2,8 @@
 use borrow.Author.Needs.{needs}
 use mathlib.Core.Path.{ap}
 use mathlib.Core.Bool.{not}
-use Rattle.compare.proofs.can_be_laid.Statement.{statement}
-use Rattle.compare.proofs.can_be_laid.Tie as tie
+use Rattle.compare.proofs.are_consistent.Statement.{statement}
+use Rattle.compare.proofs.are_consistent.Tie as tie
 
 slice-aggregate-mark-voids : tie.Need-slice-aggregate-mark-voids
 slice-aggregate-mark-voids c = search needs
@@ -20,8 +20,8 @@ contradicts-requires c κs = search needs
 returns : tie.Need-returns
 returns c = ap not (rw (c .before .before .before .before .before .before .mark-voids .ensures .1) at (c .contradicts .ensures))
 
-pub can-be-laid-spec : {M : Type 1} → statement M
-can-be-laid-spec =
+pub are-consistent-spec : {M : Type 1} → statement M
+are-consistent-spec =
     tie.close
     (tie.spec
     slice-aggregate-mark-voids
