@@ -45,10 +45,13 @@ def public():
             if any(name == d or name.startswith(d + "_") for d in declared):
                 yield source, text, name
     for program in sorted(CRATES.glob("*/src/main.rt")):
-        for crate, name in sorted(set(re.findall(r"\b(\w+)::(\w+)\(", program.read_text()))):
-            source = CRATES / crate / "src" / "lib.rt"
-            if source.is_file() and contract(source.read_text(), name):
-                yield source, source.read_text(), name
+        own = program.parent.parent.name
+        calls = {c for f in program.parent.glob("**/*.rt") for c in re.findall(r"\b(\w+)::(?:\w+::)?(\w+)\(", f.read_text())}
+        for crate, name in sorted(calls):
+            # a crate passes on what its modules have
+            for source in sorted((CRATES / crate / "src").glob("**/*.rt")) if crate != own else ():
+                if contract(source.read_text(), name):
+                    yield source, source.read_text(), name
 
 
 def roots():
