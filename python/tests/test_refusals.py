@@ -150,6 +150,7 @@ class Arguments(unittest.TestCase):
         working = WorkingBook()
         for question in (
             lambda: SESSION.ask("PRAT", 5, 2),
+            lambda: SESSION.ask("meet\u017f", 5, 2),
             lambda: SESSION.ask("VOID", 5, 0),
             lambda: SESSION.ask(5, 5, 2),
             lambda: SESSION.ask(6, 5, 0),
@@ -172,6 +173,8 @@ class Arguments(unittest.TestCase):
         for draw in (tree_svg, grid_svg, page_html):
             self.refuse(TypeError, lambda: draw("part 1 0"))
         self.refuse(TypeError, lambda: chain_svg(["0 PART 1 0 RECORD 0"]))
+        self.refuse(TypeError, lambda: chain_svg(7))
+        self.refuse(ValueError, lambda: chain_svg(iter([])))
         self.refuse(ValueError, lambda: chain_svg([first._replace(number=1)]))
         for premises in ((0, 1), (-1, 0), (0, 5)):
             self.refuse(ValueError, lambda: chain_svg([first, Step(1, Kind.PART, 1, 0, "a", None, premises)]))
