@@ -19,5 +19,9 @@ extern __typeof__(piecebook_replicates_with) plain_replicates_with;
 extern __typeof__(piecebook_compare_with) plain_compare_with;
 extern __typeof__(piecebook_chain_check_with) plain_chain_check_with;
 extern __typeof__(piecebook_clash_check_with) plain_clash_check_with;
+extern __typeof__(piecebook_read_text) plain_read_text;
+extern __typeof__(piecebook_text_line) plain_text_line;
+extern __typeof__(piecebook_show) plain_show;
+extern __typeof__(piecebook_show_claims) plain_show_claims;
 
 #endif

@@ -13,8 +13,9 @@ enum { ENTRIES = 32768, QUESTIONS = 200, WIDTH = 10, SMALL = 100, FULL = 8192 };
 typedef struct {
     uint8_t parentheses[PIECEBOOK_PARENTHESES], marks[PIECEBOOK_MARKS], answers[4096], out[8192 * 6], counts[2 * ENTRIES], area[PIECEBOOK_AREA];
     uint16_t shadows[PIECEBOOK_SHADOWS], places[PIECEBOOK_PLACES], list[PIECEBOOK_LIST], areas[3][PIECEBOOK_PAIRS];
+    uint8_t page[FULL * PIECEBOOK_SHOWN_BYTES], read[PIECEBOOK_RECORD_BYTES];
     piecebook_working state;
-    size_t yes;
+    size_t yes, line;
 } written;
 
 static struct {
@@ -28,6 +29,8 @@ static struct {
     piecebook_chain_result chain;
     piecebook_clash_result clash;
     size_t chain_check, clash_check;
+    piecebook_reading read;
+    piecebook_shown show;
 } results[2];
 
 static written all[2];
@@ -91,6 +94,26 @@ static void their_clash(void)
 {
     results[1].clash = plain_clash(&workspace, BOOK, pieces, steps[1]);
 }
+
+/* The book as text, which is read again. */
+static uint8_t text[FULL * PIECEBOOK_SHOWN_BYTES];
+static size_t text_length;
+
+#define BOTH_ON_TEXT(name, result, call, ...)                                                                                                              \
+    static void our_##name(void)                                                                                                                           \
+    {                                                                                                                                                      \
+        const unsigned i = 0;                                                                                                                              \
+        result = piecebook_##call(__VA_ARGS__);                                                                                                            \
+    }                                                                                                                                                      \
+    static void their_##name(void)                                                                                                                         \
+    {                                                                                                                                                      \
+        const unsigned i = 1;                                                                                                                              \
+        result = plain_##call(__VA_ARGS__);                                                                                                                \
+    }
+
+BOTH_ON_TEXT(read, results[i].read, read_text, PIECEBOOK_RECORDS, text, text_length, all[i].read, sizeof all[i].read)
+BOTH_ON_TEXT(show, results[i].show, show, BOOK, all[i].page, sizeof all[i].page)
+BOTH_ON_TEXT(line, all[i].line, text_line, text, text_length, s.records - 1)
 
 /* A claim alone, beside which `ask` is measured. */
 static void our_claim(void)
@@ -178,6 +201,15 @@ static void make_usual(const column *c)
     shuffle(&s);
 }
 
+/* One record in ten is the scanner's. */
+static void make_text(const column *c)
+{
+    make_usual(c);
+    for (unsigned i = 0; i < s.records; i += 10)
+        s.book[i * 6 + 1] = 1;
+    text_length = piecebook_show(BOOK, text, sizeof text).length;
+}
+
 static void make_half_restricted(const column *c)
 {
     make_usual(c);
@@ -237,6 +269,9 @@ static const line lines[] = {
     {"chain_check", make_usual, our_chain_check, their_chain_check, NULL, 0, 0, 0},
     {"clash, APART", make_contradictory, our_clash, their_clash, NULL, 0, 14, 0},
     {"clash_check", make_contradictory, our_clash_check, their_clash_check, NULL, 0, 14, 0},
+    {"read_text", make_text, our_read, their_read, NULL, 0, 0, 0},
+    {"show", make_text, our_show, their_show, NULL, 0, 0, 0},
+    {"text_line, of the last record", make_text, our_line, their_line, NULL, 0, 0, 0},
 };
 
 /* The number of the call that was measured, of either. */
@@ -245,7 +280,7 @@ static size_t number_of(const line *l, unsigned i)
     const size_t numbers[] = {results[i].answer.number,  results[i].index.number,      results[i].grid.number,    results[i].add.number,
                               results[i].convert.number, results[i].withdraw.number,   results[i].ask.number,     results[i].catalog.number,
                               results[i].compare.number, results[i].replicates.number, results[i].chain.number,
-                              results[i].clash.number};
+                              results[i].clash.number,   results[i].read.number,       results[i].show.number};
     size_t sum = 0;
     for (unsigned j = 0; j < sizeof numbers / sizeof *numbers; j++)
         sum += numbers[j];

@@ -17,7 +17,7 @@ enum { PAGE = 4096, MOST = 16 << 20, PIECES = 2048, RECORDS = 8192 };
 static piecebook_workspace workspace;
 static sample s;
 static uint8_t parentheses[PIECEBOOK_PARENTHESES], marks[PIECEBOOK_MARKS], answers[4096], out[8192 * 6], log_bytes[2 * 32768], counts[2 * 32768];
-static uint8_t area[PIECEBOOK_AREA], steps[PIECEBOOK_STEP_BYTES];
+static uint8_t area[PIECEBOOK_AREA], steps[PIECEBOOK_STEP_BYTES], page[RECORDS * PIECEBOOK_SHOWN_BYTES], read_bytes[PIECEBOOK_RECORD_BYTES];
 static uint16_t shadows[PIECEBOOK_SHADOWS], places[PIECEBOOK_PLACES], list[PIECEBOOK_LIST], areas[3][PIECEBOOK_PAIRS];
 static piecebook_working state = {RECORDS, PIECES};
 /* A restricted claim, for which the cutting sheets are settled too. */
@@ -48,6 +48,18 @@ CALL(chain, BOOK, claim, sizeof claim, steps, sizeof steps)
 CALL(chain_check, BOOK, claim, sizeof claim, steps, sizeof steps)
 CALL(clash, BOOK, steps, sizeof steps)
 CALL(clash_check, BOOK, steps, sizeof steps)
+
+static void *show(void *unused)
+{
+    piecebook_show(BOOK, page, sizeof page);
+    return unused;
+}
+
+static void *read_text(void *unused)
+{
+    piecebook_read_text(PIECEBOOK_RECORDS, page, sizeof page, read_bytes, sizeof read_bytes);
+    return unused;
+}
 
 static void *nothing(void *unused)
 {
@@ -117,6 +129,8 @@ static void make(enum shape shape, int clashing)
     memcpy(area, s.book, sizeof area);
     piecebook_chain(&workspace, BOOK, claim, sizeof claim, steps, sizeof steps);
     piecebook_clash(&workspace, BOOK, steps, sizeof steps);
+    memset(page, '\n', sizeof page);
+    piecebook_show(BOOK, page, sizeof page);
 }
 
 int main(void)
@@ -132,7 +146,7 @@ int main(void)
         void *(*call)(void *);
     } calls[] = {{"answer", answer},   {"index", index_alone},           {"grid", grid},       {"add", add_last},   {"withdraw", withdraw}, {"ask", ask},
                  {"convert", convert}, {"catalog", catalog},       {"replicates", replicates}, {"compare", compare}, {"chain", chain},       {"chain_check", chain_check},
-                 {"clash", clash},     {"clash_check", clash_check}};
+                 {"clash", clash},     {"clash_check", clash_check}, {"show", show}, {"read_text", read_text}};
     enum { BOOKS = sizeof books / sizeof *books, CALLS = sizeof calls / sizeof *calls };
     static size_t kib[CALLS][BOOKS];
     size_t least = smallest(nothing);

@@ -365,6 +365,49 @@ static inline size_t piecebook_clash_check(piecebook_workspace *workspace, const
     return piecebook_clash_check_with(book, book_length, steps, steps_length, workspace->e, workspace->d, workspace->t);
 }
 
+/* Text: one record, claim or log entry for each line with words. The calls on text need no workspace. */
+enum { PIECEBOOK_RECORDS = 0, PIECEBOOK_CLAIMS = 1, PIECEBOOK_LOG = 2 };
+
+/* The lengths of out below which a text of records, of claims or of log entries is refused by number 6: six bytes for each of the first 8,193 or 4,097 lines with words, or two for
+   each of 32,769. Nothing is read behind these. */
+#define PIECEBOOK_RECORD_BYTES 49158
+#define PIECEBOOK_CLAIM_BYTES 24582
+#define PIECEBOOK_LOG_BYTES 65538
+
+/* number is 0 for a text that was read, whose bytes are length, or the reason why it cannot be: of its first bad line, which is line, counted from 1 with all lines, 1 where the first
+   word is no kind, 2 where a number is missing or is none up to 65,535, 3 where the word behind the numbers is no origin (for claims: no choice of facts), 4 for a word too many; 5 with
+   line 0 for a text above 524,288 bytes. A short out is 6 before all these, and any other form 7; both have line 0. length is 0 with all seven. */
+typedef struct {
+    size_t number;
+    size_t line;
+    size_t length;
+} piecebook_reading;
+
+/* Reads a text into the front of out: six bytes for each record or claim, two for each log entry, as the other calls take them. Lines end with byte 10, # begins a comment, words stand
+   between bytes 9, 13 and 32, letters of either case are the same, and bytes 239 187 191 at the start are passed over:
+       PART a b, APART a b, MEETS a b, NOTPART a b, and of records VOID a; behind the numbers of a record may stand sheet or scanner, of a claim all or sheets; of a log one number a line.
+   A bad line leaves the entries before it at the front of out; 5 to 7 write nothing. Bytes behind the entries stay as they are. */
+piecebook_reading piecebook_read_text(size_t form, const uint8_t *text, size_t text_length, uint8_t *out, size_t out_length);
+
+/* The line that an entry, counted from 0, was read from: the line of a refusal's place. 0 where there is none. */
+size_t piecebook_text_line(const uint8_t *text, size_t text_length, size_t entry);
+
+/* So many bytes for each record, or claim, always are enough for a page. */
+#define PIECEBOOK_SHOWN_BYTES 28
+
+/* number is 0 for a page that was written, whose text is length bytes, or 1 for one that is too short for the text. */
+typedef struct {
+    size_t number;
+    size_t length;
+} piecebook_shown;
+
+/* Writes a book as text to the front of a page, a line for each whole record; bytes behind stay as they are. Of a page that is too short the bytes are free. The text of a book that other
+   calls accept, or that only 14 refuses, is read back byte for byte. A kind that a record cannot have has no word. */
+piecebook_shown piecebook_show(const uint8_t *book, size_t book_length, uint8_t *page, size_t page_length);
+
+/* The same of claims. */
+piecebook_shown piecebook_show_claims(const uint8_t *claims, size_t claims_length, uint8_t *page, size_t page_length);
+
 #ifdef __cplusplus
 }
 #endif

@@ -5,10 +5,12 @@ import argparse
 import os
 import sys
 
+from . import _text
 from ._library import LibraryMissing
 from .book import Book
 from .pictures import chain_svg, grid_svg, page_html, tree_svg
-from .records import Claim, claim_of
+from .reading import encoded
+from .records import Claim, records_of
 from .refusals import Refused, Unread
 
 
@@ -22,14 +24,10 @@ def _parser() -> argparse.ArgumentParser:
 
 
 def _claim(words: list[str]) -> Claim | None:
-    """The claim in the arguments, or ValueError."""
-    if not words:
-        return None
-    kind, *numbers = words[:3]
-    facts = words[3].lower() if len(words) == 4 else "all"
-    if len(words) not in (3, 4) or facts not in ("all", "sheets") or not all(number.isdecimal() for number in numbers):
-        raise ValueError("a claim is KIND a b, or KIND a b sheets")
-    return claim_of(kind, *map(int, numbers), sheets=facts == "sheets")
+    """The claim in the arguments, read as one line of text; Unread where it is none."""
+    line = " ".join(words).replace("\n", " ")
+    read = _text.read(encoded(line), _text.WORDS)
+    return Claim(*records_of(read)[0]) if read else None
 
 
 def _drawn(picture: str, path: str, claim: Claim | None) -> str:
@@ -46,6 +44,7 @@ def _drawn(picture: str, path: str, claim: Claim | None) -> str:
 def _write(text: str, output: str | None) -> None:
     if output is None:
         sys.stdout.buffer.write(text.encode())
+        sys.stdout.buffer.flush()
         return
     with open(output, "w", encoding="utf-8", newline="\n") as file:
         file.write(text)

@@ -20,6 +20,9 @@ STEP_BYTES = 10
 STEPS = 16400
 WINDOW = 31
 GRID = 64
+# the room that the entries of a text may take, and that the line of a shown record may
+RECORD_TEXT, CLAIM_TEXT, LOG_TEXT = 49158, 24582, 65538
+SHOWN = 28
 MATRIX = 65536
 MATRICES = 6
 # what a call may take of its thread's stack
@@ -42,6 +45,8 @@ Cataloged = _counts("Cataloged", "number", "place", "pieces", "nodes", "shadows"
 Compared = _counts("Compared", "number", "place", "book", "together")
 Chained = _counts("Chained", "number", "place", "answer", "steps")
 Clashed = _counts("Clashed", "number", "place", "steps")
+Read = _counts("Read", "number", "line", "length")
+Shown = _counts("Shown", "number", "length")
 
 
 class Grids(Structure):
@@ -64,7 +69,7 @@ _NUMBERS = [POINTER(c_uint16), c_size_t]
 _INDEX = _OUT + _OUT + _NUMBERS + _NUMBERS
 _STATE = [POINTER(Working)]
 
-# each call's result, its arguments before the matrices, and how many matrices it takes
+# each call's result, its arguments before the matrices, and how many matrices it takes: calls on text take none
 _CALLS = {
     "answer": (Result, _IN + _IN + _INDEX + _OUT, 6),
     "index": (Result, _IN + _INDEX, 6),
@@ -81,6 +86,9 @@ _CALLS = {
     "chain_check": (c_size_t, _IN + _IN + _IN, 6),
     "clash": (Clashed, _IN + _OUT, 3),
     "clash_check": (c_size_t, _IN + _IN, 3),
+    "read_text": (Read, [c_size_t] + _IN + _OUT, 0),
+    "text_line": (c_size_t, _IN + [c_size_t], 0),
+    "show": (Shown, _IN + _OUT, 0),
 }
 
 
@@ -93,15 +101,16 @@ def path() -> pathlib.Path:
 @functools.lru_cache(maxsize=None)
 def _function(name: str):
     """One call of the library, declared."""
+    result, arguments, matrices = _CALLS[name]
+    symbol = f"piecebook_{name}_with" if matrices else f"piecebook_{name}"
     where = path()
     hint = f"run 'rt staticlib piecebook' and then 'python/build', or set {VARIABLE} to the library's file"
     try:
-        function = getattr(ctypes.CDLL(str(where)), f"piecebook_{name}_with")
+        function = getattr(ctypes.CDLL(str(where)), symbol)
     except OSError as problem:
         raise LibraryMissing(f"the piece book's library cannot be loaded from {where}: {problem}; {hint}") from None
     except AttributeError:
         raise LibraryMissing(f"{where} has no call {name!r}: it is of another edition; {hint}") from None
-    result, arguments, matrices = _CALLS[name]
     function.restype = result
     function.argtypes = arguments + [POINTER(c_uint64)] * matrices
     return function
@@ -127,7 +136,9 @@ def call(name: str, *arguments: object):
         flat.append(argument)
         if isinstance(argument, (bytes, ctypes.Array)):
             flat.append(len(argument))
-    return _function(name)(*flat, *_workspace.matrices[: _CALLS[name][2]])
+    count = _CALLS[name][2]
+    matrices = _workspace.matrices[:count] if count else []
+    return _function(name)(*flat, *matrices)
 
 
 def octets(length: int) -> ctypes.Array:

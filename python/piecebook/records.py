@@ -87,7 +87,7 @@ def flag(value: object, what: str) -> bool:
 def kind_of(value: KindLike) -> Kind:
     """A kind by its name in letters of either case, or by its number."""
     if isinstance(value, str):
-        if value.upper() not in Kind.__members__:
+        if not value.isascii() or value.upper() not in Kind.__members__:
             raise ValueError(f"{value!r} is not a kind: {', '.join(Kind.__members__)}")
         return Kind[value.upper()]
     whole = number(value, "a kind")

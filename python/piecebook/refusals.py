@@ -36,6 +36,8 @@ REASONS = {
     4: "a word too many",
     5: "longer than 524288 bytes",
 }
+# words have no lines
+WORDS = "WORDS "
 NOT_FACTS = "not a choice of facts: all or sheets"
 
 
@@ -62,7 +64,7 @@ class Refused(Exception):
 class Unread(Exception):
     """A text cannot be read: its first bad line, from 1, the number of the reason, and the sentence.
 
-    `source` is "CLAIMS " or "LOG ", and empty for a book.
+    `source` is "CLAIMS ", "LOG " or, for words in the arguments of a command, "WORDS "; it is empty for a book.
     """
 
     def __init__(self, line: int, reason: int, sentence: str, source: str = "") -> None:
@@ -73,4 +75,5 @@ class Unread(Exception):
         self.source = source
 
     def __str__(self) -> str:
-        return f"{self.source}UNREAD line {self.line} {self.sentence}"
+        line = "" if self.source == WORDS else f"line {self.line} "
+        return f"{self.source}UNREAD {line}{self.sentence}"

@@ -63,8 +63,19 @@ class Command(unittest.TestCase):
             self.assertEqual(told("chain", bad)[0], 0)
             self.assertEqual(told("page", bad)[0], 0)
             self.assertEqual(told("tree", pathlib.Path(folder) / "none")[0], 2)
-        for words in (("chain", SEASON), ("chain", SEASON, "meets", 14, 2, "sheets"), ("chain", SEASON, "part", "x", 1), ("chain", SEASON, "part")):
+        for words in (("chain", SEASON), ("chain", SEASON, "meets", 14, 2, "sheets")):
             self.assertEqual(told(*words)[:2], (2, ""), words)
+        number = "a number from 0 to 65535 is missing"
+        for claim, reason in (
+            ("part x 1", number),
+            ("part", number),
+            ("part 1 \u0663", number),
+            ("prat 1 2", "not a kind"),
+            ("void 1", "not a kind"),
+            ("part 1 2 sheet", "not a choice of facts: all or sheets"),
+            ("part 1 2 all all", "a word too many"),
+        ):
+            self.assertEqual(told("chain", SEASON, *claim.split()), (1, "", f"WORDS UNREAD {reason}\n"), claim)
         self.assertEqual(told("tree", SEASON, "part", 1, 2)[:2], (2, ""))
         self.assertEqual(told("chain", SEASON, "part", 1, 99)[:2], (1, ""))
         self.assertEqual(told("fresco", SEASON)[0], 2)

@@ -16,9 +16,15 @@ NASTY = "<b>&\"'\x00\x1b\ud800]]>"
 EMPTY = {"meta", "br", "hr", "img", "link", "input"}
 
 
+def legend(root):
+    """The lines that explain the rules of a chain."""
+    return ["".join(text.itertext()) for group in root.iter(f"{SVG}g") if group.get("class") == "legend" for text in group]
+
+
 def texts(root):
-    """All drawn text."""
-    return ["".join(text.itertext()) for text in root.iter(f"{SVG}text")]
+    """All drawn text but these."""
+    explained = {text for group in root.iter(f"{SVG}g") if group.get("class") == "legend" for text in group}
+    return ["".join(text.itertext()) for text in root.iter(f"{SVG}text") if text not in explained]
 
 
 def boxes(root):
@@ -103,8 +109,26 @@ class Trees(Pictures):
         deep = Book.from_records([("PART", n, n - 1) for n in range(1, 150)])
         widths = [float(xml.fromstring(tree_svg(book)).get("width")) for book in (wide, deep)]
         self.assertLess(max(widths), 1500)
+        self.assertGreater(widths[0], 600)
         self.assert_apart(xml.fromstring(tree_svg(wide)))
         self.assert_apart(xml.fromstring(tree_svg(deep)))
+
+    def test_lines_of_an_outline_end_at_boxes(self):
+        chance = random.Random(52)
+        parts = [("PART", n, chance.randrange(n)) for n in range(1, 150)] + [("PART", n, 149 - n) for n in range(100, 140)]
+        for records in ([("PART", n, n % 7) for n in range(7, 150)], list(dict.fromkeys(parts))):
+            book = Book.from_records(records)
+            root = xml.fromstring(tree_svg(book))
+            self.assert_apart(root)
+            found = boxes(root)[: book.nodes]
+            reached = set()
+            for path in root.iter(f"{SVG}path"):
+                numbers = [float(number) for number in re.findall(r"[-0-9.]+", path.get("d"))]
+                command = re.findall("[A-Z]", path.get("d"))[-1]
+                end = {"C": numbers[-2:], "H": numbers[:-3:-1], "V": (numbers[0], numbers[-1])}[command]
+                reached.update(box for box in found if abs(end[0] - box[0]) < 0.2 and abs(end[1] - box[1] - box[3] / 2) < 0.2)
+                reached.update(box for box in found if abs(end[0] - box[0] - box[2] / 2) < 0.2 and abs(end[1] - box[1]) < 0.2)
+            self.assertEqual(len(reached), book.nodes - 1)
 
     def test_a_large_group_is_shortened(self):
         circle = Book.from_records([("PART", n, n - 1) for n in range(1, 300)] + [("PART", 0, 299)])
@@ -156,6 +180,7 @@ class Chains(Pictures):
         self.assertTrue(SESSION.passes(steps, "PART", 5, 2))
         root = xml.fromstring(chain_svg(steps))
         self.assertEqual(texts(root), ["PART 5 4", "record 5", "PART 4 2", "record 4", "PART 5 2", "rule a"])
+        self.assertEqual(legend(root), ["rule a: a part of a part is a part"])
         left = {text: box[0] for text, box in zip(texts(root)[::2], boxes(root))}
         self.assertEqual(left["PART 5 4"], left["PART 4 2"])
         self.assertLess(left["PART 4 2"], left["PART 5 2"])
@@ -171,6 +196,9 @@ class Chains(Pictures):
             drawn += 1
             root = xml.fromstring(chain_svg(chain))
             self.assert_apart(root)
+            lowest = max(y + h for _, y, _, h in boxes(root))
+            lines = [float(text.get("y")) for group in root.iter(f"{SVG}g") if group.get("class") == "legend" for text in group]
+            self.assertTrue(all(lowest < y - 10 and y < float(root.get("height")) for y in lines))
             placed = list(zip(boxes(root), texts(root)[::2], texts(root)[1::2]))
             first, last = min(box[0] for box, _, _ in placed), max(box[0] for box, _, _ in placed)
             self.assertEqual({box[0] for box, _, source in placed if source.startswith("record")} or {first}, {first})
@@ -194,6 +222,10 @@ class Chains(Pictures):
         self.assertLess(float(root.get("width")), 1000)
         self.assertGreaterEqual(len(boxes(root)), 197 + 198)
         self.assertGreaterEqual(len(root.findall(f".//{SVG}a")), 2 * 197)
+
+    def test_any_iterable(self):
+        chain = SESSION.why("PART", 5, 2)
+        self.assertEqual(xml.fromstring(chain_svg(iter(chain)))[0].text, "Why PART 5 2")
 
     def test_no_steps(self):
         self.assertRaises(ValueError, chain_svg, SESSION.why("PART", 3, 2))
@@ -244,7 +276,7 @@ class Text(Pictures):
         folder = REPOSITORY / "docs" / "pictures"
         self.assertEqual((folder / "tree.svg").read_text(), tree_svg(book))
         self.assertEqual((folder / "grid.svg").read_text(), grid_svg(book))
-        self.assertEqual(xml.fromstring((folder / "chain.svg").read_text())[0].text, "Why APART 21 6 FOLLOWS")
+        self.assertEqual((folder / "chain.svg").read_text(), chain_svg(book.why("APART", 21, 6)))
 
 
 if __name__ == "__main__":

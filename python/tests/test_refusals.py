@@ -1,13 +1,14 @@
 """Each number that a call of the package can be refused by, and arguments that never reach the library."""
+import re
 import tempfile
 import unittest
 from unittest import mock
 
 from piecebook import Answer, Book, Kind, LibraryMissing, Record, Refused, Step, WorkingBook, _library
 from piecebook.pictures import chain_svg, grid_svg, page_html, tree_svg
-from piecebook.refusals import SENTENCES
+from piecebook.refusals import NOT_FACTS, OF_CLAIMS, OF_RECORDS, REASONS, SENTENCES
 
-from .examples import SESSION
+from .examples import REPOSITORY, SESSION
 
 PART = b"\1\0\1\0\0\0"
 
@@ -86,6 +87,20 @@ class Numbers(unittest.TestCase):
         self.assertEqual(str(caught.exception), f"REFUSED 14 1 line 2 {SENTENCES[14]}")
         self.assertEqual(refusal(lambda: SESSION.compare(SESSION, "part 9 0")), (13, 0, 1))
 
+    def test_sentences_are_the_programs(self):
+        proved = REPOSITORY / "crates" / "sentences" / "specs"
+        refusals = (proved / "Refusals.antt").read_text()
+        listed = re.findall(r'ascii "(.*)\\n"', refusals)
+        self.assertEqual(len(listed), 22)
+        self.assertEqual(SENTENCES, {number: sentence for number, sentence in enumerate(listed) if sentence})
+        (places,) = re.findall(r'^places = ascii "([-rc]*)"', refusals, re.M)
+        self.assertEqual(OF_RECORDS, {number for number, what in enumerate(places) if what == "r"})
+        self.assertEqual(OF_CLAIMS, {number for number, what in enumerate(places) if what == "c"})
+        unread = (proved / "Unread.antt").read_text().partition("\nreasons =\n")[2].partition("\n\n")[0]
+        reasons = re.findall(r'ascii "(.*)\\n"', unread)
+        self.assertEqual(REASONS, dict(enumerate(reasons[1:6], 1)))
+        self.assertEqual(NOT_FACTS, reasons[8])
+
     def test_sentences(self):
         self.assertEqual(sorted(SENTENCES), [1, *range(3, 22)])
         for number, sentence in SENTENCES.items():
@@ -135,6 +150,7 @@ class Arguments(unittest.TestCase):
         working = WorkingBook()
         for question in (
             lambda: SESSION.ask("PRAT", 5, 2),
+            lambda: SESSION.ask("meet\u017f", 5, 2),
             lambda: SESSION.ask("VOID", 5, 0),
             lambda: SESSION.ask(5, 5, 2),
             lambda: SESSION.ask(6, 5, 0),
@@ -157,6 +173,8 @@ class Arguments(unittest.TestCase):
         for draw in (tree_svg, grid_svg, page_html):
             self.refuse(TypeError, lambda: draw("part 1 0"))
         self.refuse(TypeError, lambda: chain_svg(["0 PART 1 0 RECORD 0"]))
+        self.refuse(TypeError, lambda: chain_svg(7))
+        self.refuse(ValueError, lambda: chain_svg(iter([])))
         self.refuse(ValueError, lambda: chain_svg([first._replace(number=1)]))
         for premises in ((0, 1), (-1, 0), (0, 5)):
             self.refuse(ValueError, lambda: chain_svg([first, Step(1, Kind.PART, 1, 0, "a", None, premises)]))

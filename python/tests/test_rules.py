@@ -1,11 +1,11 @@
-"""Random small books against the rules, applied one by one."""
+"""Small books, the printed session and random ones, against the rules, applied one by one."""
 import random
 import unittest
 
 from piecebook import Answer, Book, Claim
 from piecebook.steps import RULES
 
-from .examples import FACTS, facts_of, marks_of, pieces_of, random_records, rules
+from .examples import FACTS, SESSION, facts_of, marks_of, pieces_of, random_records, rules
 
 BOOKS = 80
 
@@ -16,12 +16,20 @@ def both_ways(facts):
     return facts | {(kind, b, a) for kind, a, b in facts if kind in (rules.APART, rules.MEETS)}
 
 
-def accepted_books():
-    """Random books that the rules have no quarrel with, with what they derive from all facts and from the sheets."""
+def some_books():
+    """The printed session, then random books without end."""
+    yield SESSION.records
     chance = random.Random(20)
+    while True:
+        yield random_records(chance, chance.randrange(2, 6), chance.randrange(1, 9))
+
+
+def accepted_books():
+    """Books that the rules have no quarrel with, with what they derive from all facts and from the sheets."""
     found = []
+    books = some_books()
     while len(found) < BOOKS:
-        records = random_records(chance, chance.randrange(2, 6), chance.randrange(1, 9))
+        records = next(books)
         pieces, void = pieces_of(records), marks_of(records)
         known = rules.saturate(facts_of(records), pieces, void)
         if not rules.contradictory(known):

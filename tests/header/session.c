@@ -110,6 +110,31 @@ static void clash_calls(void)
     expect("clash, an accepted book", r.number == 0 && r.place == 0 && r.steps == 0);
 }
 
+static void text_calls(void)
+{
+    static const char text[] = "# the session\nPART 3 1\n\nvoid 7 Scanner # a comment", bad[] = "MEETS 3 2 all\nMEETS 3 2 sheet\n", log_text[] = "7\n65535\n";
+    static const uint8_t records[12] = {PIECEBOOK_PART, 0, 3, 0, 1, 0, PIECEBOOK_VOID, PIECEBOOK_SCANNER, 7, 0, 0, 0};
+    static const char shown[] = "PART 3 1\nVOID 7 scanner\n";
+    static uint8_t read[PIECEBOOK_LOG_BYTES], page[2 * PIECEBOOK_SHOWN_BYTES];
+    piecebook_reading r = piecebook_read_text(PIECEBOOK_RECORDS, (const uint8_t *)text, sizeof text - 1, read, PIECEBOOK_RECORD_BYTES);
+    expect("read_text", r.number == 0 && r.line == 0 && r.length == sizeof records && memcmp(read, records, sizeof records) == 0);
+    expect("text_line", piecebook_text_line((const uint8_t *)text, sizeof text - 1, 1) == 4 && piecebook_text_line((const uint8_t *)text, sizeof text - 1, 2) == 0);
+    r = piecebook_read_text(PIECEBOOK_CLAIMS, (const uint8_t *)bad, sizeof bad - 1, read, PIECEBOOK_CLAIM_BYTES);
+    expect("read_text, a bad line", r.number == 3 && r.line == 2 && r.length == 0);
+    r = piecebook_read_text(PIECEBOOK_LOG, (const uint8_t *)log_text, sizeof log_text - 1, read, PIECEBOOK_LOG_BYTES);
+    expect("read_text, a log", r.number == 0 && r.length == 4 && read[0] == 7 && read[3] == 255);
+    r = piecebook_read_text(PIECEBOOK_LOG, NULL, 0, read, PIECEBOOK_LOG_BYTES - 1);
+    expect("read_text, a byte short", r.number == 6);
+    r = piecebook_read_text(3, NULL, 0, NULL, 0);
+    expect("read_text, no form", r.number == 7);
+    piecebook_shown s = piecebook_show(records, sizeof records, page, sizeof page);
+    expect("show", s.number == 0 && s.length == sizeof shown - 1 && memcmp(page, shown, sizeof shown - 1) == 0);
+    s = piecebook_show(records, sizeof records, page, sizeof shown - 2);
+    expect("show, a byte short", s.number == 1 && s.length == 0);
+    s = piecebook_show_claims(claims, sizeof claims, page, sizeof page);
+    expect("show_claims", s.number == 0 && s.length == 27 && memcmp(page, "PART 5 2\n", 9) == 0);
+}
+
 int main(void)
 {
     memset(&workspace, 0xa5, sizeof workspace);
@@ -119,6 +144,7 @@ int main(void)
     other_calls();
     chain_calls();
     clash_calls();
+    text_calls();
     printf("%u passed, %u failed\n", passed, failed);
     return failed != 0;
 }

@@ -30,6 +30,12 @@ impl<T: Copy + PartialEq> Buffer<T> {
         self.lend()[..values.len()].copy_from_slice(values);
     }
 
+    /// Whether the guard values are the same: of two whose lent parts may differ.
+    pub fn same_guards(&self, other: &Buffer<T>) -> bool {
+        let behind = self.front + self.length;
+        self.all[..self.front] == other.all[..self.front] && self.all[behind..] == other.all[behind..]
+    }
+
     /// The first place in which two differ, counted from the lent part's start.
     pub fn difference(&self, other: &Buffer<T>) -> Option<isize> {
         if self.all == other.all {

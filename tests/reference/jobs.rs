@@ -5,7 +5,7 @@ use crate::calls::reordered;
 use crate::cases::*;
 use crate::edges::{conversion_examples, examples, one_short};
 use crate::tally::Tally;
-use crate::{catalogs, chains, clashes, compare, days, deepest, records, replicates, shapes, sheets};
+use crate::{catalogs, chains, clashes, compare, days, deepest, records, replicates, shapes, sheets, texts};
 
 pub type Job = (String, Box<dyn FnOnce(&mut Tally) + Send>);
 
@@ -151,6 +151,9 @@ pub fn all(times: usize) -> Vec<Job> {
     jobs.add("working books", move |tally| days::stage(tally, 60 * times));
     jobs.add("grids", move |tally| sheets::stage(tally, 600 * times));
     jobs.add("replicates", move |tally| replicates::stage(tally, 800 * times));
+    jobs.add("texts", move |tally| texts::stage(tally, 20000 * times));
+    jobs.add("texts of full size", texts::full_size);
+    jobs.add("shown texts", move |tally| texts::shown(tally, 3000 * times));
     jobs.add("two books", move |tally| compare::stage(tally, 2400 * times, times));
     for named in shapes::all() {
         jobs.add(&format!("shape {}", named.name), move |tally| named.stage(tally));

@@ -24,6 +24,7 @@ mod shapes;
 mod sheets;
 mod steps;
 mod tally;
+mod texts;
 mod workspaces;
 
 use jobs::seed;

@@ -357,6 +357,56 @@ pub fn compare(workspace: &mut Workspace, first: &[u8], second: &[u8], claims: &
     }
 }
 
+/// The forms of text, and the least lengths of what each is read into.
+pub const RECORDS: usize = 0;
+pub const CLAIMS: usize = 1;
+pub const LOG: usize = 2;
+pub const FORM_BYTES: [usize; 3] = [49158, 24582, 65538];
+
+/// What a reading returns. `number` is 0 for a text that was read into `length` bytes, or the reason why it cannot be, whose line is `line`; 6 is for a short output, 7 for a form that is none.
+#[repr(C)]
+#[derive(Clone, Copy, Debug, PartialEq, Eq)]
+pub struct Reading {
+    pub number: usize,
+    pub line: usize,
+    pub length: usize,
+}
+
+/// Reads a text into the front of `out`.
+pub fn read_text(form: usize, text: &[u8], out: &mut [u8]) -> Reading {
+    // SAFETY: each pointer comes with the length of its slice, and an exclusive slice overlaps none.
+    unsafe { piecebook_read_text(form, text.as_ptr(), text.len(), out.as_mut_ptr(), out.len()) }
+}
+
+/// The line that an entry was read from, counted from 1, or 0.
+pub fn text_line(text: &[u8], entry: usize) -> usize {
+    // SAFETY: as above.
+    unsafe { piecebook_text_line(text.as_ptr(), text.len(), entry) }
+}
+
+/// So many bytes for each record always are enough for a page.
+pub const SHOWN_BYTES: usize = 28;
+
+/// What a shown page returns. `number` is 0 for a text of `length` bytes, or 1 for a page that is too short.
+#[repr(C)]
+#[derive(Clone, Copy, Debug, PartialEq, Eq)]
+pub struct Shown {
+    pub number: usize,
+    pub length: usize,
+}
+
+/// Writes a book as text to the front of a page.
+pub fn show(book: &[u8], page: &mut [u8]) -> Shown {
+    // SAFETY: as above.
+    unsafe { piecebook_show(book.as_ptr(), book.len(), page.as_mut_ptr(), page.len()) }
+}
+
+/// The same of claims.
+pub fn show_claims(claims: &[u8], page: &mut [u8]) -> Shown {
+    // SAFETY: as above.
+    unsafe { piecebook_show_claims(claims.as_ptr(), claims.len(), page.as_mut_ptr(), page.len()) }
+}
+
 extern "C" {
     fn piecebook_compare_with(
         first: *const u8,
@@ -647,4 +697,12 @@ extern "C" {
         p: *mut u64,
         q: *mut u64,
     ) -> Outcome;
+
+    fn piecebook_read_text(form: usize, text: *const u8, text_length: usize, out: *mut u8, out_length: usize) -> Reading;
+
+    fn piecebook_text_line(text: *const u8, text_length: usize, entry: usize) -> usize;
+
+    fn piecebook_show(book: *const u8, book_length: usize, page: *mut u8, page_length: usize) -> Shown;
+
+    fn piecebook_show_claims(claims: *const u8, claims_length: usize, page: *mut u8, page_length: usize) -> Shown;
 }

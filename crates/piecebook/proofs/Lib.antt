@@ -7,3 +7,4 @@ pub mod Matrices
 pub mod OpenBooks
 pub mod Replicating
 pub mod Updating
+pub mod Texting

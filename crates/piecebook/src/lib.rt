@@ -1,4 +1,4 @@
-// The calls of include/piecebook.h: those of `answers`, `grids`, `working`, `convert`, `catalog`, `replicates`, `compare`, `chains` and `chain_writing`, with document 01's numbers for an outcome.
+// The calls of include/piecebook.h: those of `answers`, `grids`, `working`, `convert`, `catalog`, `replicates`, `compare`, `chain_check`, `chain_writing`, `clash` and `text`, with document 01's numbers for an outcome.
 ghost use mathlib.Core.Path.{_≡_};
 ghost use mathlib.Core.List.{[]};
 ghost use Rattle.outcomes.specs.Lent.{lent};
@@ -22,6 +22,7 @@ pub mod catalogs;
 pub mod chain_calls;
 pub mod comparisons;
 pub mod results;
+pub mod texts;
 
 #[no_mangle]
 pub extern "C" fn piecebook_answer_with(

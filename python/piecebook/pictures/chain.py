@@ -1,10 +1,10 @@
 """The steps behind an answer: records at the left, the conclusion at the right."""
 from __future__ import annotations
 
-from typing import Sequence
+from typing import Iterable
 
 from ..records import Kind
-from ..steps import Chain, Step
+from ..steps import RULES, Chain, Step
 from . import svg
 
 WIDTH = 164
@@ -38,14 +38,17 @@ BECAUSE = {
 }
 
 
-def _checked(steps: Sequence[Step]) -> list[Step]:
+def _checked(steps: Iterable[Step]) -> list[Step]:
     """Steps numbered from 0, each premise earlier than its use; or TypeError or ValueError."""
-    for number, step in enumerate(steps):
+    checked = list(steps)
+    if not checked:
+        raise ValueError("there are no steps to draw: an open claim has none")
+    for number, step in enumerate(checked):
         if not isinstance(step, Step):
             raise TypeError(f"a step is a Step, not {type(step).__name__}")
         if step.number != number or not all(0 <= premise < number for premise in step.premises):
             raise ValueError(f"step {number} is out of order: {step}")
-    return list(steps)
+    return checked
 
 
 def _needed(steps: list[Step]) -> list[Step]:
@@ -170,6 +173,14 @@ def _edges(steps: list[Step], levels: dict[int, int], middles: list[dict[int, fl
     return list(edges)
 
 
+def _legend(steps: list[Step], y: float) -> tuple[str, float, float]:
+    """The rules that are used, in words; their width, and where they end."""
+    lines = [f"rule {rule}: {BECAUSE[rule]}" for rule in RULES if any(step.rule == rule for step in steps)]
+    shapes = "".join(svg.words(svg.MARGIN, y + 18 * k, text) for k, text in enumerate(lines))
+    width = max((svg.width_of(text, 11) for text in lines), default=0) + 2 * svg.MARGIN
+    return f'<g class="legend" font-size="11" fill="{svg.FAINT}">{shapes}</g>', width, y + 18 * len(lines)
+
+
 def _as_graph(steps: list[Step], levels: dict[int, int], title: str) -> str:
     middles = _middles(steps, levels)
     shapes = _edges(steps, levels, middles)
@@ -177,8 +188,9 @@ def _as_graph(steps: list[Step], levels: dict[int, int], title: str) -> str:
         level = levels[step.number]
         shapes.append(_box(step, svg.MARGIN + COLUMN * level, middles[level][step.number], step is steps[-1]))
     width = COLUMN * max(levels.values()) + WIDTH + 2 * svg.MARGIN
-    height = max(max(column.values()) for column in middles) + APART / 2 + svg.MARGIN
-    return svg.picture(width, height, title, shapes)
+    bottom = max(max(column.values()) for column in middles) + APART / 2
+    legend, least, height = _legend(steps, bottom + 18)
+    return svg.picture(max(width, least), height, title, [*shapes, legend])
 
 
 def _row(step: Step, y: float, last: bool) -> str:
@@ -201,17 +213,12 @@ def _as_rows(steps: list[Step], title: str) -> str:
     return svg.picture(width, 2 * svg.MARGIN + ROW * len(steps), title, shapes)
 
 
-def _title(steps: Chain | Sequence[Step]) -> str:
-    answered = isinstance(steps, Chain) and steps.claim is not None
-    return f"Why {steps.claim} {steps.answer}" if answered else f"Why {steps[-1].shown}"
-
-
-def chain_svg(steps: Chain | Sequence[Step]) -> str:
+def chain_svg(steps: Iterable[Step]) -> str:
     """The steps behind an answer as SVG, each fact once; a long chain one step a row. Tooltips say each step in words."""
-    if not steps:
-        raise ValueError("there are no steps to draw: an open claim has none")
     needed = _needed(_checked(steps))
     levels = _levels(needed)
+    answered = isinstance(steps, Chain) and steps.claim is not None
+    title = f"Why {steps.claim} {steps.answer}" if answered else f"Why {needed[-1].shown}"
     if len(needed) > MOST_STEPS or max(levels.values()) >= MOST_LEVELS:
-        return _as_rows(needed, _title(steps))
-    return _as_graph(needed, levels, _title(steps))
+        return _as_rows(needed, title)
+    return _as_graph(needed, levels, title)

@@ -12,7 +12,9 @@ LEVEL = 62
 GAP = 12
 ROW = 32
 INDENT = 26
-WIDEST = 1400
+RAIL = 5
+AIR = 18
+WIDEST = 1240
 NAMED = 4
 
 
@@ -58,36 +60,111 @@ def _spans(tree: Tree, below: list[list[int]], widths: list[float]) -> list[floa
     return spans
 
 
-def _downward(tree: Tree, below: list[list[int]], widths: list[float], spans: list[float]) -> Layout:
-    """Each node above its children, in the middle of their span."""
-    centres = [0.0] * len(tree.nodes)
-    centres[0] = svg.MARGIN + spans[0] / 2
-    edges = []
-    top = lambda place: svg.MARGIN + LEVEL * tree.nodes[place].depth
-    for place, children in enumerate(below):
-        x = centres[place] - (sum(spans[child] for child in children) + GAP * (len(children) - 1)) / 2
-        for child in children:
-            centres[child] = x + spans[child] / 2
-            x += spans[child] + GAP
-            ends = [(centres[place], top(place) + HEIGHT), (centres[child], top(child))]
-            edges.append(svg.line(svg.curve(ends, True), svg.DASHES * tree.nodes[child].shadow))
-    corners = [(centre - width / 2, top(place)) for place, (centre, width) in enumerate(zip(centres, widths))]
-    deepest = max(node.depth for node in tree.nodes)
-    return Layout(corners, edges, spans[0] + 2 * svg.MARGIN, top(0) + LEVEL * deepest + HEIGHT + svg.MARGIN)
+class Drawing:
+    """What is laid out so far: the upper left corner of each node, and the lines between."""
+
+    def __init__(self, tree: Tree, widths: list[float]) -> None:
+        self.tree = tree
+        self.below = tree.children()
+        self.widths = widths
+        self.spans = _spans(tree, self.below, widths)
+        self.corners = [(0.0, 0.0)] * len(tree.nodes)
+        self.edges: list[str] = []
+
+    def centre(self, place: int) -> float:
+        """Where lines reach a node from above."""
+        return self.corners[place][0] + self.widths[place] / 2
+
+    def join(self, path: str, child: int) -> None:
+        """A line to a node, dashed to a shadow."""
+        self.edges.append(svg.line(path, svg.DASHES * self.tree.nodes[child].shadow))
+
+    def hang(self, root: int, left: float, top: float) -> float:
+        """A node with all below it: each above its children, in the middle of their span. Says how far down they reach."""
+        starts = {root: left}
+        bottom = top
+        waiting = [root]
+        while waiting:
+            place = waiting.pop()
+            y = top + LEVEL * (self.tree.nodes[place].depth - self.tree.nodes[root].depth)
+            middle = starts[place] + self.spans[place] / 2
+            self.corners[place] = (middle - self.widths[place] / 2, y)
+            bottom = max(bottom, y + HEIGHT)
+            children = self.below[place]
+            x = middle - (sum(self.spans[child] for child in children) + GAP * (len(children) - 1)) / 2
+            for child in children:
+                starts[child] = x
+                self.join(svg.curve([(middle, y + HEIGHT), (x + self.spans[child] / 2, y + LEVEL)], True), child)
+                x += self.spans[child] + GAP
+            waiting.extend(children)
+        return bottom
+
+    def layout(self, bottom: float) -> Layout:
+        """All of it."""
+        width = max(x + own for (x, _), own in zip(self.corners, self.widths))
+        return Layout(self.corners, self.edges, width + svg.MARGIN, bottom)
 
 
-def _outline(tree: Tree, below: list[list[int]], widths: list[float]) -> Layout:
-    """One node a row, set in by its depth: for trees that are too wide for the other form."""
-    corners = [(svg.MARGIN + INDENT * node.depth, svg.MARGIN + ROW * node.place) for node in tree.nodes]
-    edges = []
-    for place, children in enumerate(below):
-        x, y = corners[place][0] + INDENT / 2, corners[place][1] + HEIGHT
-        for child in children:
-            across = corners[child][1] + HEIGHT / 2
-            edges.append(svg.line(f"M{x:.1f} {y:.1f} V{across:.1f} H{corners[child][0]:.1f}", svg.DASHES * tree.nodes[child].shadow))
-            y = across
-    width = max(x + own for (x, _), own in zip(corners, widths))
-    return Layout(corners, edges, width + svg.MARGIN, svg.MARGIN + ROW * len(tree.nodes))
+def _indent(tree: Tree, place: int) -> float:
+    return svg.MARGIN + INDENT * tree.nodes[place].depth
+
+
+def _rows(drawing: Drawing) -> list[list[int]]:
+    """The rows of an outline: a node that is too wide with all below it, or neighbours of one container that are not, as many as fit."""
+    tree, spans = drawing.tree, drawing.spans
+    rows: list[list[int]] = []
+    right = float("inf")
+    waiting = [0]
+    while waiting:
+        place = waiting.pop()
+        left = _indent(tree, place)
+        if left + spans[place] > WIDEST - svg.MARGIN:
+            rows.append([place])
+            right = float("inf")
+            waiting.extend(reversed(drawing.below[place]))
+        elif right + GAP + spans[place] <= WIDEST - svg.MARGIN and tree.nodes[rows[-1][-1]].parent == tree.nodes[place].parent:
+            rows[-1].append(place)
+            right += GAP + spans[place]
+        else:
+            rows.append([place])
+            right = left + spans[place]
+    return rows
+
+
+def _reach(drawing: Drawing, row: list[int], start: float, top: float) -> float:
+    """Lines from a container to a row of its parts: an elbow to one, a rail with a drop to each of several. Says where the next row's line begins."""
+    parent = drawing.tree.nodes[row[0]].parent
+    trunk = drawing.corners[parent][0] + INDENT / 2
+    if len(row) == 1:
+        drawing.join(f"M{trunk:.1f} {start:.1f} V{top + HEIGHT / 2:.1f} H{drawing.corners[row[0]][0]:.1f}", row[0])
+        return top + HEIGHT / 2
+    drawing.edges.append(svg.line(f"M{trunk:.1f} {start:.1f} V{top - RAIL:.1f} H{drawing.centre(row[-1]):.1f}"))
+    for place in row:
+        drawing.join(f"M{drawing.centre(place):.1f} {top - RAIL:.1f} V{top:.1f}", place)
+    return top - RAIL
+
+
+def _outline(drawing: Drawing) -> Layout:
+    """Rows set in by their depth, what fits drawn downward in them: for trees that are too wide for the other form."""
+    tree = drawing.tree
+    starts: dict[int, float] = {}
+    top = float(svg.MARGIN)
+    for row in _rows(drawing):
+        top += 2 * RAIL if len(row) > 1 else 0
+        left = _indent(tree, row[0])
+        bottom = top + HEIGHT
+        if left + drawing.spans[row[0]] > WIDEST - svg.MARGIN:
+            drawing.corners[row[0]] = (left, top)
+        else:
+            for place in row:
+                bottom = max(bottom, drawing.hang(place, left, top))
+                left += drawing.spans[place] + GAP
+        parent = tree.nodes[row[0]].parent
+        if parent is not None:
+            begun = starts.get(parent, drawing.corners[parent][1] + HEIGHT)
+            starts[parent] = _reach(drawing, row, begun, top)
+        top = bottom + (AIR if bottom > top + HEIGHT else ROW - HEIGHT)
+    return drawing.layout(top + ROW - HEIGHT)
 
 
 def _style(shadow: bool, group: bool, void: bool) -> str:
@@ -134,11 +211,11 @@ def tree_svg(book: Book, name: svg.Name = str) -> str:
     """The book's tree as SVG; `name` gives a piece its label. Tooltips tell what each node stands for."""
     tree = svg.checked(book).tree()
     void = set(book.void)
-    below = tree.children()
     labels = [_label(node, void, name) for node in tree.nodes]
     widths = [svg.width_of(label) + 14 for label in labels]
-    spans = _spans(tree, below, widths)
-    layout = _downward(tree, below, widths, spans) if spans[0] <= WIDEST else _outline(tree, below, widths)
+    drawing = Drawing(tree, widths)
+    fits = drawing.spans[0] <= WIDEST
+    layout = drawing.layout(drawing.hang(0, svg.MARGIN, svg.MARGIN) + svg.MARGIN) if fits else _outline(drawing)
     legend, width, height = _legend(tree, void, layout.height + 4)
     shapes = layout.edges + _drawn(tree, layout, labels, widths, void, name) + legend
     return svg.picture(max(layout.width, width), height, f"The tree of {book.pieces} pieces", shapes)
