@@ -1,3 +1,6 @@
 pub mod Refusals
 pub mod Unreads
 pub mod Rooms
+pub mod Readings
+pub mod Arguments
+pub mod Tellings

@@ -1,0 +1,37 @@
+#!/usr/bin/env python3
+"""Runs `pbook` as its users do, and holds every byte that it prints and writes against a reference written from documents 01 to 03.
+
+    run.py [BINARY]     target/bin/pbook where none is given; the last line is 'N passed, M failed'
+
+It wants a C compiler for the tracer, which ends the program, or has a system call fail, at each call in turn; as root it tries what nobody may do, too.
+"""
+import os
+import pathlib
+import sys
+
+sys.dont_write_bytecode = True
+HERE = pathlib.Path(__file__).resolve().parent
+sys.path.insert(0, str(HERE))
+from deep import all_deep  # noqa: E402
+from files import all_files  # noqa: E402
+from lab import Lab  # noqa: E402
+from manual import all_manual  # noqa: E402
+from pages import all_pages  # noqa: E402
+
+
+def main():
+    os.umask(0o022)
+    binary = sys.argv[1] if len(sys.argv) > 1 else HERE.parent.parent / "target" / "bin" / "pbook"
+    os.environ["PBOOK"] = str(pathlib.Path(binary).resolve())
+    lab = Lab(binary)
+    try:
+        for part in (all_manual, all_pages, all_files, all_deep):
+            part(lab)
+    finally:
+        lab.close()
+    print(f"{lab.passed} passed, {lab.failed} failed")
+    return 0 if lab.failed == 0 else 1
+
+
+if __name__ == "__main__":
+    sys.exit(main())
