@@ -131,6 +131,8 @@ static void text_calls(void)
     expect("show", s.number == 0 && s.length == sizeof shown - 1 && memcmp(page, shown, sizeof shown - 1) == 0);
     s = piecebook_show(records, sizeof records, page, sizeof shown - 2);
     expect("show, a byte short", s.number == 1 && s.length == 0);
+    s = piecebook_show(NULL, 0, NULL, 0);
+    expect("show, nothing", s.number == 0 && s.length == 0);
     s = piecebook_show_claims(claims, sizeof claims, page, sizeof page);
     expect("show_claims", s.number == 0 && s.length == 27 && memcmp(page, "PART 5 2\n", 9) == 0);
 }
