@@ -17,6 +17,7 @@ ghost use Rattle.contradiction.specs.Opened.{Opened};
 ghost use Rattle.closure.specs.Void.{voidOf};
 ghost use Rattle.chain_writing.specs.Call.{Answering, Judged, Written};
 use contradiction::Settled;
+use derivations::showing::Fact;
 use matrices::Matrix;
 use records::BookCheck;
 use records::ClaimsCheck;
@@ -50,17 +51,24 @@ fn write_found(
     requires { ⌜ Ground n claim (now book) (now voids) (now e) (now d) (now t) × (stated claim ≡ true) × Within n (saying claim) × (164000 ≤ length (now c)) ⌝ }
     ensures { λ r. ⌜ Answering n claim (now (book .entry)) (now (c .entry)) r (now (c .exit)) ⌝ }
 {
-    let kind = claim.kind;
-    let a = claim.a;
-    let b = claim.b;
-    let m = derivations::kinds::chain_for(n, claim, book, voids, e, d, t, kind, a, b, c);
+    let stated = Fact {
+        kind: claim.kind,
+        a: claim.a,
+        b: claim.b,
+    };
+    let m = derivations::kinds::chain_for(n, claim, book, voids, e, d, t, stated, c);
     if 0 < m {
         return Chain {
             reply: Reply::Answered(Answer::Follows),
             steps: m,
         };
     }
-    let k = derivations::kinds::chain_for(n, claim, book, voids, e, d, t, 5 - kind, a, b, c);
+    let opposite = Fact {
+        kind: 5 - claim.kind,
+        a: claim.a,
+        b: claim.b,
+    };
+    let k = derivations::kinds::chain_for(n, claim, book, voids, e, d, t, opposite, c);
     if 0 < k {
         return Chain {
             reply: Reply::Answered(Answer::Denied),

@@ -9,6 +9,7 @@ ghost use Rattle.clash.specs.declared.Reply.the-variants.{Refused};
 ghost use Rattle.clash.specs.Clash.{unrestricted, clashOk, passes, Written};
 ghost use Rattle.clash.specs.Silenced.{silencedByte, silenced, Placed, Behind};
 use contradiction::Settled;
+use derivations::showing::Fact;
 use matrices::Matrix;
 use matrices::RowNumbers;
 use records::BookCheck;
@@ -99,19 +100,12 @@ fn write_behind(
     contradiction::settle_alone(run, n, voids, e, order, lead, d, t);
     closure::edges(run, n, e);
     let claim = claim_at(book, place);
-    derivations::kinds::chain_for(
-        n,
-        claim,
-        run,
-        voids,
-        e,
-        d,
-        t,
-        5 - claim.kind,
-        claim.a,
-        claim.b,
-        c,
-    )
+    let opposite = Fact {
+        kind: 5 - claim.kind,
+        a: claim.a,
+        b: claim.b,
+    };
+    derivations::kinds::chain_for(n, claim, run, voids, e, d, t, opposite, c)
 }
 
 // Row 14 and the chain, for a book of n pieces that passes the rows before.

@@ -1,11 +1,12 @@
--- The three kinds that are a base and two containments, and the bases. Assumes nothing.
+-- Facts along the route of their kind, and the bases that routes begin with. Assumes nothing.
 use Prim.Native.Nat.{ℕ, _+_, _-_, _≤_, _<_}
-use mathlib.Core.Path.{_≡_, refl, sym, ap, subst, _∙_}
+use mathlib.Core.Path.{_≡_, refl, sym, ap, ap₂, subst, _∙_}
 use mathlib.Core.Logic.{_⊎_, inl, inr}
 use mathlib.Core.Bool.{true, false, not, _||_, false≢true}
 use mathlib.Core.List.{List}
 use native.Mathlib.Omega.{arith}
 use lib.ListN.{getD}
+use borrow.Author.Tests.{eq-eqb, ne-eqb}
 use Rattle.lists.proofs.Bools.{both-and, left-or, right-or, not-true}
 use Rattle.rules.specs.Fact.{Fact, APART, MEETS, NOTPART, kind, left, right, factOf}
 use Rattle.records.specs.declared.Record.{Record}
@@ -13,12 +14,15 @@ use Rattle.chain_format.specs.Citing.{Cited, none, citing, marksPiece, marksSom
 use Rattle.chain_format.specs.declared.steps.Step.{Step}
 use Rattle.chain_format.specs.Step.{stepAt, unordered, showing, shows}
 use Rattle.chain_format.specs.Justified.{cites}
+use Rattle.derivations.specs.declared.showing.Lift.{Lift}
+use Rattle.derivations.specs.declared.showing.Route.{Route}
 use Rattle.derivations.specs.Written.{Put}
 use Rattle.chain_format.specs.Twice.{alike, Differ}
 use Rattle.derivations.specs.Distinct.{Distinct}
 use Rattle.derivations.specs.Shown.{Writes, Adds}
 use Rattle.derivations.specs.Commons.{Joined}
-use Rattle.derivations.specs.Lifts.{lift-b, lift-a′, lift-b′, lift-c′, Inside, Disjoint, OnWay, Spanning, Lifting, Lifted, Grounded, told, Carried, Unlike, Lifts, Spans, Outlies}
+use Rattle.derivations.specs.Lifts.{lift-b, lift-a′, lift-b′, lift-c′, Inside, Disjoint, OnWay, Spanning, Leads, Lifting, Lifted, Grounded, told, Carried, Unlike, Routing, Lifts, Carriable, apart, meets, notpart, Routed, Spans, Outlies}
+use Rattle.derivations.specs.Routes.{liftTo, routeTo}
 use Rattle.chain_format.proofs.Showing.{straight, swapped, Ends, showing-kind, showing-ends, ends-show}
 use Rattle.chain_format.proofs.Stepping.{by-record, by-e′, by-d, by-e}
 use Rattle.derivations.proofs.Hopping.{justify}
@@ -98,66 +102,77 @@ module _ (n : ℕ) (es : List Cited) (small : n ≤ 2048) where
 
 -- ---- from a base about x and y to a fact about a and b
 
-module _ (n : ℕ) (base : Step) (x y a b : ℕ) (la : a < n) (lb : b < n) (ly : y < n) where
-  -- a in x, b in y
-  pub apart-carried : shows base (APART x y) ≡ true → Carried n base (saying 2 2 a y 0) (saying 2 2 a b 0) true true a x b y
-  unfolding factOf
-  apart-carried e =
-      record {
-        low = APART x y;
-        high = APART a y;
-        middle = APART y a;
-        last = APART b a;
-        begins = e;
-        once = lift-b;
-        between = (as-said 2 2 a y 0, turned-said 2 2 a y 0 refl);
-        twice = lift-b;
-        ends = (turned-said 2 2 a b 0 refl, as-said 2 2 a b 0);
-        s-left = la;
-        s-right = ly;
-        t-left = la;
-        t-right = lb;
-      }
+carried-by : {kd : ℕ} → Carriable kd → (base : Step) (x y a b : ℕ) → showing base kd x y ≡ true → Carried base (routeTo kd a b x y)
+unfolding factOf routeTo
+carried-by apart base x y a b e =
+    record {
+      low = APART x y;
+      high = APART a y;
+      middle = APART y a;
+      last = APART b a;
+      begins = e;
+      once = lift-b;
+      between = (as-said 2 2 a y 0, turned-said 2 2 a y 0 refl);
+      twice = lift-b;
+      ends = (turned-said 2 2 a b 0 refl, as-said 2 2 a b 0);
+    }
+carried-by meets base x y a b e =
+    record {
+      low = MEETS y x;
+      high = MEETS y a;
+      middle = MEETS a y;
+      last = MEETS a b;
+      begins = shows-turned base 3 x y refl e;
+      once = lift-c′;
+      between = (turned-said 7 3 a y 0 refl, as-said 7 3 a y 0);
+      twice = lift-c′;
+      ends = (as-said 7 3 a b 0, as-said 7 3 a b 0);
+    }
+carried-by notpart base x y a b e =
+    record {
+      low = NOTPART x y;
+      high = NOTPART a y;
+      middle = NOTPART a y;
+      last = NOTPART a b;
+      begins = e;
+      once = lift-a′;
+      between = (as-said 5 4 a y 0, as-said 5 4 a y 0);
+      twice = lift-b′;
+      ends = (as-said 6 4 a b 0, as-said 6 4 a b 0);
+    }
 
-  -- x in a, y in b
-  pub meets-carried : shows base (MEETS x y) ≡ true → Carried n base (saying 7 3 a y 0) (saying 7 3 a b 0) true true x a y b
-  unfolding factOf
-  meets-carried e =
-      record {
-        low = MEETS y x;
-        high = MEETS y a;
-        middle = MEETS a y;
-        last = MEETS a b;
-        begins = shows-turned base 3 x y refl e;
-        once = lift-c′;
-        between = (turned-said 7 3 a y 0 refl, as-said 7 3 a y 0);
-        twice = lift-c′;
-        ends = (as-said 7 3 a b 0, as-said 7 3 a b 0);
-        s-left = la;
-        s-right = ly;
-        t-left = la;
-        t-right = lb;
-      }
+pub route-carried : {n : ℕ} {claim : Record} {book : List ℕ} {base : Step} {kd a b x y : ℕ} {r : Route} → r ≡ routeTo kd a b x y → Routed n claim book kd a b x y → showing base kd x y ≡ true → Carried base r
+route-carried {base = base} {a = a} {b = b} {x = x} {y = y} q R e = rw q (carried-by (R .carriable) base x y a b e)
 
-  -- x in a, b in y
-  pub notpart-carried : shows base (NOTPART x y) ≡ true → Carried n base (saying 5 4 a y 0) (saying 6 4 a b 0) true false x a b y
-  unfolding factOf
-  notpart-carried e =
-      record {
-        low = NOTPART x y;
-        high = NOTPART a y;
-        middle = NOTPART a y;
-        last = NOTPART a b;
-        begins = e;
-        once = lift-a′;
-        between = (as-said 5 4 a y 0, as-said 5 4 a y 0);
-        twice = lift-b′;
-        ends = (as-said 6 4 a b 0, as-said 6 4 a b 0);
-        s-left = la;
-        s-right = ly;
-        t-left = la;
-        t-right = lb;
-      }
+-- both lifts lead along containments
+module _ {n : ℕ} {claim : Record} {book : List ℕ} {a b x y : ℕ} (lx : x < n) (ly : y < n) (la : a < n) (lb : b < n) where
+  leads-by :
+      {kd : ℕ} → Carriable kd → Inside n claim book (routeTo kd a b x y .once .g) (routeTo kd a b x y .once .k)
+      → Inside n claim book (routeTo kd a b x y .twice .g) (routeTo kd a b x y .twice .k) → Leads n claim book (routeTo kd a b x y .once) × Leads n claim book (routeTo kd a b x y .twice)
+  unfolding routeTo
+  leads-by apart p q = (record { low = la; high = lx; inside = p; left = la; right = ly }, record { low = lb; high = ly; inside = q; left = la; right = lb })
+  leads-by meets p q = (record { low = lx; high = la; inside = p; left = la; right = ly }, record { low = ly; high = lb; inside = q; left = la; right = lb })
+  leads-by notpart p q = (record { low = lx; high = la; inside = p; left = la; right = ly }, record { low = lb; high = ly; inside = q; left = la; right = lb })
+
+pub route-leads : {n : ℕ} {claim : Record} {book : List ℕ} {kd a b x y : ℕ} {r : Route} → r ≡ routeTo kd a b x y → Routed n claim book kd a b x y → Leads n claim book (r .once) × Leads n claim book (r .twice)
+route-leads q R = rw q (leads-by (R .from-left) (R .from-right) (R .to-left) (R .to-right) (R .carriable) (R .once) (R .twice))
+
+abbrev both : Lift → Lift → Route
+both once twice = record { once = once; twice = twice }
+
+-- the route as it is computed
+module _ {kd a b x y : ℕ} {r : Route} where
+  pub computed-apart : kd ≡ 2 → r .once ≡ liftTo a x 2 true kd a y → r .twice ≡ liftTo b y 2 true kd a b → r ≡ routeTo kd a b x y
+  unfolding routeTo
+  computed-apart e p q = rw (eq-eqb kd 2 e, routeTo) (ap₂ both p q)
+
+  pub computed-meets : (kd ≡ 2 → ⊥) → kd ≡ 3 → r .once ≡ liftTo x a 7 true kd a y → r .twice ≡ liftTo y b 7 true kd a b → r ≡ routeTo kd a b x y
+  unfolding routeTo
+  computed-meets o e p q = rw (ne-eqb kd 2 o, eq-eqb kd 3 e, routeTo) (ap₂ both p q)
+
+  pub computed-notpart : (kd ≡ 2 → ⊥) → (kd ≡ 3 → ⊥) → r .once ≡ liftTo x a 5 true kd a y → r .twice ≡ liftTo b y 6 false kd a b → r ≡ routeTo kd a b x y
+  unfolding routeTo
+  computed-notpart o o′ p q = rw (ne-eqb kd 2 o, ne-eqb kd 3 o′, routeTo) (ap₂ both p q)
 
 -- ---- the facts on the way differ
 
@@ -184,53 +199,59 @@ module _ (kd x y a b : ℕ) (base : Step) where
       pick (straight u v) = o v
       pick (swapped t u v) = o (v ∙ u)
 
-  -- g and k are x and a, h and l are y and b, either way round
-  unlike :
-      (kd ≡ 1 → ⊥) → showing base kd x y ≡ true → (r r′ : ℕ) {g k h l : ℕ} → ((g ≡ k → ⊥) → x ≡ a → ⊥) → ((h ≡ l → ⊥) → y ≡ b → ⊥)
-      → Unlike base (middle r) (last r′) g k h l
-  unlike o e r r′ p q =
-      let z : base .kind ≡ kd = showing-kind base kd x y e in
-      record {
-        other = λ f. o (sym z ∙ f);
-        s-kind = sym z;
-        t-kind = sym z;
-        once = λ u. once-unlike e (p u) r;
-        twice = λ u. twice-unlike (q u) r r′;
-      }
-
--- ---- so do the steps
-
-spanned :
-    {n : ℕ} {claim : Record} {book : List ℕ} {base s t : Step} {f : Fact} {kd g k h l : ℕ} {c c′ : List ℕ} {m m′ : ℕ} → told t ≡ f → base .kind ≡ kd → Unlike base s t g k h l
-    → Lifts n claim book base s t g k h l c m c′ m′ → Spans n claim book f kd g k h l c m c′ m′
-spanned {n} {claim} {book} {g = g} {k = k} {h = h} {l = l} {c = c} {c′ = c′} {m = m} {m′ = m′} e z U L =
+route-unlike : {kd : ℕ} → Carriable kd → (base : Step) (x y a b : ℕ) → showing base kd x y ≡ true → Unlike base (routeTo kd a b x y)
+unfolding routeTo
+route-unlike apart base x y a b e =
+    let z = showing-kind base 2 x y e in
     record {
-      writes = subst (λ f. Writes n (citing claim book) f 8189 c m c′ m′) e (L .writes);
-      steps = λ d. subst (λ kd. Distinct (Spanning n claim book kd g k h l) c′ m m′) z (L .steps U d);
+      other = λ f. omega arith;
+      s-kind = sym z;
+      t-kind = sym z;
+      once = λ u. once-unlike 2 x y a b base e (λ q. u (sym q)) 2;
+      twice = λ u. twice-unlike 2 x y a b base (λ q. u (sym q)) 2 2;
+    }
+route-unlike meets base x y a b e =
+    let z = showing-kind base 3 x y e in
+    record {
+      other = λ f. omega arith;
+      s-kind = sym z;
+      t-kind = sym z;
+      once = λ u. once-unlike 3 x y a b base e u 7;
+      twice = λ u. twice-unlike 3 x y a b base u 7 7;
+    }
+route-unlike notpart base x y a b e =
+    let z = showing-kind base 4 x y e in
+    record {
+      other = λ f. omega arith;
+      s-kind = sym z;
+      t-kind = sym z;
+      once = λ u. once-unlike 4 x y a b base e u 5;
+      twice = λ u. twice-unlike 4 x y a b base (λ q. u (sym q)) 5 6;
     }
 
-module _ {n : ℕ} {claim : Record} {book : List ℕ} {base : Step} {x y a b : ℕ} {c c′ : List ℕ} {m m′ : ℕ} where
-  pub apart-spans :
-      shows base (APART x y) ≡ true → Lifts n claim book base (saying 2 2 a y 0) (saying 2 2 a b 0) a x b y c m c′ m′ → Spans n claim book (APART a b) 2 a x b y c m c′ m′
-  unfolding factOf
-  apart-spans q L = spanned refl (showing-kind base 2 x y q) (unlike 2 x y a b base (λ z. omega arith) q 2 2 (λ o z. o (sym z)) (λ o z. o (sym z))) L
+route-told : {kd : ℕ} → Carriable kd → (a b x y : ℕ) → told (routeTo kd a b x y .twice .step) ≡ factOf kd a b
+unfolding routeTo
+route-told apart a b x y = refl
+route-told meets a b x y = refl
+route-told notpart a b x y = refl
 
-  pub meets-spans :
-      shows base (MEETS x y) ≡ true → Lifts n claim book base (saying 7 3 a y 0) (saying 7 3 a b 0) x a y b c m c′ m′ → Spans n claim book (MEETS a b) 3 x a y b c m c′ m′
-  unfolding factOf
-  meets-spans q L = spanned refl (showing-kind base 3 x y q) (unlike 3 x y a b base (λ z. omega arith) q 7 7 (λ o z. o z) (λ o z. o z)) L
-
-  pub notpart-spans :
-      shows base (NOTPART x y) ≡ true → Lifts n claim book base (saying 5 4 a y 0) (saying 6 4 a b 0) x a b y c m c′ m′ → Spans n claim book (NOTPART a b) 4 x a b y c m c′ m′
-  unfolding factOf
-  notpart-spans q L = spanned refl (showing-kind base 4 x y q) (unlike 4 x y a b base (λ z. omega arith) q 5 6 (λ o z. o z) (λ o z. o (sym z))) L
+-- so do the steps
+pub route-spans :
+    {n : ℕ} {claim : Record} {book : List ℕ} {base : Step} {kd a b x y : ℕ} {r : Route} {c c′ : List ℕ} {m m′ : ℕ} → r ≡ routeTo kd a b x y → Carriable kd → showing base kd x y ≡ true
+    → Lifts n claim book base r c m c′ m′ → Spans n claim book kd a b x y c m c′ m′
+route-spans {n} {claim} {book} {base} {kd} {a} {b} {x} {y} {r} {c} {c′} {m} {m′} q C e L =
+    let M = subst (λ z. Lifts n claim book base z c m c′ m′) q L in
+    record {
+      writes = subst (λ f. Writes n (citing claim book) f 8189 c m c′ m′) (route-told C a b x y) (M .writes);
+      steps = λ d. subst (λ k. Distinct (Routing n claim book k (routeTo kd a b x y)) c′ m m′) (showing-kind base kd x y e) (M .steps (route-unlike C base x y a b e) d);
+    }
 
 -- ---- a NOTPART b, by b in u, u APART v and a MEETS v
 
 outside-based : {n : ℕ} {es : List Cited} {base : Step} {u v : ℕ} {c c₀ : List ℕ} {m : ℕ} → Grounded n es base → shows base (APART u v) ≡ true → Put c c₀ m base → Writes n es (APART u v) 1 c m c₀ (m + 1)
 outside-based {u = u} {v = v} G e p = writes-one p (G .holds _ _ _) (APART u v) e
 
-module _ {n : ℕ} {claim : Record} {book : List ℕ} {base : Step} {u v b : ℕ} {c c₀ c₁ : List ℕ} {m i : ℕ} (G : Grounded n (citing claim book) base) (e : shows base (APART u v) ≡ true) (p : Put c c₀ m base) (L : Lifted n claim book (saying 2 2 b v 0) true b u c₀ (m + 1) c₁ i) where
+module _ {n : ℕ} {claim : Record} {book : List ℕ} {base : Step} {u v b : ℕ} {c c₀ c₁ : List ℕ} {m i : ℕ} (G : Grounded n (citing claim book) base) (e : shows base (APART u v) ≡ true) (p : Put c c₀ m base) (L : Lifted n claim book (liftTo b u 2 true 2 b v) c₀ (m + 1) c₁ i) where
   outside-adds : Adds n (citing claim book) (APART b v) 4094 c₀ (m + 1) c₁ i
   outside-adds = L .writes (APART u v) (APART b v) (APART b v) lift-b (outside-based G e p .shown) (as-said 2 2 b v 0) (as-said 2 2 b v 0)
 
@@ -242,13 +263,13 @@ module _ {n : ℕ} {claim : Record} {book : List ℕ} {base : Step} {u v b : ℕ
   outside-first =
       let h = outside-adds .more in
       distinct-weaken all
-      (distinct-join (omega arith) (omega arith) (base-lift (λ z. omega (arith, kd)) (λ o. once-unlike 2 u v b b base e (λ z. o (sym z)) 2)) (distinct-kept (outside-adds .edited) (omega arith) (distinct-one p))
+      (distinct-join (omega arith) (omega arith) (base-lift (liftTo b u 2 true 2 b v) (λ z. omega (arith, kd)) (λ o. once-unlike 2 u v b b base e (λ z. o (sym z)) 2)) (distinct-kept (outside-adds .edited) (omega arith) (distinct-one p))
       (L .steps (λ z. omega arith)))
     where
       kd : base .kind ≡ 2
       kd = showing-kind base 2 u v e
 
-      all : (z : Step) → (z ≡ base) ⊎ Lifting n claim book b u (saying 2 2 b v 0) z → OnWay n claim book b u z ⊎ (z .kind ≡ 2)
+      all : (z : Step) → (z ≡ base) ⊎ Lifting n claim book (liftTo b u 2 true 2 b v) z → OnWay n claim book b u z ⊎ (z .kind ≡ 2)
       all z (inl q) = inr (ap (λ (x : Step). x .kind) q ∙ kd)
       all z (inr (inl a)) = inl a
       all z (inr (inr a)) = inr (a .1 .kinds)

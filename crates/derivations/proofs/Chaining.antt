@@ -32,7 +32,8 @@ use Rattle.derivations.specs.declared.search.Meeting.{Meeting}
 use Rattle.derivations.specs.Aim.{joining, serving}
 use Rattle.derivations.specs.Written.{Put}
 use Rattle.derivations.specs.Shown.{Writes}
-use Rattle.derivations.specs.Lifts.{Inside, Grounded, Spans, Outlies}
+use Rattle.derivations.specs.Lifts.{Inside, Grounded, apart, notpart, Routed, Spans, Outlies}
+use Rattle.derivations.specs.Routes.{routeTo}
 use Rattle.derivations.specs.Commons.{Joined}
 use Rattle.derivations.specs.Found as of
 use Rattle.derivations.specs.Found.{Found, Ground, Witnessed, Met, Voided, Chained}
@@ -133,25 +134,38 @@ module _ {n : ℕ} {claim : Record} {s voids e d t : List ℕ} (G : Ground n cla
 
     -- ---- what is written from there
 
-    pub apart-chained :
-        marked s a ≡ false → {w : Witness} → Witnessed n (citing claim s) Apart d t a b w → {c c′ : List ℕ} {r : ℕ} → Spans n claim s (APART a b) 2 a (w .x) b (w .y) c 0 c′ r → Chained n claim s (APART a b) c c′ r
+    -- ---- the route from there
+
+    module _ {w : Witness} where
+      pub apart-routed : Witnessed n (citing claim s) Apart d t a b w → Routed n claim s 2 a b (w .x) (w .y)
+      unfolding routeTo
+      apart-routed W = let p = apart-parts W in record { carriable = apart; from-left = W .left; from-right = W .right; to-left = la; to-right = lb; once = p .0; twice = p .1 }
+
+      pub notpart-routed : Witnessed n (citing claim s) NotPart d t a b w → Routed n claim s 4 a b (w .x) (w .y)
+      unfolding routeTo
+      notpart-routed W = let p = notpart-parts W in record { carriable = notpart; from-left = W .left; from-right = W .right; to-left = la; to-right = lb; once = p .0; twice = p .1 }
+
+    -- ---- what is written along it
+
+    pub apart-chained : marked s a ≡ false → {w : Witness} → Witnessed n (citing claim s) Apart d t a b w → {c c′ : List ℕ} {r : ℕ} → Spans n claim s 2 a b (w .x) (w .y) c 0 c′ r → Chained n claim s (APART a b) c c′ r
+    unfolding factOf routeTo
     apart-chained m {w} W S =
         chained-some (APART a b) (la, lb) (S .writes)
         (S .steps (apart-disjoint G (W .left) (W .right) la lb m (cited-derives G (w .step) (W .cited) (APART (w .x) (w .y)) (W .shown))) .differ)
         (omega arith)
 
-    pub meets-chained : {w : Meeting} → of.Meets n claim s a b w → {c c′ : List ℕ} {r : ℕ} → Joined n claim s (w .x) (w .y) a b c 0 c′ r → Chained n claim s (MEETS a b) c c′ r
+    pub meets-chained : {w : Witness} → of.Meets n claim s a b w → {c c′ : List ℕ} {r : ℕ} → Joined n claim s (w .x) (w .y) a b c 0 c′ r → Chained n claim s (MEETS a b) c c′ r
     meets-chained W S = chained-some (MEETS a b) (la, lb) (S .writes) (S .steps (W .disjoint) .differ) (omega arith)
 
-    pub notpart-chained :
-        {w : Witness} → Witnessed n (citing claim s) NotPart d t a b w → {c c′ : List ℕ} {r : ℕ} → Spans n claim s (NOTPART a b) 4 (w .x) a b (w .y) c 0 c′ r → Chained n claim s (NOTPART a b) c c′ r
+    pub notpart-chained : {w : Witness} → Witnessed n (citing claim s) NotPart d t a b w → {c c′ : List ℕ} {r : ℕ} → Spans n claim s 4 a b (w .x) (w .y) c 0 c′ r → Chained n claim s (NOTPART a b) c c′ r
+    unfolding factOf routeTo
     notpart-chained {w} W S =
         chained-some (NOTPART a b) (la, lb) (S .writes)
         (S .steps (notpart-disjoint G (W .left) (W .right) la lb (cited-derives G (w .step) (W .cited) (NOTPART (w .x) (w .y)) (W .shown))) .differ)
         (omega arith)
 
     pub outside-chained :
-        {u : Witness} → Witnessed n (citing claim s) Outside d t a b u → {w : Meeting} → of.Meets n claim s a (u .y) w → {c c′ : List ℕ} {r : ℕ}
+        {u : Witness} → Witnessed n (citing claim s) Outside d t a b u → {w : Witness} → of.Meets n claim s a (u .y) w → {c c′ : List ℕ} {r : ℕ}
         → Outlies n claim s a b (u .x) (u .y) (w .x) (w .y) c 0 c′ r → Chained n claim s (NOTPART a b) c c′ r
     outside-chained {u} U W S =
         let q = cited-derives G (u .step) (U .cited) (APART (u .x) (u .y)) (U .shown) in
@@ -161,7 +175,7 @@ module _ {n : ℕ} {claim : Record} {s voids e d t : List ℕ} (G : Ground n cla
 
     -- ---- meetings
 
-    pub met-common : (x : ℕ) → x < n → (not (voidOf voids x) && (bitOf d a x && bitOf d b x)) ≡ true → Met n claim s a b (record { found = true; step = saying 9 3 x x 0; x = x; y = x })
+    pub met-common : (x : ℕ) → x < n → (not (voidOf voids x) && (bitOf d a x && bitOf d b x)) ≡ true → Met n claim s a b (record { found = true; witness = record { step = saying 9 3 x x 0; x = x; y = x } })
     met-common x lx e =
         let j = and-both _ _ e in
         let k = and-both _ _ (j .1) in
@@ -183,7 +197,7 @@ module _ {n : ℕ} {claim : Record} {s voids e d t : List ℕ} (G : Ground n cla
         }
 
     pub met-stored :
-        (x : ℕ) → n ≤ x → Found (λ x. not (voidOf voids x) && (bitOf d a x && bitOf d b x)) n x → (w : Witness) → Witnessed n (citing claim s) Meets d t a b w → Met n claim s a b (record { found = true; step = w .step; x = w .x; y = w .y })
+        (x : ℕ) → n ≤ x → Found (λ x. not (voidOf voids x) && (bitOf d a x && bitOf d b x)) n x → (w : Witness) → Witnessed n (citing claim s) Meets d t a b w → Met n claim s a b (record { found = true; witness = w })
     met-stored x o F w W =
         let p = meets-parts W in
         let m = cited-derives G (w .step) (W .cited) (MEETS (w .x) (w .y)) (W .shown) in

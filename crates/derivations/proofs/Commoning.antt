@@ -25,11 +25,12 @@ use Rattle.derivations.specs.Distinct.{Distinct, Upward, begun, higher}
 use Rattle.derivations.proofs.Climbing.{goes-on}
 use Rattle.derivations.proofs.Distincts.{unlike-kind, unlike-part, distinct-none, distinct-one, distinct-weaken, distinct-kept, distinct-join}
 use Rattle.derivations.specs.Shown.{Writes, Adds}
-use Rattle.derivations.specs.Lifts.{Lift, lift-c′, Setting, Telling, Unmarked, Inside, Between, Disjoint, OnWay, Spanning, Same, Lifting, Lifted, Spans}
+use Rattle.derivations.specs.Lifts.{lift-c′, Setting, Telling, Unmarked, Inside, Between, Disjoint, OnWay, Spanning, Same, Lifting, Lifted, meets, Routed, Spans}
 use Rattle.derivations.specs.Commons.{Last, Risen, Joined}
 use Rattle.derivations.proofs.Joining.{justified-c′}
 use Rattle.derivations.proofs.Composed.{still-shown, adds-none, adds-some, writes-one, writes-adds, writes-put}
 use Rattle.derivations.proofs.Linked.{upward-between, hops-sourced, inside-itself}
+use Rattle.derivations.specs.Routes.{liftTo, routeTo}
 use Rattle.derivations.proofs.Carries.{saying, as-said, itself-grounded, once-unlike, twice-unlike}
 use Rattle.derivations.proofs.Lifting.{alike-same, base-lift}
 
@@ -198,14 +199,14 @@ module _ {n : ℕ} {claim : Record} {book e d hop : List ℕ} {x a b g : ℕ} (S
     pub risen-writes : Writes n (citing claim book) (MEETS a g) 4095 c m c₁ i
     risen-writes = writes-adds first rise
 
-    module _ {c₂ : List ℕ} {j : ℕ} (Y : Lifted n claim book end true g b c₁ i c₂ j) where
+    module _ {c₂ : List ℕ} {j : ℕ} (Y : Lifted n claim book (liftTo g b 7 true 3 a b) c₁ i c₂ j) where
       last : Adds n (citing claim book) (MEETS a b) 4094 c₁ i c₂ j
       last = Y .writes (MEETS a g) (MEETS a b) (MEETS a b) lift-c′ (risen-writes .shown) (as-said 7 3 a b 0) (as-said 7 3 a b 0)
 
       abbrev Up : Step → Type 0
       Up z = ((z .kind ≡ 1) × Upward hop a g (z .b)) ⊎ ((g ≡ a → ⊥) × Same z (risen a g))
 
-      as-lift : (z : Step) → Up z → Lifting n claim book g a (risen a g) z
+      as-lift : (z : Step) → Up z → Lifting n claim book (liftTo g a 7 true 3 a g) z
       as-lift z (inl q) = inl (q .0, upward-between S la H last-low (q .1))
       as-lift z (inr q) = inr q
 
@@ -221,19 +222,19 @@ module _ {n : ℕ} {claim : Record} {book e d hop : List ℕ} {x a b g : ℕ} (S
           pick (swapped t u v) = o u
 
       second : (z w : Step) → z ≡ base → Up w → alike z w ≡ false
-      second z w q r = base-lift other (λ o. once-unlike 3 g g a b base (as-said 9 3 g g 0) o 7) z w q (as-lift w r)
+      second z w q r = base-lift (liftTo g a 7 true 3 a g) other (λ o. once-unlike 3 g g a b base (as-said 9 3 g g 0) o 7) z w q (as-lift w r)
 
-      beside : (z w : Step) → Up z → Lifting n claim book g b end w → alike z w ≡ false
+      beside : (z w : Step) → Up z → Lifting n claim book (liftTo g b 7 true 3 a b) w → alike z w ≡ false
       beside z w (inl q) (inl r) = unlike-part z w (r .0) (λ u v. parted (subst (Upward hop a g) v (q .1)) (r .1))
       beside z w (inl q) (inr r) = unlike-kind z w (λ u. omega (arith, q .0, r .1 .kinds))
       beside z w (inr q) (inl r) = unlike-kind z w (λ u. omega (arith, q .1 .kinds, r .0))
       beside z w (inr q) (inr r) = alike-same (q .1) (r .1) ∙ twice-unlike 3 g g a b base (r .0) 7 7
 
-      third : (z w : Step) → (z ≡ base) ⊎ Up z → Lifting n claim book g b end w → alike z w ≡ false
-      third z w (inl q) r = base-lift other end-unlike z w q r
+      third : (z w : Step) → (z ≡ base) ⊎ Up z → Lifting n claim book (liftTo g b 7 true 3 a b) w → alike z w ≡ false
+      third z w (inl q) r = base-lift (liftTo g b 7 true 3 a b) other end-unlike z w q r
       third z w (inr q) r = beside z w q r
 
-      all : (z : Step) → ((z ≡ base) ⊎ Up z) ⊎ Lifting n claim book g b end z → Spanning n claim book 3 g a g b z
+      all : (z : Step) → ((z ≡ base) ⊎ Up z) ⊎ Lifting n claim book (liftTo g b 7 true 3 a b) z → Spanning n claim book 3 g a g b z
       all z (inl (inl q)) = inr (ap (λ (y : Step). y .kind) q)
       all z (inl (inr (inl q))) = inl (inl (q .0, upward-between S la H last-low (q .1)))
       all z (inl (inr (inr q))) = inr (q .1 .kinds)
@@ -261,9 +262,15 @@ module _ {n : ℕ} {claim : Record} {book e d hop : List ℕ} {x a b g : ℕ} (S
           }
 
 -- from two pieces
+pub meets-routed :
+    {n : ℕ} {claim : Record} {book : List ℕ} {x y a b : ℕ} → x < n → y < n → a < n → b < n → Inside n claim book x a → Inside n claim book y b → Routed n claim book 3 a b x y
+unfolding routeTo
+meets-routed lx ly la lb p q = record { carriable = meets; from-left = lx; from-right = ly; to-left = la; to-right = lb; once = p; twice = q }
+
 pub spans-joined :
-    {n : ℕ} {claim : Record} {book e : List ℕ} {x y a b : ℕ} {c c′ : List ℕ} {m m′ : ℕ} → Setting n claim book e → (x ≡ y → ⊥) → x < n → y < n → Spans n claim book (MEETS a b) 3 x a y b c m c′ m′
+    {n : ℕ} {claim : Record} {book e : List ℕ} {x y a b : ℕ} {c c′ : List ℕ} {m m′ : ℕ} → Setting n claim book e → (x ≡ y → ⊥) → x < n → y < n → Spans n claim book 3 a b x y c m c′ m′
     → Joined n claim book x y a b c m c′ m′
+unfolding factOf routeTo
 spans-joined {x = x} {y = y} S o lx ly P =
     record {
       writes = P .writes;

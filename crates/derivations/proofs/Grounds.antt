@@ -46,7 +46,7 @@ use Rattle.derivations.specs.Aim.{kindFor, joining, serving}
 use Rattle.derivations.specs.Sources.{Stepped}
 use Rattle.derivations.specs.Lifts.{Setting, Telling, Inside}
 use Rattle.derivations.specs.Shown.{Writes}
-use Rattle.derivations.specs.Found.{Ground, Found}
+use Rattle.derivations.specs.Found.{Ground, Citable, Found}
 
 -- a search for a mark that is there finds it
 pub mark-there : (s : List ℕ) (g i : ℕ) → marked s g ≡ true → (records s ≤ i → (j : ℕ) → j < records s → marks g (recordAt s j) ≡ false) → i < records s
@@ -81,6 +81,9 @@ module _ {n : ℕ} {claim : Record} {s voids e d t : List ℕ} (G : Ground n cla
 
   pub small : n ≤ 2048
   small = G .bounded .fits
+
+  pub citable : Citable n s d t
+  citable = record { few = G .few; bounded = G .bounded; parts = G .parts .sized; toward = G .toward .sized }
 
   pub all-within : AllWithin 2048 (facts s)
   all-within f m = let b = G .bounded .within f m in let l = small in (omega (arith, b .0), omega (arith, b .1))

@@ -26,9 +26,8 @@ use Rattle.derivations.specs.declared.search.Aim.the-variants.{Apart, Me
 use Rattle.derivations.specs.declared.search.Witness.{Witness}
 use Rattle.derivations.specs.Aim.{kindFor, joining, serving}
 use Rattle.derivations.specs.Lifts.{Grounded}
-use Rattle.derivations.specs.Found.{Ground, Witnessed}
+use Rattle.derivations.specs.Found.{Citable, Witnessed}
 use Rattle.derivations.proofs.Carries.{saying, as-said, turned-said, stored-grounded}
-use Rattle.derivations.proofs.Grounds.{small}
 
 -- ---- which pieces lead to the fact
 
@@ -101,7 +100,7 @@ module _ (aim : Aim) (claim : Record) (d t : List ℕ) (a b : ℕ) (r : Record) 
 
 -- ---- the record that is cited
 
-module _ {n : ℕ} {claim : Record} {s voids e d t : List ℕ} (G : Ground n claim s voids e d t) (aim : Aim) (a b : ℕ) (i : ℕ) (h : i < records s) (on : serving aim claim d t a b (recordAt s i) ≡ true) (r : Record) (q : r ≡ recordAt s i) where
+module _ {n : ℕ} {s d t : List ℕ} (G : Citable n s d t) (claim : Record) (aim : Aim) (a b : ℕ) (i : ℕ) (h : i < records s) (on : serving aim claim d t a b (recordAt s i) ≡ true) (r : Record) (q : r ≡ recordAt s i) where
   served : serving aim claim d t a b r ≡ true
   served = ap (serving aim claim d t a b) q ∙ on
 
@@ -134,7 +133,7 @@ module _ {n : ℕ} {claim : Record} {s voids e d t : List ℕ} (G : Ground n cla
   cited = sym (brings-fact claim s step h r q is-stated (parts-of .1)) ∙ as-said 0 (r .kind) (r .a) (r .b) i
 
   grounded : Grounded n (citing claim s) step
-  grounded = let f = G .few in stored-grounded n (citing claim s) (small G) (r .kind) (r .a) (r .b) i (pieces-in .0) (pieces-in .1) (omega arith) cited
+  grounded = let f = G .few in stored-grounded n (citing claim s) (G .bounded .fits) (r .kind) (r .a) (r .b) i (pieces-in .0) (pieces-in .1) (omega arith) cited
 
   pub cited-straight : joining aim d t a b (r .a) (r .b) ≡ true → Witnessed n (citing claim s) aim d t a b (record { step = step; x = r .a; y = r .b })
   cited-straight j =

@@ -12,6 +12,7 @@ use Rattle.records.specs.Facts.{facts}
 use Rattle.records.specs.Kept.{picked}
 use Rattle.records.specs.Record.{recordAt, records}
 use Rattle.records.specs.Marked.{marks, marked}
+use Rattle.matrices.specs.Matrix.{IsMatrix}
 use Rattle.closure.specs.Bounded.{Bounded}
 use Rattle.closure.specs.Stored.{edgeBit}
 use Rattle.closure.specs.Closed.{Holds, partBit, towardBit}
@@ -49,6 +50,13 @@ pub record Ground (n : ℕ) (claim : Record) (s voids e d t : List ℕ) : Type 0
   pub parts : Holds n d (partBit n (facts (picked s claim)))
   pub toward : Holds n t (towardBit (marked s) n (facts (picked s claim)))
 
+-- a run of which records are cited, and matrices by which they are chosen
+pub record Citable (n : ℕ) (s d t : List ℕ) : Type 0 where
+  pub few : records s ≤ 8192
+  pub bounded : Bounded n (facts s)
+  pub parts : IsMatrix d
+  pub toward : IsMatrix t
+
 -- a step that cites a record, and its pieces in the order in which they lead to the fact
 pub record Witnessed (n : ℕ) (es : List Cited) (aim : Aim) (d t : List ℕ) (a b : ℕ) (w : Witness) : Type 0 where
   pub grounded : Grounded n es (w .step)
@@ -59,7 +67,7 @@ pub record Witnessed (n : ℕ) (es : List Cited) (aim : Aim) (d t : List ℕ) (a
   pub joined : joining aim d t a b (w .x) (w .y) ≡ true
 
 -- x MEETS y, x in a and y in b, where a and b meet; of two pieces x and y, none lies both between x and a and between y and b
-pub record Meets (n : ℕ) (claim : Record) (s : List ℕ) (a b : ℕ) (w : Meeting) : Type 0 where
+pub record Meets (n : ℕ) (claim : Record) (s : List ℕ) (a b : ℕ) (w : Witness) : Type 0 where
   pub grounded : Grounded n (citing claim s) (w .step)
   pub shown : showing (w .step) 3 (w .x) (w .y) ≡ true
   pub left : w .x < n
@@ -70,9 +78,9 @@ pub record Meets (n : ℕ) (claim : Record) (s : List ℕ) (a b : ℕ) (w : Meet
   pub unmarked : w .x ≡ w .y → Unmarked n claim s (w .x)
   pub disjoint : (w .x ≡ w .y → ⊥) → Disjoint n claim s (w .x) a (w .y) b
 
-pub record Met (n : ℕ) (claim : Record) (s : List ℕ) (a b : ℕ) (w : Meeting) : Type 0 where
-  pub yes : w .found ≡ true → Meets n claim s a b w
-  pub no : w .found ≡ false → follows (marked s) n (facts (picked s claim)) (MEETS a b) ≡ false
+pub record Met (n : ℕ) (claim : Record) (s : List ℕ) (a b : ℕ) (m : Meeting) : Type 0 where
+  pub yes : m .found ≡ true → Meets n claim s a b (m .witness)
+  pub no : m .found ≡ false → follows (marked s) n (facts (picked s claim)) (MEETS a b) ≡ false
 
 -- r steps from step 0 on, no two of which show the same, show f, or r is 0, nothing is written and f does not follow
 pub record Chained (n : ℕ) (claim : Record) (s : List ℕ) (f : Fact) (c c′ : List ℕ) (r : ℕ) : Type 0 where

@@ -4,6 +4,7 @@ pub mod Hops
 pub mod Queue
 pub mod Sources
 pub mod Written
+pub mod Routes
 pub mod Lifts
 pub mod Shown
 pub mod Commons

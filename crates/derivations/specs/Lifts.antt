@@ -16,17 +16,20 @@ use Rattle.records.specs.Kept.{picked}
 use Rattle.chain_format.specs.declared.steps.Step.{Step}
 use Rattle.chain_format.specs.Step.{stepAt, shows}
 use Rattle.chain_format.specs.Justified.{justified}
+use Rattle.derivations.specs.declared.showing.Lift.{Lift}
+use Rattle.derivations.specs.declared.showing.Route.{Route}
+use Rattle.derivations.specs.Routes.{routeTo}
 use Rattle.derivations.specs.Sources.{Stepped}
 use Rattle.chain_format.specs.Twice.{alike, Differ}
 use Rattle.derivations.specs.Distinct.{Distinct}
 use Rattle.derivations.specs.Shown.{Writes, Adds}
 
 -- by rule r, along PART g k, the first fact shows the second
-pub data Lift : ℕ → Bool → ℕ → ℕ → Fact → Fact → Type 0 where
-  lift-b : {g h k : ℕ} → Lift 2 true g h (APART h k) (APART g k)
-  lift-a′ : {g h k : ℕ} → Lift 5 true g h (NOTPART g k) (NOTPART h k)
-  lift-b′ : {g h k : ℕ} → Lift 6 false h k (NOTPART g k) (NOTPART g h)
-  lift-c′ : {g h k : ℕ} → Lift 7 true h k (MEETS g h) (MEETS g k)
+pub data Along : ℕ → Bool → ℕ → ℕ → Fact → Fact → Type 0 where
+  lift-b : {g h k : ℕ} → Along 2 true g h (APART h k) (APART g k)
+  lift-a′ : {g h k : ℕ} → Along 5 true g h (NOTPART g k) (NOTPART h k)
+  lift-b′ : {g h k : ℕ} → Along 6 false h k (NOTPART g k) (NOTPART g h)
+  lift-c′ : {g h k : ℕ} → Along 7 true h k (MEETS g h) (MEETS g k)
 
 -- a book of n pieces and the matrix of the steps of containment among the facts that the claim picks
 pub record Setting (n : ℕ) (claim : Record) (book e : List ℕ) : Type 0 where
@@ -79,15 +82,24 @@ pub record Same (z s : Step) : Type 0 where
   pub lefts : z .a ≡ s .a
   pub rights : z .b ≡ s .b
 
--- a step of a lift along g PART k to what s shows
-abbrev pub Lifting : ℕ → Record → List ℕ → ℕ → ℕ → Step → Step → Type 0
-Lifting n claim book g k s z = OnWay n claim book g k z ⊎ ((g ≡ k → ⊥) × Same z s)
+-- a lift along a containment by these facts, to a fact about two of their pieces
+pub record Leads (n : ℕ) (claim : Record) (book : List ℕ) (l : Lift) : Type 0 where
+  pub low : l .g < n
+  pub high : l .k < n
+  pub inside : Inside n claim book (l .g) (l .k)
+  pub left : l .step .a < n
+  pub right : l .step .b < n
 
--- steps m up to m′ carry what step m - 1 shows to what s shows, either way round; there are none where g is k
-pub record Lifted (n : ℕ) (claim : Record) (book : List ℕ) (s : Step) (first : Bool) (g k : ℕ) (c : List ℕ) (m : ℕ) (c′ : List ℕ) (m′ : ℕ) : Type 0 where
+-- a step of a lift
+abbrev pub Lifting : ℕ → Record → List ℕ → Lift → Step → Type 0
+Lifting n claim book l z = OnWay n claim book (l .g) (l .k) z ⊎ ((l .g ≡ l .k → ⊥) × Same z (l .step))
+
+-- steps m up to m′ carry what step m - 1 shows to what the lift's step shows, either way round; there are none where g is k
+pub record Lifted (n : ℕ) (claim : Record) (book : List ℕ) (l : Lift) (c : List ℕ) (m : ℕ) (c′ : List ℕ) (m′ : ℕ) : Type 0 where
   pub writes :
-      (f f′ d : Fact) → Lift (s .rule) first g k f f′ → shows (stepAt c (m - 1)) f ≡ true → shows s f′ ≡ true → shows s d ≡ true → Adds n (citing claim book) d 4094 c m c′ m′
-  pub steps : (s .kind ≡ 1 → ⊥) → Distinct (Lifting n claim book g k s) c′ m m′
+      (f f′ d : Fact) → Along (l .step .rule) (l .first) (l .g) (l .k) f f′ → shows (stepAt c (m - 1)) f ≡ true → shows (l .step) f′ ≡ true → shows (l .step) d ≡ true
+      → Adds n (citing claim book) d 4094 c m c′ m′
+  pub steps : (l .step .kind ≡ 1 → ⊥) → Distinct (Lifting n claim book l) c′ m m′
 
 -- a step that needs no premise, or whose record may be cited: justified wherever it stands
 pub record Grounded (n : ℕ) (es : List Cited) (s : Step) : Type 0 where
@@ -101,39 +113,59 @@ pub record Grounded (n : ℕ) (es : List Cited) (s : Step) : Type 0 where
 abbrev pub told : Step → Fact
 told s = factOf (s .kind) (s .a) (s .b)
 
--- what `base` shows is carried along one containment to what s shows, and along another to what t shows
-pub record Carried (n : ℕ) (base s t : Step) (first second : Bool) (g k h l : ℕ) : Type 0 where
+-- what `base` shows is carried along a route
+pub record Carried (base : Step) (r : Route) : Type 0 where
   pub low : Fact
   pub high : Fact
   pub middle : Fact
   pub last : Fact
   pub begins : shows base low ≡ true
-  pub once : Lift (s .rule) first g k low high
-  pub between : (shows s high ≡ true) × (shows s middle ≡ true)
-  pub twice : Lift (t .rule) second h l middle last
-  pub ends : (shows t last ≡ true) × (shows t (told t) ≡ true)
-  pub s-left : s .a < n
-  pub s-right : s .b < n
-  pub t-left : t .a < n
-  pub t-right : t .b < n
+  pub once : Along (r .once .step .rule) (r .once .first) (r .once .g) (r .once .k) low high
+  pub between : (shows (r .once .step) high ≡ true) × (shows (r .once .step) middle ≡ true)
+  pub twice : Along (r .twice .step .rule) (r .twice .first) (r .twice .g) (r .twice .k) middle last
+  pub ends : (shows (r .twice .step) last ≡ true) × (shows (r .twice .step) (told (r .twice .step)) ≡ true)
 
--- base, s and t are of one kind, which is not PART, and a lift that is not idle comes to another fact than the one before
-pub record Unlike (base s t : Step) (g k h l : ℕ) : Type 0 where
+-- the facts of a route are of base's kind, which is not PART, and a lift that is not idle comes to another fact than the one before
+pub record Unlike (base : Step) (r : Route) : Type 0 where
   pub other : base .kind ≡ 1 → ⊥
-  pub s-kind : s .kind ≡ base .kind
-  pub t-kind : t .kind ≡ base .kind
-  pub once : (g ≡ k → ⊥) → alike base s ≡ false
-  pub twice : (h ≡ l → ⊥) → alike s t ≡ false
+  pub s-kind : r .once .step .kind ≡ base .kind
+  pub t-kind : r .twice .step .kind ≡ base .kind
+  pub once : (r .once .g ≡ r .once .k → ⊥) → alike base (r .once .step) ≡ false
+  pub twice : (r .twice .g ≡ r .twice .k → ⊥) → alike (r .once .step) (r .twice .step) ≡ false
 
--- steps m up to m′: base, and two lifts, to what s and to what t shows
-pub record Lifts (n : ℕ) (claim : Record) (book : List ℕ) (base s t : Step) (g k h l : ℕ) (c : List ℕ) (m : ℕ) (c′ : List ℕ) (m′ : ℕ) : Type 0 where
-  pub writes : Writes n (citing claim book) (told t) 8189 c m c′ m′
-  pub steps : Unlike base s t g k h l → Disjoint n claim book g k h l → Distinct (Spanning n claim book (base .kind) g k h l) c′ m m′
+-- no piece lies on both lifts of a route
+abbrev pub Forked : ℕ → Record → List ℕ → Route → Type 0
+Forked n claim book r = Disjoint n claim book (r .once .g) (r .once .k) (r .twice .g) (r .twice .k)
 
--- steps m up to m′ show f, of kind kd, by way of g PART k and h PART l
-pub record Spans (n : ℕ) (claim : Record) (book : List ℕ) (f : Fact) (kd g k h l : ℕ) (c : List ℕ) (m : ℕ) (c′ : List ℕ) (m′ : ℕ) : Type 0 where
-  pub writes : Writes n (citing claim book) f 8189 c m c′ m′
-  pub steps : Disjoint n claim book g k h l → Distinct (Spanning n claim book kd g k h l) c′ m m′
+-- a step of kind kd, or on one of the two
+abbrev pub Routing : ℕ → Record → List ℕ → ℕ → Route → Step → Type 0
+Routing n claim book kd r = Spanning n claim book kd (r .once .g) (r .once .k) (r .twice .g) (r .twice .k)
+
+-- steps m up to m′: base, and two lifts, to what is at the end of the route
+pub record Lifts (n : ℕ) (claim : Record) (book : List ℕ) (base : Step) (r : Route) (c : List ℕ) (m : ℕ) (c′ : List ℕ) (m′ : ℕ) : Type 0 where
+  pub writes : Writes n (citing claim book) (told (r .twice .step)) 8189 c m c′ m′
+  pub steps : Unlike base r → Forked n claim book r → Distinct (Routing n claim book (base .kind) r) c′ m m′
+
+-- APART, MEETS and NOTPART have routes
+pub data Carriable : ℕ → Type 0 where
+  apart : Carriable 2
+  meets : Carriable 3
+  notpart : Carriable 4
+
+-- the route from the fact of kind kd about x and y to the one about a and b leads along containments
+pub record Routed (n : ℕ) (claim : Record) (book : List ℕ) (kd a b x y : ℕ) : Type 0 where
+  pub carriable : Carriable kd
+  pub from-left : x < n
+  pub from-right : y < n
+  pub to-left : a < n
+  pub to-right : b < n
+  pub once : Inside n claim book (routeTo kd a b x y .once .g) (routeTo kd a b x y .once .k)
+  pub twice : Inside n claim book (routeTo kd a b x y .twice .g) (routeTo kd a b x y .twice .k)
+
+-- steps m up to m′ show the fact of kind kd about a and b, along that route
+pub record Spans (n : ℕ) (claim : Record) (book : List ℕ) (kd a b x y : ℕ) (c : List ℕ) (m : ℕ) (c′ : List ℕ) (m′ : ℕ) : Type 0 where
+  pub writes : Writes n (citing claim book) (factOf kd a b) 8189 c m c′ m′
+  pub steps : Forked n claim book (routeTo kd a b x y) → Distinct (Routing n claim book kd (routeTo kd a b x y)) c′ m m′
 
 -- steps m up to m′ show a NOTPART b, from u APART v and x MEETS y, by way of b PART u and of pieces in which x and y lie, in a and in v
 pub record Outlies (n : ℕ) (claim : Record) (book : List ℕ) (a b u v x y : ℕ) (c : List ℕ) (m : ℕ) (c′ : List ℕ) (m′ : ℕ) : Type 0 where

@@ -11,10 +11,11 @@ ghost use Rattle.derivations.specs.declared.search.Aim.the-variants.{Out
 ghost use Rattle.derivations.specs.Found.{Ground, Voided, Chained};
 use crate::search::Aim;
 use crate::showing;
+use crate::showing::Fact;
 use chain_format::Step;
 use records::Record;
 
-// a PART b: by a mark of a, or along stored PARTs.
+// The PART of f's pieces a and b: by a mark of a, or along stored PARTs.
 fn chain_part(
     n: usize,
     claim: Record,
@@ -23,13 +24,14 @@ fn chain_part(
     e: &[u64],
     d: &[u64],
     t: &[u64],
-    a: usize,
-    b: usize,
+    f: Fact,
     c: &mut [u8],
 ) -> usize
-    requires { ⌜ Ground n claim (now book) (now voids) (now e) (now d) (now t) × (a < n) × (b < n) × (164000 ≤ length (now c)) ⌝ }
-    ensures { λ r. ⌜ Chained n claim (now (book .entry)) (fact.PART a b) (now (c .entry)) (now (c .exit)) r ⌝ }
+    requires { ⌜ Ground n claim (now book) (now voids) (now e) (now d) (now t) × (f .a < n) × (f .b < n) × (164000 ≤ length (now c)) ⌝ }
+    ensures { λ r. ⌜ Chained n claim (now (book .entry)) (fact.PART (f .a) (f .b)) (now (c .entry)) (now (c .exit)) r ⌝ }
 {
+    let a = f.a;
+    let b = f.b;
     if matrices::has(voids, a) {
         let i = crate::search::find_mark(book, a);
         crate::writing::put_step(
@@ -82,13 +84,14 @@ fn chain_apart(
     e: &[u64],
     d: &[u64],
     t: &[u64],
-    a: usize,
-    b: usize,
+    f: Fact,
     c: &mut [u8],
 ) -> usize
-    requires { ⌜ Ground n claim (now book) (now voids) (now e) (now d) (now t) × (a < n) × (b < n) × (164000 ≤ length (now c)) ⌝ }
-    ensures { λ r. ⌜ Chained n claim (now (book .entry)) (fact.APART a b) (now (c .entry)) (now (c .exit)) r ⌝ }
+    requires { ⌜ Ground n claim (now book) (now voids) (now e) (now d) (now t) × (f .a < n) × (f .b < n) × (164000 ≤ length (now c)) ⌝ }
+    ensures { λ r. ⌜ Chained n claim (now (book .entry)) (fact.APART (f .a) (f .b)) (now (c .entry)) (now (c .exit)) r ⌝ }
 {
+    let a = f.a;
+    let b = f.b;
     if matrices::has(voids, a) {
         return void_step(book, a, a, b, c);
     }
@@ -99,9 +102,13 @@ fn chain_apart(
     if book.len() / records::RECORD_BYTES <= i {
         return 0;
     }
-    let w = crate::search::cite_record(Aim::Apart, n, claim, book, voids, e, d, t, a, b, i);
-    let step = w.step;
-    showing::show_apart(book, n, claim, e, step, w.x, w.y, a, b, c, 0)
+    let w = crate::search::cite_record(Aim::Apart, n, claim, book, d, t, a, b, i);
+    let apart = Fact {
+        kind: records::APART,
+        a,
+        b,
+    };
+    showing::show_fact(book, n, claim, e, w, apart, c, 0)
 }
 
 // a MEETS b: by a common part, or by a stored MEETS.
@@ -113,19 +120,18 @@ fn chain_meets(
     e: &[u64],
     d: &[u64],
     t: &[u64],
-    a: usize,
-    b: usize,
+    f: Fact,
     c: &mut [u8],
 ) -> usize
-    requires { ⌜ Ground n claim (now book) (now voids) (now e) (now d) (now t) × (a < n) × (b < n) × (164000 ≤ length (now c)) ⌝ }
-    ensures { λ r. ⌜ Chained n claim (now (book .entry)) (fact.MEETS a b) (now (c .entry)) (now (c .exit)) r ⌝ }
+    requires { ⌜ Ground n claim (now book) (now voids) (now e) (now d) (now t) × (f .a < n) × (f .b < n) × (164000 ≤ length (now c)) ⌝ }
+    ensures { λ r. ⌜ Chained n claim (now (book .entry)) (fact.MEETS (f .a) (f .b)) (now (c .entry)) (now (c .exit)) r ⌝ }
 {
-    let w = crate::search::find_meeting(n, claim, book, voids, e, d, t, a, b);
-    if !w.found {
+    let met = crate::search::find_meeting(n, claim, book, voids, e, d, t, f.a, f.b);
+    if !met.found {
         return 0;
     }
-    let step = w.step;
-    showing::show_meeting(book, n, claim, e, d, step, w.x, w.y, a, b, c, 0)
+    let w = met.witness;
+    showing::show_meeting(book, n, claim, e, d, w, f, c, 0)
 }
 
 // a NOTPART b of a piece that is not marked and one that is: a MEETS a, b APART a, and rule (d').
@@ -137,13 +143,14 @@ fn chain_outside_void(
     e: &[u64],
     d: &[u64],
     t: &[u64],
-    a: usize,
-    b: usize,
+    f: Fact,
     c: &mut [u8],
 ) -> usize
-    requires { ⌜ Ground n claim (now book) (now voids) (now e) (now d) (now t) × (a < n) × (b < n) × (marked (now book) a ≡ false) × (marked (now book) b ≡ true) × (164000 ≤ length (now c)) ⌝ }
-    ensures { λ r. ⌜ Chained n claim (now (book .entry)) (fact.NOTPART a b) (now (c .entry)) (now (c .exit)) r ⌝ }
+    requires { ⌜ Ground n claim (now book) (now voids) (now e) (now d) (now t) × (f .a < n) × (f .b < n) × (marked (now book) (f .a) ≡ false) × (marked (now book) (f .b) ≡ true) × (164000 ≤ length (now c)) ⌝ }
+    ensures { λ r. ⌜ Chained n claim (now (book .entry)) (fact.NOTPART (f .a) (f .b)) (now (c .entry)) (now (c .exit)) r ⌝ }
 {
+    let a = f.a;
+    let b = f.b;
     let i = crate::search::find_mark(book, b);
     crate::writing::put_step(
         c,
@@ -193,39 +200,20 @@ fn chain_outside(
     e: &[u64],
     d: &[u64],
     t: &[u64],
-    a: usize,
-    b: usize,
+    f: Fact,
     i: usize,
     c: &mut [u8],
 ) -> usize
-    requires { ⌜ Ground n claim (now book) (now voids) (now e) (now d) (now t) × (a < n) × (b < n) × (i < records (now book)) × (serving Outside claim (now d) (now t) a b (recordAt (now book) i) ≡ true) × (164000 ≤ length (now c)) ⌝ }
-    ensures { λ r. ⌜ Chained n claim (now (book .entry)) (fact.NOTPART a b) (now (c .entry)) (now (c .exit)) r ⌝ }
+    requires { ⌜ Ground n claim (now book) (now voids) (now e) (now d) (now t) × (f .a < n) × (f .b < n) × (i < records (now book)) × (serving Outside claim (now d) (now t) (f .a) (f .b) (recordAt (now book) i) ≡ true) × (164000 ≤ length (now c)) ⌝ }
+    ensures { λ r. ⌜ Chained n claim (now (book .entry)) (fact.NOTPART (f .a) (f .b)) (now (c .entry)) (now (c .exit)) r ⌝ }
 {
-    let u = crate::search::cite_record(Aim::Outside, n, claim, book, voids, e, d, t, a, b, i);
-    let y = u.y;
-    let w = crate::search::find_meeting(n, claim, book, voids, e, d, t, a, y);
-    if !w.found {
+    let u = crate::search::cite_record(Aim::Outside, n, claim, book, d, t, f.a, f.b, i);
+    let met = crate::search::find_meeting(n, claim, book, voids, e, d, t, f.a, u.y);
+    if !met.found {
         return 0;
     }
-    let apart = u.step;
-    let meets = w.step;
-    showing::show_outside(
-        book,
-        n,
-        claim,
-        e,
-        d,
-        apart,
-        u.x,
-        u.y,
-        meets,
-        w.x,
-        w.y,
-        a,
-        b,
-        c,
-        0,
-    )
+    let w = met.witness;
+    showing::show_outside(book, n, claim, e, d, u, w, f, c)
 }
 
 // a NOTPART b: by a mark of b, by a stored NOTPART, or by a stored APART.
@@ -237,31 +225,36 @@ fn chain_notpart(
     e: &[u64],
     d: &[u64],
     t: &[u64],
-    a: usize,
-    b: usize,
+    f: Fact,
     c: &mut [u8],
 ) -> usize
-    requires { ⌜ Ground n claim (now book) (now voids) (now e) (now d) (now t) × (a < n) × (b < n) × (164000 ≤ length (now c)) ⌝ }
-    ensures { λ r. ⌜ Chained n claim (now (book .entry)) (fact.NOTPART a b) (now (c .entry)) (now (c .exit)) r ⌝ }
+    requires { ⌜ Ground n claim (now book) (now voids) (now e) (now d) (now t) × (f .a < n) × (f .b < n) × (164000 ≤ length (now c)) ⌝ }
+    ensures { λ r. ⌜ Chained n claim (now (book .entry)) (fact.NOTPART (f .a) (f .b)) (now (c .entry)) (now (c .exit)) r ⌝ }
 {
+    let a = f.a;
+    let b = f.b;
     if verdicts::marks_tell(4, a, b, voids) {
-        return chain_outside_void(n, claim, book, voids, e, d, t, a, b, c);
+        return chain_outside_void(n, claim, book, voids, e, d, t, f, c);
     }
     let m = book.len() / records::RECORD_BYTES;
     let i = crate::search::find_record(Aim::NotPart, claim, book, d, t, a, b);
     if i < m {
-        let w = crate::search::cite_record(Aim::NotPart, n, claim, book, voids, e, d, t, a, b, i);
-        let step = w.step;
-        return showing::show_notpart(book, n, claim, e, step, w.x, w.y, a, b, c, 0);
+        let w = crate::search::cite_record(Aim::NotPart, n, claim, book, d, t, a, b, i);
+        let outside = Fact {
+            kind: records::NOTPART,
+            a,
+            b,
+        };
+        return showing::show_fact(book, n, claim, e, w, outside, c, 0);
     }
     let j = crate::search::find_record(Aim::Outside, claim, book, d, t, a, b);
     if m <= j {
         return 0;
     }
-    chain_outside(n, claim, book, voids, e, d, t, a, b, j, c)
+    chain_outside(n, claim, book, voids, e, d, t, f, j, c)
 }
 
-// The fact of a kind 1 to 4 about a and b.
+// The fact f, of a kind 1 to 4.
 pub fn chain_for(
     n: usize,
     claim: Record,
@@ -270,22 +263,20 @@ pub fn chain_for(
     e: &[u64],
     d: &[u64],
     t: &[u64],
-    kind: u8,
-    a: usize,
-    b: usize,
+    f: Fact,
     c: &mut [u8],
 ) -> usize
-    requires { ⌜ Ground n claim (now book) (now voids) (now e) (now d) (now t) × (a < n) × (b < n) × (164000 ≤ length (now c)) ⌝ }
-    ensures { λ r. ⌜ Chained n claim (now (book .entry)) (fact.factOf kind a b) (now (c .entry)) (now (c .exit)) r ⌝ }
+    requires { ⌜ Ground n claim (now book) (now voids) (now e) (now d) (now t) × (f .a < n) × (f .b < n) × (164000 ≤ length (now c)) ⌝ }
+    ensures { λ r. ⌜ Chained n claim (now (book .entry)) (fact.factOf (f .kind) (f .a) (f .b)) (now (c .entry)) (now (c .exit)) r ⌝ }
 {
-    if kind == records::PART {
-        return chain_part(n, claim, book, voids, e, d, t, a, b, c);
+    if f.kind == records::PART {
+        return chain_part(n, claim, book, voids, e, d, t, f, c);
     }
-    if kind == records::APART {
-        return chain_apart(n, claim, book, voids, e, d, t, a, b, c);
+    if f.kind == records::APART {
+        return chain_apart(n, claim, book, voids, e, d, t, f, c);
     }
-    if kind == records::MEETS {
-        return chain_meets(n, claim, book, voids, e, d, t, a, b, c);
+    if f.kind == records::MEETS {
+        return chain_meets(n, claim, book, voids, e, d, t, f, c);
     }
-    chain_notpart(n, claim, book, voids, e, d, t, a, b, c)
+    chain_notpart(n, claim, book, voids, e, d, t, f, c)
 }

@@ -11,7 +11,7 @@ ghost use Rattle.records.specs.Marked.{marks};
 ghost use Rattle.closure.specs.Void.{voidOf};
 ghost use Rattle.chain_format.specs.Citing.{citing};
 ghost use Rattle.derivations.specs.Aim.{kindFor, joining, serving};
-ghost use Rattle.derivations.specs.Found.{Found, Singly, Ground, Witnessed, Met};
+ghost use Rattle.derivations.specs.Found.{Found, Singly, Ground, Citable, Witnessed, Met};
 use chain_format::Step;
 use records::Record;
 
@@ -23,7 +23,7 @@ pub enum Aim {
     Outside,
 }
 
-// A step that cites a record, and the record's pieces in the order that the fact asks for.
+// A step that needs no earlier one, and the pieces of which it shows its kind, in the order that the fact asks for.
 pub struct Witness {
     pub step: Step,
     pub x: usize,
@@ -33,9 +33,7 @@ pub struct Witness {
 // Whether two pieces meet, and if so a step that shows it of a part of each.
 pub struct Meeting {
     pub found: bool,
-    pub step: Step,
-    pub x: usize,
-    pub y: usize,
+    pub witness: Witness,
 }
 
 // A step that needs no earlier one, if there is one.
@@ -135,15 +133,13 @@ pub fn cite_record(
     n: usize,
     claim: Record,
     book: &[u8],
-    voids: &[u64],
-    e: &[u64],
     d: &[u64],
     t: &[u64],
     a: usize,
     b: usize,
     i: usize,
 ) -> Witness
-    requires { ⌜ Ground n claim (now book) (now voids) (now e) (now d) (now t) × (a < n) × (b < n) × (i < records (now book)) × (serving aim claim (now d) (now t) a b (recordAt (now book) i) ≡ true) ⌝ }
+    requires { ⌜ Citable n (now book) (now d) (now t) × (a < n) × (b < n) × (i < records (now book)) × (serving aim claim (now d) (now t) a b (recordAt (now book) i) ≡ true) ⌝ }
     ensures { λ r. ⌜ Witnessed n (citing claim (now (book .entry))) aim (now (d .entry)) (now (t .entry)) a b r ⌝ }
 {
     let r = records::record_at(book, i);
@@ -245,7 +241,7 @@ fn find_common(n: usize, voids: &[u64], d: &[u64], a: usize, b: usize) -> usize
 
 // A common piece meets itself, which cites nothing.
 fn meeting_in(g: usize) -> Meeting
-    ensures { λ r. ⌜ r ≡ (record { found = true; step = record { rule = 9; kind = 3; a = g; b = g; first = 0; second = 0 }; x = g; y = g }) ⌝ }
+    ensures { λ r. ⌜ r ≡ (record { found = true; witness = record { step = record { rule = 9; kind = 3; a = g; b = g; first = 0; second = 0 }; x = g; y = g } }) ⌝ }
 {
     let itself = Step {
         rule: chain_format::RULE_E_PRIME,
@@ -255,11 +251,14 @@ fn meeting_in(g: usize) -> Meeting
         first: 0,
         second: 0,
     };
-    Meeting {
-        found: true,
+    let witness = Witness {
         step: itself,
         x: g,
         y: g,
+    };
+    Meeting {
+        found: true,
+        witness,
     }
 }
 
@@ -275,11 +274,14 @@ fn no_meeting() -> Meeting
         first: 0,
         second: 0,
     };
-    Meeting {
-        found: false,
+    let witness = Witness {
         step: nothing,
         x: 0,
         y: 0,
+    };
+    Meeting {
+        found: false,
+        witness,
     }
 }
 
@@ -306,14 +308,9 @@ pub fn find_meeting(
     if book.len() / records::RECORD_BYTES <= i {
         return no_meeting();
     }
-    let w = cite_record(Aim::Meets, n, claim, book, voids, e, d, t, a, b, i);
-    let step = w.step;
-    let x = w.x;
-    let y = w.y;
+    let witness = cite_record(Aim::Meets, n, claim, book, d, t, a, b, i);
     Meeting {
         found: true,
-        step,
-        x,
-        y,
+        witness,
     }
 }

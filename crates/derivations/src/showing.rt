@@ -3,16 +3,38 @@ ghost use mathlib.Core.Path.{_≡_};
 ghost use mathlib.Core.Bool.{true};
 ghost use Prim.Native.Nat.{ℕ, _+_, _<_, _≤_};
 ghost use lib.ListN.{length};
-ghost use Rattle.rules.specs.Fact as fact;
 ghost use Rattle.chain_format.specs.Citing.{citing};
-ghost use Rattle.chain_format.specs.Step.{shows};
+ghost use Rattle.chain_format.specs.Step.{showing};
 ghost use Rattle.matrices.specs.Matrix.{bitOf, IsMatrix};
 ghost use Rattle.derivations.specs.Hops.{Reaches};
 ghost use Rattle.derivations.specs.Distinct.{Upward};
-ghost use Rattle.derivations.specs.Lifts.{Setting, Telling, Unmarked, Inside, Reached, Lifted, Grounded, Carried, Lifts, Spans, Outlies};
+ghost use Rattle.derivations.specs.Lifts.{Setting, Telling, Unmarked, Inside, Reached, Leads, Lifted, Grounded, Carried, Lifts, Routed, Spans, Outlies};
+ghost use Rattle.derivations.specs.Routes.{liftTo, routeTo};
 ghost use Rattle.derivations.specs.Commons.{Last, Risen, Joined};
+use crate::search::Witness;
 use chain_format::Step;
 use records::Record;
+
+// A fact: its kind and its two pieces.
+pub struct Fact {
+    pub kind: u8,
+    pub a: usize,
+    pub b: usize,
+}
+
+// A fact carried along g PART k to what the step shows, by the step's rule, the PART as its first premise or its second.
+pub struct Lift {
+    pub g: usize,
+    pub k: usize,
+    pub step: Step,
+    pub first: bool,
+}
+
+// From one fact to another of its kind.
+pub struct Route {
+    pub once: Lift,
+    pub twice: Lift,
+}
 
 // g PART k, which follows from the book whose steps of containment are in e.
 pub fn show_part(
@@ -36,28 +58,25 @@ pub fn show_part(
     crate::writing::write_part(g, k, &hop, &source, c, at)
 }
 
-// What step `at - 1` shows, carried along g PART k to what s shows, by the rule of s; its premises are filled in, the PART as the first or the second. Where g is
-// k, that step shows it already, and nothing is written.
-pub fn lift(
+// What step `at - 1` shows, lifted; the premises of the lift's step are filled in. Where g is k, that step shows it already, and nothing is written.
+pub fn show_lift(
     book: &[u8],
     n: usize,
     claim: Record,
     e: &[u64],
-    g: usize,
-    k: usize,
-    s: Step,
-    first: bool,
+    l: Lift,
     c: &mut [u8],
     at: usize,
 ) -> usize
-    requires { ⌜ Setting n claim (now book) (now e) × (g < n) × (k < n) × Inside n claim (now book) g k × (164000 ≤ length (now c)) × (at + 4095 ≤ 16400) × (s .a < n) × (s .b < n) × (1 ≤ at) ⌝ }
-    ensures { λ r. ⌜ Lifted n claim (now (book .entry)) s first g k (now (c .entry)) at (now (c .exit)) r ⌝ }
+    requires { ⌜ Setting n claim (now book) (now e) × Leads n claim (now book) l × (164000 ≤ length (now c)) × (at + 4095 ≤ 16400) × (1 ≤ at) ⌝ }
+    ensures { λ r. ⌜ Lifted n claim (now (book .entry)) l (now (c .entry)) at (now (c .exit)) r ⌝ }
 {
-    if g == k {
+    if l.g == l.k {
         return at;
     }
-    let m = show_part(book, n, claim, e, g, k, c, at);
-    if first {
+    let m = show_part(book, n, claim, e, l.g, l.k, c, at);
+    let s = l.step;
+    if l.first {
         crate::writing::put_step(
             c,
             m,
@@ -87,105 +106,87 @@ pub fn lift(
     m + 1
 }
 
-// What the step `base` shows, carried along g PART k to what s shows, and along h PART l to what t shows, unless it shows that already.
-pub fn carry(
+// What the step `base` shows, carried along a route, unless it shows what is at the end already.
+fn carry(
     book: &[u8],
     n: usize,
     claim: Record,
     e: &[u64],
     base: Step,
-    g: usize,
-    k: usize,
-    s: Step,
-    first: bool,
-    h: usize,
-    l: usize,
-    t: Step,
-    second: bool,
+    route: Route,
     c: &mut [u8],
     at: usize,
 ) -> usize
-    requires { ⌜ Setting n claim (now book) (now e) × Grounded n (citing claim (now book)) base × Carried n base s t first second g k h l × (g < n) × (k < n) × Inside n claim (now book) g k × (h < n) × (l < n) × Inside n claim (now book) h l × (164000 ≤ length (now c)) × (at + 8190 ≤ 16400) ⌝ }
-    ensures { λ r. ⌜ Lifts n claim (now (book .entry)) base s t g k h l (now (c .entry)) at (now (c .exit)) r ⌝ }
+    requires { ⌜ Setting n claim (now book) (now e) × Grounded n (citing claim (now book)) base × Carried base route × Leads n claim (now book) (route .once) × Leads n claim (now book) (route .twice) × (164000 ≤ length (now c)) × (at + 8190 ≤ 16400) ⌝ }
+    ensures { λ r. ⌜ Lifts n claim (now (book .entry)) base route (now (c .entry)) at (now (c .exit)) r ⌝ }
 {
+    let once = route.once;
+    let twice = route.twice;
     crate::writing::put_step(c, at, base);
+    let t = twice.step;
     if chain_format::shows(base, t.kind, t.a, t.b) {
         return at + 1;
     }
-    let m = lift(book, n, claim, e, g, k, s, first, c, at + 1);
-    lift(book, n, claim, e, h, l, t, second, c, m)
+    let m = show_lift(book, n, claim, e, once, c, at + 1);
+    show_lift(book, n, claim, e, twice, c, m)
 }
 
-// a APART b, from x APART y, which `base` shows, by a PART x and b PART y.
-pub fn show_apart(
+// To f along g PART k.
+fn lift_to(g: usize, k: usize, rule: u8, first: bool, f: Fact) -> Lift
+    ensures { λ r. ⌜ r ≡ liftTo g k rule first (f .kind) (f .a) (f .b) ⌝ }
+{
+    let step = Step {
+        rule,
+        kind: f.kind,
+        a: f.a,
+        b: f.b,
+        first: 0,
+        second: 0,
+    };
+    Lift { g, k, step, first }
+}
+
+// The rules by which a fact about x and y leads to f, of its kind.
+fn route_to(f: Fact, x: usize, y: usize) -> Route
+    ensures { λ r. ⌜ r ≡ routeTo (f .kind) (f .a) (f .b) x y ⌝ }
+{
+    let half = Fact {
+        kind: f.kind,
+        a: f.a,
+        b: y,
+    };
+    if f.kind == records::APART {
+        let once = lift_to(f.a, x, chain_format::RULE_B, true, half);
+        let twice = lift_to(f.b, y, chain_format::RULE_B, true, f);
+        return Route { once, twice };
+    }
+    if f.kind == records::MEETS {
+        let once = lift_to(x, f.a, chain_format::RULE_C_PRIME, true, half);
+        let twice = lift_to(y, f.b, chain_format::RULE_C_PRIME, true, f);
+        return Route { once, twice };
+    }
+    let once = lift_to(x, f.a, chain_format::RULE_A_PRIME, true, half);
+    let twice = lift_to(f.b, y, chain_format::RULE_B_PRIME, false, f);
+    Route { once, twice }
+}
+
+// The fact f, from the fact of its kind that w shows.
+pub fn show_fact(
     book: &[u8],
     n: usize,
     claim: Record,
     e: &[u64],
-    base: Step,
-    x: usize,
-    y: usize,
-    a: usize,
-    b: usize,
+    w: Witness,
+    f: Fact,
     c: &mut [u8],
     at: usize,
 ) -> usize
-    requires { ⌜ Setting n claim (now book) (now e) × Grounded n (citing claim (now book)) base × (shows base (fact.APART x y) ≡ true) × (x < n) × (y < n) × (a < n) × (b < n) × Inside n claim (now book) a x × Inside n claim (now book) b y × (164000 ≤ length (now c)) × (at + 8190 ≤ 16400) ⌝ }
-    ensures { λ r. ⌜ Spans n claim (now (book .entry)) (fact.APART a b) 2 a x b y (now (c .entry)) at (now (c .exit)) r ⌝ }
+    requires { ⌜ Setting n claim (now book) (now e) × Grounded n (citing claim (now book)) (w .step) × (showing (w .step) (f .kind) (w .x) (w .y) ≡ true) × Routed n claim (now book) (f .kind) (f .a) (f .b) (w .x) (w .y) × (164000 ≤ length (now c)) × (at + 8190 ≤ 16400) ⌝ }
+    ensures { λ r. ⌜ Spans n claim (now (book .entry)) (f .kind) (f .a) (f .b) (w .x) (w .y) (now (c .entry)) at (now (c .exit)) r ⌝ }
 {
-    let s = Step {
-        rule: chain_format::RULE_B,
-        kind: records::APART,
-        a,
-        b: y,
-        first: 0,
-        second: 0,
-    };
-    let t = Step {
-        rule: chain_format::RULE_B,
-        kind: records::APART,
-        a,
-        b,
-        first: 0,
-        second: 0,
-    };
-    carry(book, n, claim, e, base, a, x, s, true, b, y, t, true, c, at)
-}
-
-// a MEETS b, from x MEETS y, which `base` shows, by x PART a and y PART b, of two pieces.
-fn show_meets(
-    book: &[u8],
-    n: usize,
-    claim: Record,
-    e: &[u64],
-    base: Step,
-    x: usize,
-    y: usize,
-    a: usize,
-    b: usize,
-    c: &mut [u8],
-    at: usize,
-) -> usize
-    requires { ⌜ Setting n claim (now book) (now e) × Grounded n (citing claim (now book)) base × (shows base (fact.MEETS x y) ≡ true) × (x < n) × (y < n) × (a < n) × (b < n) × Inside n claim (now book) x a × Inside n claim (now book) y b × (164000 ≤ length (now c)) × (at + 8190 ≤ 16400) ⌝ }
-    ensures { λ r. ⌜ Spans n claim (now (book .entry)) (fact.MEETS a b) 3 x a y b (now (c .entry)) at (now (c .exit)) r ⌝ }
-{
-    let s = Step {
-        rule: chain_format::RULE_C_PRIME,
-        kind: records::MEETS,
-        a,
-        b: y,
-        first: 0,
-        second: 0,
-    };
-    let t = Step {
-        rule: chain_format::RULE_C_PRIME,
-        kind: records::MEETS,
-        a,
-        b,
-        first: 0,
-        second: 0,
-    };
-    carry(book, n, claim, e, base, x, a, s, true, y, b, t, true, c, at)
+    let base = w.step;
+    let route = route_to(f, w.x, w.y);
+    carry(book, n, claim, e, base, route, c, at)
 }
 
 // From g MEETS g, which step `at - 1` shows, to k MEETS g along the hops; nothing where g is k.
@@ -234,8 +235,8 @@ fn last_inside(hop: &[u16], d: &[u64], x: usize, a: usize, b: usize) -> usize
     last
 }
 
-// a MEETS b, of a piece x in both that is not marked: the last piece in b on the way from x to a meets itself. No piece further up on that way is on the way to b, so
-// that no hop is shown twice.
+// The MEETS of f's pieces, by a piece x in both that is not marked: the last piece in f.b on the way from x to f.a meets itself. No piece further up on that way is
+// on the way to f.b, so that no hop is shown twice.
 fn show_common(
     book: &[u8],
     n: usize,
@@ -243,20 +244,19 @@ fn show_common(
     e: &[u64],
     d: &[u64],
     x: usize,
-    a: usize,
-    b: usize,
+    f: Fact,
     c: &mut [u8],
     at: usize,
 ) -> usize
-    requires { ⌜ Setting n claim (now book) (now e) × Telling n claim (now book) (now d) × Unmarked n claim (now book) x × (x < n) × (a < n) × (b < n) × Inside n claim (now book) x a × Inside n claim (now book) x b × (164000 ≤ length (now c)) × (at + 8190 ≤ 16400) ⌝ }
-    ensures { λ r. ⌜ Joined n claim (now (book .entry)) x x a b (now (c .entry)) at (now (c .exit)) r ⌝ }
+    requires { ⌜ Setting n claim (now book) (now e) × Telling n claim (now book) (now d) × Unmarked n claim (now book) x × (x < n) × (f .a < n) × (f .b < n) × Inside n claim (now book) x (f .a) × Inside n claim (now book) x (f .b) × (164000 ≤ length (now c)) × (at + 8190 ≤ 16400) ⌝ }
+    ensures { λ r. ⌜ Joined n claim (now (book .entry)) x x (f .a) (f .b) (now (c .entry)) at (now (c .exit)) r ⌝ }
 {
     let mut hop = [0u16; matrices::ROWS];
     let mut order = [0u16; matrices::ROWS];
     let mut source = [0u16; matrices::ROWS];
-    crate::hops::find_hops(a, n, e, &mut hop, &mut order);
+    crate::hops::find_hops(f.a, n, e, &mut hop, &mut order);
     crate::hops::find_sources(claim, book, &hop, &mut source);
-    let g = last_inside(&hop, d, x, a, b);
+    let g = last_inside(&hop, d, x, f.a, f.b);
     crate::writing::put_step(
         c,
         at,
@@ -269,134 +269,96 @@ fn show_common(
             second: 0,
         },
     );
-    let m = rise(n, &hop, &source, g, a, c, at + 1);
-    let t = Step {
+    let m = rise(n, &hop, &source, g, f.a, c, at + 1);
+    let step = Step {
         rule: chain_format::RULE_C_PRIME,
         kind: records::MEETS,
-        a,
-        b,
+        a: f.a,
+        b: f.b,
         first: 0,
         second: 0,
     };
-    lift(book, n, claim, e, g, b, t, true, c, m)
+    let last = Lift {
+        g,
+        k: f.b,
+        step,
+        first: true,
+    };
+    show_lift(book, n, claim, e, last, c, m)
 }
 
-// a MEETS b, from x MEETS y, which `base` shows, by x PART a and y PART b.
+// The MEETS of f's pieces, from the MEETS that w shows of a part of each.
 pub fn show_meeting(
     book: &[u8],
     n: usize,
     claim: Record,
     e: &[u64],
     d: &[u64],
-    base: Step,
-    x: usize,
-    y: usize,
-    a: usize,
-    b: usize,
+    w: Witness,
+    f: Fact,
     c: &mut [u8],
     at: usize,
 ) -> usize
-    requires { ⌜ Setting n claim (now book) (now e) × Telling n claim (now book) (now d) × Grounded n (citing claim (now book)) base × (shows base (fact.MEETS x y) ≡ true) × (x ≡ y → Unmarked n claim (now book) x) × (x < n) × (y < n) × (a < n) × (b < n) × Inside n claim (now book) x a × Inside n claim (now book) y b × (164000 ≤ length (now c)) × (at + 8190 ≤ 16400) ⌝ }
-    ensures { λ r. ⌜ Joined n claim (now (book .entry)) x y a b (now (c .entry)) at (now (c .exit)) r ⌝ }
+    requires { ⌜ Setting n claim (now book) (now e) × Telling n claim (now book) (now d) × Grounded n (citing claim (now book)) (w .step) × (showing (w .step) 3 (w .x) (w .y) ≡ true) × (w .x ≡ w .y → Unmarked n claim (now book) (w .x)) × (w .x < n) × (w .y < n) × (f .a < n) × (f .b < n) × Inside n claim (now book) (w .x) (f .a) × Inside n claim (now book) (w .y) (f .b) × (164000 ≤ length (now c)) × (at + 8190 ≤ 16400) ⌝ }
+    ensures { λ r. ⌜ Joined n claim (now (book .entry)) (w .x) (w .y) (f .a) (f .b) (now (c .entry)) at (now (c .exit)) r ⌝ }
 {
-    if x == y {
-        return show_common(book, n, claim, e, d, x, a, b, c, at);
+    if w.x == w.y {
+        return show_common(book, n, claim, e, d, w.x, f, c, at);
     }
-    show_meets(book, n, claim, e, base, x, y, a, b, c, at)
+    let meets = Fact {
+        kind: records::MEETS,
+        a: f.a,
+        b: f.b,
+    };
+    show_fact(book, n, claim, e, w, meets, c, at)
 }
 
-// a NOTPART b, from x NOTPART y, which `base` shows, by x PART a and b PART y.
-pub fn show_notpart(
-    book: &[u8],
-    n: usize,
-    claim: Record,
-    e: &[u64],
-    base: Step,
-    x: usize,
-    y: usize,
-    a: usize,
-    b: usize,
-    c: &mut [u8],
-    at: usize,
-) -> usize
-    requires { ⌜ Setting n claim (now book) (now e) × Grounded n (citing claim (now book)) base × (shows base (fact.NOTPART x y) ≡ true) × (x < n) × (y < n) × (a < n) × (b < n) × Inside n claim (now book) x a × Inside n claim (now book) b y × (164000 ≤ length (now c)) × (at + 8190 ≤ 16400) ⌝ }
-    ensures { λ r. ⌜ Spans n claim (now (book .entry)) (fact.NOTPART a b) 4 x a b y (now (c .entry)) at (now (c .exit)) r ⌝ }
-{
-    let s = Step {
-        rule: chain_format::RULE_A_PRIME,
-        kind: records::NOTPART,
-        a,
-        b: y,
-        first: 0,
-        second: 0,
-    };
-    let t = Step {
-        rule: chain_format::RULE_B_PRIME,
-        kind: records::NOTPART,
-        a,
-        b,
-        first: 0,
-        second: 0,
-    };
-    carry(
-        book,
-        n,
-        claim,
-        e,
-        base,
-        x,
-        a,
-        s,
-        true,
-        b,
-        y,
-        t,
-        false,
-        c,
-        at,
-    )
-}
-
-// a NOTPART b, from u APART v and x MEETS y, which `apart` and `meets` show, by b PART u, x PART a and y PART v.
+// The NOTPART of f's pieces from step 0 on: the APART of which f.b lies in the one piece, and the meeting of f.a with the other.
 pub fn show_outside(
     book: &[u8],
     n: usize,
     claim: Record,
     e: &[u64],
     d: &[u64],
-    apart: Step,
-    u: usize,
-    v: usize,
-    meets: Step,
-    x: usize,
-    y: usize,
-    a: usize,
-    b: usize,
+    apart: Witness,
+    meets: Witness,
+    f: Fact,
     c: &mut [u8],
-    at: usize,
 ) -> usize
-    requires { ⌜ Setting n claim (now book) (now e) × Grounded n (citing claim (now book)) apart × (shows apart (fact.APART u v) ≡ true) × Grounded n (citing claim (now book)) meets × (shows meets (fact.MEETS x y) ≡ true) × Telling n claim (now book) (now d) × (x ≡ y → Unmarked n claim (now book) x) × (u < n) × (v < n) × (x < n) × (y < n) × (a < n) × (b < n) × Inside n claim (now book) b u × Inside n claim (now book) x a × Inside n claim (now book) y v × (164000 ≤ length (now c)) × (at + 12286 ≤ 16400) ⌝ }
-    ensures { λ r. ⌜ Outlies n claim (now (book .entry)) a b u v x y (now (c .entry)) at (now (c .exit)) r ⌝ }
+    requires { ⌜ Setting n claim (now book) (now e) × Grounded n (citing claim (now book)) (apart .step) × (showing (apart .step) 2 (apart .x) (apart .y) ≡ true) × Grounded n (citing claim (now book)) (meets .step) × (showing (meets .step) 3 (meets .x) (meets .y) ≡ true) × Telling n claim (now book) (now d) × (meets .x ≡ meets .y → Unmarked n claim (now book) (meets .x)) × (apart .x < n) × (apart .y < n) × (meets .x < n) × (meets .y < n) × (f .a < n) × (f .b < n) × Inside n claim (now book) (f .b) (apart .x) × Inside n claim (now book) (meets .x) (f .a) × Inside n claim (now book) (meets .y) (apart .y) × (164000 ≤ length (now c)) ⌝ }
+    ensures { λ r. ⌜ Outlies n claim (now (book .entry)) (f .a) (f .b) (apart .x) (apart .y) (meets .x) (meets .y) (now (c .entry)) 0 (now (c .exit)) r ⌝ }
 {
-    crate::writing::put_step(c, at, apart);
-    let s = Step {
+    let base = apart.step;
+    crate::writing::put_step(c, 0, base);
+    let step = Step {
         rule: chain_format::RULE_B,
         kind: records::APART,
-        a: b,
-        b: v,
+        a: f.b,
+        b: apart.y,
         first: 0,
         second: 0,
     };
-    let i = lift(book, n, claim, e, b, u, s, true, c, at + 1);
-    let j = show_meeting(book, n, claim, e, d, meets, x, y, a, v, c, i);
+    let other = Lift {
+        g: f.b,
+        k: apart.x,
+        step,
+        first: true,
+    };
+    let i = show_lift(book, n, claim, e, other, c, 1);
+    let meeting = Fact {
+        kind: records::MEETS,
+        a: f.a,
+        b: apart.y,
+    };
+    let j = show_meeting(book, n, claim, e, d, meets, meeting, c, i);
     crate::writing::put_step(
         c,
         j,
         Step {
             rule: chain_format::RULE_D_PRIME,
             kind: records::NOTPART,
-            a,
-            b,
+            a: f.a,
+            b: f.b,
             first: j - 1,
             second: i - 1,
         },

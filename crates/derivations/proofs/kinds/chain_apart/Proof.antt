@@ -1,8 +1,8 @@
 -- `derivations::kinds::chain_apart` meets its contract. Assumes nothing.
 use mathlib.Core.Path.{refl, sym, _∙_}
 use mathlib.Core.Logic.{inl, inr}
-use Rattle.derivations.proofs.Grounds.{small, setting, all-within, void-read, apart-none}
-use Rattle.derivations.proofs.Chaining.{chained-none, apart-marked, apart-parts, apart-chained}
+use Rattle.derivations.proofs.Grounds.{small, citable, setting, all-within, void-read, apart-none}
+use Rattle.derivations.proofs.Chaining.{chained-none, apart-marked, apart-routed, apart-chained}
 use native.Mathlib.Omega.{arith}
 use borrow.Author.Needs.{needs}
 use Rattle.derivations.proofs.kinds.chain_apart.Statement.{statement}
@@ -39,16 +39,16 @@ returns-3 : tie.Need-returns-3
 returns-3 c = chained-none (c .before .before .before .before .before .before .before .before .before .before .before .before .pre .0) (apart-none (c .before .before .before .before .before .before .before .before .before .before .before .before .pre .0) (c .before .before .before .before .before .before .before .before .before .before .before .before .pre .1) (c .before .before .before .before .before .before .before .before .before .before .before .before .pre .2) (void-read (c .before .before .before .before .before .before .before .before .before .before .before .before .pre .0) _ _ (c .before .before .before .before .before .has .ensures) ∙ c .before .before .before .before .if1 .left) (void-read (c .before .before .before .before .before .before .before .before .before .before .before .before .pre .0) _ _ (c .before .before .before .has2 .ensures) ∙ c .before .before .if2 .left) (c .before .find-record .ensures .none (c .if3 .taken)))
 
 cite-record-requires : tie.Need-cite-record-requires
-cite-record-requires c κs = (c .before .before .before .before .before .before .before .before .before .before .before .before .pre .0, c .before .before .before .before .before .before .before .before .before .before .before .before .pre .1, c .before .before .before .before .before .before .before .before .before .before .before .before .pre .2, c .if3 .left, c .before .find-record .ensures .hit (c .if3 .left))
+cite-record-requires c κs = (citable (c .before .before .before .before .before .before .before .before .before .before .before .before .pre .0), c .before .before .before .before .before .before .before .before .before .before .before .before .pre .1, c .before .before .before .before .before .before .before .before .before .before .before .before .pre .2, c .if3 .left, c .before .find-record .ensures .hit (c .if3 .left))
 
-show-apart-requires : tie.Need-show-apart-requires
-show-apart-requires c κs = let w = c .before .before .cite-record .ensures in let p = apart-parts (c .before .before .before .before .before .before .before .before .before .before .before .before .before .before .before .pre .0) (c .before .before .before .before .before .before .before .before .before .before .before .before .before .before .before .pre .1) (c .before .before .before .before .before .before .before .before .before .before .before .before .before .before .before .pre .2) w in (setting (c .before .before .before .before .before .before .before .before .before .before .before .before .before .before .before .pre .0), w .grounded, w .shown, w .left, w .right, c .before .before .before .before .before .before .before .before .before .before .before .before .before .before .before .pre .1, c .before .before .before .before .before .before .before .before .before .before .before .before .before .before .before .pre .2, p .0, p .1, c .before .before .before .before .before .before .before .before .before .before .before .before .before .before .before .pre .3, omega arith)
+show-fact-requires : tie.Need-show-fact-requires
+show-fact-requires c κs = let w = c .before .cite-record .ensures in (setting (c .before .before .before .before .before .before .before .before .before .before .before .before .before .before .pre .0), w .grounded, w .shown, apart-routed (c .before .before .before .before .before .before .before .before .before .before .before .before .before .before .pre .0) (c .before .before .before .before .before .before .before .before .before .before .before .before .before .before .pre .1) (c .before .before .before .before .before .before .before .before .before .before .before .before .before .before .pre .2) w, c .before .before .before .before .before .before .before .before .before .before .before .before .before .before .pre .3, omega arith)
 
 same-length-3 : tie.Need-same-length-3
 same-length-3 c = search needs
 
 returns-4 : tie.Need-returns-4
-returns-4 c = apart-chained (c .before .before .before .before .before .before .before .before .before .before .before .before .before .before .before .before .before .before .pre .0) (c .before .before .before .before .before .before .before .before .before .before .before .before .before .before .before .before .before .before .pre .1) (c .before .before .before .before .before .before .before .before .before .before .before .before .before .before .before .before .before .before .pre .2) (void-read (c .before .before .before .before .before .before .before .before .before .before .before .before .before .before .before .before .before .before .pre .0) _ _ (c .before .before .before .before .before .before .before .before .before .before .before .has .ensures) ∙ c .before .before .before .before .before .before .before .before .before .before .if1 .left) (c .before .before .before .before .before .cite-record .ensures) (c .before .before .show-apart .ensures)
+returns-4 c = apart-chained (c .before .before .before .before .before .before .before .before .before .before .before .before .before .before .before .before .before .pre .0) (c .before .before .before .before .before .before .before .before .before .before .before .before .before .before .before .before .before .pre .1) (c .before .before .before .before .before .before .before .before .before .before .before .before .before .before .before .before .before .pre .2) (void-read (c .before .before .before .before .before .before .before .before .before .before .before .before .before .before .before .before .before .pre .0) _ _ (c .before .before .before .before .before .before .before .before .before .before .has .ensures) ∙ c .before .before .before .before .before .before .before .before .before .if1 .left) (c .before .before .before .before .cite-record .ensures) (c .before .before .show-fact .ensures)
 
 pub chain-apart-spec : {M : Type 1} → statement M
 chain-apart-spec =
@@ -65,6 +65,6 @@ chain-apart-spec =
     find-record-requires
     returns-3
     cite-record-requires
-    show-apart-requires
+    show-fact-requires
     same-length-3
     returns-4)

@@ -1,7 +1,7 @@
 -- `derivations::kinds::chain_notpart` meets its contract. Assumes nothing.
 use mathlib.Core.Path.{sym, ap, _∙_}
-use Rattle.derivations.proofs.Grounds.{small, setting, all-within, marks-out, marks-silent, notpart-none}
-use Rattle.derivations.proofs.Chaining.{chained-none, notpart-parts, notpart-chained}
+use Rattle.derivations.proofs.Grounds.{small, citable, setting, all-within, marks-out, marks-silent, notpart-none}
+use Rattle.derivations.proofs.Chaining.{chained-none, notpart-routed, notpart-chained}
 use native.Mathlib.Omega.{arith}
 use borrow.Author.Needs.{needs}
 use Rattle.derivations.proofs.kinds.chain_notpart.Statement.{statement}
@@ -23,16 +23,16 @@ find-record-requires : tie.Need-find-record-requires
 find-record-requires c κs = let l = small (c .before .before .before .before .before .before .before .before .pre .0) in (c .before .before .before .before .before .before .before .before .pre .0 .parts .sized, c .before .before .before .before .before .before .before .before .pre .0 .toward .sized, omega (arith, c .before .before .before .before .before .before .before .before .pre .1), omega (arith, c .before .before .before .before .before .before .before .before .pre .2), all-within (c .before .before .before .before .before .before .before .before .pre .0))
 
 cite-record-requires : tie.Need-cite-record-requires
-cite-record-requires c κs = (c .before .before .before .before .before .before .before .before .before .before .pre .0, c .before .before .before .before .before .before .before .before .before .before .pre .1, c .before .before .before .before .before .before .before .before .before .before .pre .2, c .if2 .taken, c .before .find-record .ensures .hit (c .if2 .taken))
+cite-record-requires c κs = (citable (c .before .before .before .before .before .before .before .before .before .before .pre .0), c .before .before .before .before .before .before .before .before .before .before .pre .1, c .before .before .before .before .before .before .before .before .before .before .pre .2, c .if2 .taken, c .before .find-record .ensures .hit (c .if2 .taken))
 
-show-notpart-requires : tie.Need-show-notpart-requires
-show-notpart-requires c κs = let w = c .before .before .cite-record .ensures in let p = notpart-parts (c .before .before .before .before .before .before .before .before .before .before .before .before .before .pre .0) (c .before .before .before .before .before .before .before .before .before .before .before .before .before .pre .1) (c .before .before .before .before .before .before .before .before .before .before .before .before .before .pre .2) w in (setting (c .before .before .before .before .before .before .before .before .before .before .before .before .before .pre .0), w .grounded, w .shown, w .left, w .right, c .before .before .before .before .before .before .before .before .before .before .before .before .before .pre .1, c .before .before .before .before .before .before .before .before .before .before .before .before .before .pre .2, p .0, p .1, c .before .before .before .before .before .before .before .before .before .before .before .before .before .pre .3, omega arith)
+show-fact-requires : tie.Need-show-fact-requires
+show-fact-requires c κs = let w = c .before .cite-record .ensures in (setting (c .before .before .before .before .before .before .before .before .before .before .before .before .pre .0), w .grounded, w .shown, notpart-routed (c .before .before .before .before .before .before .before .before .before .before .before .before .pre .0) (c .before .before .before .before .before .before .before .before .before .before .before .before .pre .1) (c .before .before .before .before .before .before .before .before .before .before .before .before .pre .2) w, c .before .before .before .before .before .before .before .before .before .before .before .before .pre .3, omega arith)
 
 same-length-2 : tie.Need-same-length-2
 same-length-2 c = search needs
 
 returns-2 : tie.Need-returns-2
-returns-2 c = notpart-chained (c .before .before .before .before .before .before .before .before .before .before .before .before .before .before .before .before .pre .0) (c .before .before .before .before .before .before .before .before .before .before .before .before .before .before .before .before .pre .1) (c .before .before .before .before .before .before .before .before .before .before .before .before .before .before .before .before .pre .2) (c .before .before .before .before .before .cite-record .ensures) (c .before .before .show-notpart .ensures)
+returns-2 c = notpart-chained (c .before .before .before .before .before .before .before .before .before .before .before .before .before .before .before .pre .0) (c .before .before .before .before .before .before .before .before .before .before .before .before .before .before .before .pre .1) (c .before .before .before .before .before .before .before .before .before .before .before .before .before .before .before .pre .2) (c .before .before .before .before .cite-record .ensures) (c .before .before .show-fact .ensures)
 
 find-record-requires-2 : tie.Need-find-record-requires-2
 find-record-requires-2 c κs = let l = small (c .before .before .before .before .before .before .before .before .before .before .pre .0) in (c .before .before .before .before .before .before .before .before .before .before .pre .0 .parts .sized, c .before .before .before .before .before .before .before .before .before .before .pre .0 .toward .sized, omega (arith, c .before .before .before .before .before .before .before .before .before .before .pre .1), omega (arith, c .before .before .before .before .before .before .before .before .before .before .pre .2), all-within (c .before .before .before .before .before .before .before .before .before .before .pre .0))
@@ -59,7 +59,7 @@ chain-notpart-spec =
     returns
     find-record-requires
     cite-record-requires
-    show-notpart-requires
+    show-fact-requires
     same-length-2
     returns-2
     find-record-requires-2

@@ -1,6 +1,6 @@
 -- `derivations::search::find_meeting` meets its contract. Assumes nothing.
 use mathlib.Core.Path.{sym, subst}
-use Rattle.derivations.proofs.Grounds.{small, all-within}
+use Rattle.derivations.proofs.Grounds.{small, citable, all-within}
 use Rattle.derivations.proofs.Chaining.{met-common, met-stored, met-none}
 use Rattle.derivations.specs.Found.{Met}
 use native.Mathlib.Omega.{arith}
@@ -27,10 +27,10 @@ returns-2 : tie.Need-returns-2
 returns-2 c = met-none (c .before .before .before .before .before .before .before .before .before .before .pre .0) (c .before .before .before .before .before .before .before .before .before .before .pre .1) (c .before .before .before .before .before .before .before .before .before .before .pre .2) (c .no-meeting .ensures) _ _ (c .before .before .before .before .find-common .ensures) (omega arith) (c .before .before .find-record .ensures) (c .before .if2 .taken)
 
 cite-record-requires : tie.Need-cite-record-requires
-cite-record-requires c κs = (c .before .before .before .before .before .before .before .before .before .pre .0, c .before .before .before .before .before .before .before .before .before .pre .1, c .before .before .before .before .before .before .before .before .before .pre .2, c .if2 .left, c .before .find-record .ensures .hit (c .if2 .left))
+cite-record-requires c κs = (citable (c .before .before .before .before .before .before .before .before .before .pre .0), c .before .before .before .before .before .before .before .before .before .pre .1, c .before .before .before .before .before .before .before .before .before .pre .2, c .if2 .left, c .before .find-record .ensures .hit (c .if2 .left))
 
 returns-3 : tie.Need-returns-3
-returns-3 c = met-stored (c .before .before .before .before .before .before .before .before .before .before .before .pre .0) (c .before .before .before .before .before .before .before .before .before .before .before .pre .1) (c .before .before .before .before .before .before .before .before .before .before .before .pre .2) _ (omega arith) (c .before .before .before .before .before .find-common .ensures) _ (c .before .cite-record .ensures)
+returns-3 c = met-stored (c .before .before .before .before .before .before .before .before .before .before .pre .0) (c .before .before .before .before .before .before .before .before .before .before .pre .1) (c .before .before .before .before .before .before .before .before .before .before .pre .2) _ (omega arith) (c .before .before .before .before .find-common .ensures) _ (c .cite-record .ensures)
 
 pub find-meeting-spec : {M : Type 1} → statement M
 find-meeting-spec =

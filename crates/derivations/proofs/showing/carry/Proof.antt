@@ -7,7 +7,7 @@ use Rattle.derivations.proofs.showing.carry.Statement.{statement}
 use Rattle.derivations.proofs.showing.carry.Tie as tie
 
 put-step-requires : tie.Need-put-step-requires
-put-step-requires c κs = (omega (arith, c .before .before .before .before .pre .9, c .before .before .before .before .pre .10), c .before .before .before .before .pre .1 .left, c .before .before .before .before .pre .1 .right, c .before .before .before .before .pre .1 .first, c .before .before .before .before .pre .1 .second)
+put-step-requires c κs = (omega (arith, c .before .before .before .before .before .before .pre .5, c .before .before .before .before .before .before .pre .6), c .before .before .before .before .before .before .pre .1 .left, c .before .before .before .before .before .before .pre .1 .right, c .before .before .before .before .before .before .pre .1 .first, c .before .before .before .before .before .before .pre .1 .second)
 
 shows-requires : tie.Need-shows-requires
 shows-requires c κs = search needs
@@ -19,22 +19,22 @@ same-length : tie.Need-same-length
 same-length c = search needs
 
 returns : tie.Need-returns
-returns c = carried-none (c .before .before .before .before .before .before .before .before .before .pre .1) (c .before .before .before .before .before .before .before .before .before .pre .2) (c .before .before .before .before .put-step .ensures) (sym (c .before .shows .ensures) ∙ c .if1 .taken)
+returns c = carried-none (c .before .before .before .before .before .before .before .before .before .before .before .before .pre .1) (c .before .before .before .before .before .before .before .before .before .before .before .before .pre .2) (c .before .before .before .before .before .put-step .ensures) (sym (c .before .shows .ensures) ∙ c .if1 .taken)
 
-add-lift : tie.Need-add-lift
-add-lift c = search needs
+add-show-lift : tie.Need-add-show-lift
+add-show-lift c = search needs
 
-lift-requires : tie.Need-lift-requires
-lift-requires c κs = (c .before .before .before .before .before .before .before .before .before .before .pre .0, c .before .before .before .before .before .before .before .before .before .before .pre .3, c .before .before .before .before .before .before .before .before .before .before .pre .4, c .before .before .before .before .before .before .before .before .before .before .pre .5, omega (arith, c .before .before .before .before .before .put-step .ensures .edited .sized, c .before .before .before .before .before .before .before .before .before .before .pre .9), omega (arith, c .before .before .before .before .before .before .before .before .before .before .pre .10), c .before .before .before .before .before .before .before .before .before .before .pre .2 .s-left, c .before .before .before .before .before .before .before .before .before .before .pre .2 .s-right, omega arith)
+show-lift-requires : tie.Need-show-lift-requires
+show-lift-requires c κs = (c .before .before .before .before .before .before .before .before .before .before .before .before .before .pre .0, c .before .before .before .before .before .before .before .before .before .before .before .before .before .pre .3, omega (arith, c .before .before .before .before .before .before .put-step .ensures .edited .sized, c .before .before .before .before .before .before .before .before .before .before .before .before .before .pre .5), omega (arith, c .before .before .before .before .before .before .before .before .before .before .before .before .before .pre .6), omega arith)
 
-lift-requires-2 : tie.Need-lift-requires-2
-lift-requires-2 c κs = let o = carried-once (c .before .before .before .before .before .before .before .before .before .before .before .before .before .before .pre .1) (c .before .before .before .before .before .before .before .before .before .before .before .before .before .before .pre .2) (c .before .before .before .before .before .before .before .before .before .put-step .ensures) (c .before .before .before .lift .ensures) in (c .before .before .before .before .before .before .before .before .before .before .before .before .before .before .pre .0, c .before .before .before .before .before .before .before .before .before .before .before .before .before .before .pre .6, c .before .before .before .before .before .before .before .before .before .before .before .before .before .before .pre .7, c .before .before .before .before .before .before .before .before .before .before .before .before .before .before .pre .8, omega (arith, o .edited .sized, c .before .before .before .before .before .before .before .before .before .before .before .before .before .before .pre .9), omega (arith, o .few, c .before .before .before .before .before .before .before .before .before .before .before .before .before .before .pre .10), c .before .before .before .before .before .before .before .before .before .before .before .before .before .before .pre .2 .t-left, c .before .before .before .before .before .before .before .before .before .before .before .before .before .before .pre .2 .t-right, omega (arith, o .more))
+show-lift-requires-2 : tie.Need-show-lift-requires-2
+show-lift-requires-2 c κs = let o = carried-once (c .before .before .before .before .before .before .before .before .before .before .before .before .before .before .before .before .before .pre .1) (c .before .before .before .before .before .before .before .before .before .before .before .before .before .before .before .before .before .pre .2) (c .before .before .before .before .before .before .before .before .before .before .put-step .ensures) (c .before .before .before .show-lift .ensures) in (c .before .before .before .before .before .before .before .before .before .before .before .before .before .before .before .before .before .pre .0, c .before .before .before .before .before .before .before .before .before .before .before .before .before .before .before .before .before .pre .4, omega (arith, o .edited .sized, c .before .before .before .before .before .before .before .before .before .before .before .before .before .before .before .before .before .pre .5), omega (arith, o .few, c .before .before .before .before .before .before .before .before .before .before .before .before .before .before .before .before .before .pre .6), omega (arith, o .more))
 
 same-length-2 : tie.Need-same-length-2
-same-length-2 c = carried-twice (c .before .before .before .before .before .before .before .before .before .before .before .before .before .before .before .before .before .pre .1) (c .before .before .before .before .before .before .before .before .before .before .before .before .before .before .before .before .before .pre .2) (c .before .before .before .before .before .before .before .before .before .before .before .before .put-step .ensures) (c .before .before .before .before .before .before .lift .ensures) (c .before .before .lift2 .ensures) (sym (c .before .before .before .before .before .before .before .before .before .shows .ensures) ∙ c .before .before .before .before .before .before .before .before .if1 .left) .writes .edited .sized
+same-length-2 c = carried-twice (c .before .before .before .before .before .before .before .before .before .before .before .before .before .before .before .before .before .before .before .before .pre .1) (c .before .before .before .before .before .before .before .before .before .before .before .before .before .before .before .before .before .before .before .before .pre .2) (c .before .before .before .before .before .before .before .before .before .before .before .before .before .put-step .ensures) (c .before .before .before .before .before .before .show-lift .ensures) (c .before .before .show-lift2 .ensures) (sym (c .before .before .before .before .before .before .before .before .before .shows .ensures) ∙ c .before .before .before .before .before .before .before .before .if1 .left) .writes .edited .sized
 
 returns-2 : tie.Need-returns-2
-returns-2 c = carried-twice (c .before .before .before .before .before .before .before .before .before .before .before .before .before .before .before .before .before .pre .1) (c .before .before .before .before .before .before .before .before .before .before .before .before .before .before .before .before .before .pre .2) (c .before .before .before .before .before .before .before .before .before .before .before .before .put-step .ensures) (c .before .before .before .before .before .before .lift .ensures) (c .before .before .lift2 .ensures) (sym (c .before .before .before .before .before .before .before .before .before .shows .ensures) ∙ c .before .before .before .before .before .before .before .before .if1 .left)
+returns-2 c = carried-twice (c .before .before .before .before .before .before .before .before .before .before .before .before .before .before .before .before .before .before .before .before .pre .1) (c .before .before .before .before .before .before .before .before .before .before .before .before .before .before .before .before .before .before .before .before .pre .2) (c .before .before .before .before .before .before .before .before .before .before .before .before .before .put-step .ensures) (c .before .before .before .before .before .before .show-lift .ensures) (c .before .before .show-lift2 .ensures) (sym (c .before .before .before .before .before .before .before .before .before .shows .ensures) ∙ c .before .before .before .before .before .before .before .before .if1 .left)
 
 pub carry-spec : {M : Type 1} → statement M
 carry-spec =
@@ -45,8 +45,8 @@ carry-spec =
     add-result
     same-length
     returns
-    add-lift
-    lift-requires
-    lift-requires-2
+    add-show-lift
+    show-lift-requires
+    show-lift-requires-2
     same-length-2
     returns-2)
