@@ -11,16 +11,16 @@ use Rattle.sentences.specs.Refusals.{refused}
 use Rattle.report.specs.Session.{claimLines, countsLine}
 use Rattle.report.specs.Page.{zeros}
 
--- of an outcome and answers, where each record and each claim has its line of a text
-unfoldable pub textOf : (claims ofRecords ofClaims : List ℕ) → Outcome → (answers : List ℕ) → List ℕ
-textOf claims ofRecords ofClaims (Accepted n nodes shadows) answers = countsLine n nodes shadows ++ claimLines claims answers (records claims)
-textOf claims ofRecords ofClaims (Refused r i) answers = refused r i ofRecords ofClaims
+-- of an outcome and answers, where the book was read from a source and the claims from another
+unfoldable pub textOf : (claims source other : List ℕ) → Outcome → (answers : List ℕ) → List ℕ
+textOf claims source other (Accepted n nodes shadows) answers = countsLine n nodes shadows ++ claimLines claims answers (records claims)
+textOf claims source other (Refused r i) answers = refused r i source other
 
 -- of the call's outcome and of the answers that it leaves
-unfoldable pub askText : (book claims ofRecords ofClaims : List ℕ) → List ℕ
-askText book claims ofRecords ofClaims =
-    textOf claims ofRecords ofClaims (outcome book claims zeros) (left book claims zeros (outcome book claims zeros) .answers)
+unfoldable pub askText : (book claims source other : List ℕ) → List ℕ
+askText book claims source other =
+    textOf claims source other (outcome book claims zeros) (left book claims zeros (outcome book claims zeros) .answers)
 
 -- the room that always serves
-abbrev pub Short : (book claims ofRecords ofClaims : List ℕ) → Type 0
-Short book claims ofRecords ofClaims = records claims ≤ 10000 → length (askText book claims ofRecords ofClaims) ≤ 142 + 33 * records claims
+abbrev pub Short : (book claims source other : List ℕ) → Type 0
+Short book claims source other = records claims ≤ 10000 → length (askText book claims source other) ≤ 142 + 33 * records claims

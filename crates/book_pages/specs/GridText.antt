@@ -50,10 +50,10 @@ rows D n m = lines (row D n) m
 unfoldable pub gridLines : (Fact → Bool) → ℕ → List ℕ
 gridLines D n = line (ascii "PIECES" ∷ decimal n ∷ []) ++ (headings n ++ rows D n n)
 
--- of what the grid call comes to, where each record has its line of a text
-unfoldable pub textOf : (book lines : List ℕ) → Outcome → List ℕ
-textOf book lines (Accepted n nodes shadows) = gridLines (follows (marked book) n (facts book)) n
-textOf book lines (Refused r i) = refused r i lines []
+-- of what the grid call comes to, where the book was read from a source
+unfoldable pub textOf : (book source : List ℕ) → Outcome → List ℕ
+textOf book source (Accepted n nodes shadows) = gridLines (follows (marked book) n (facts book)) n
+textOf book source (Refused r i) = refused r i source []
 
-unfoldable pub gridText : (book lines : List ℕ) → List ℕ
-gridText book lines = textOf book lines (gridOutcome book)
+unfoldable pub gridText : (book source : List ℕ) → List ℕ
+gridText book source = textOf book source (gridOutcome book)

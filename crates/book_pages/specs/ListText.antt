@@ -22,10 +22,10 @@ listLines l = line (ascii "PIECES" ∷ decimal (length l) ∷ []) ++ numberLines
 unfoldable pub zeros : Lent
 zeros = lent (replicate 2560 0) (replicate 1280 0) (replicate 8192 0) (replicate 2048 0) (replicate 2048 0) (replicate 16384 0) (replicate 16384 0) (replicate 16384 0)
 
--- of what a catalog for kind k and piece g comes to, where each record has its line of a text
-unfoldable pub textOf : (book lines : List ℕ) → ℕ → ℕ → Listing → List ℕ
-textOf book lines k g (Written c) = listLines (listOf book (c .pieces) k g)
-textOf book lines k g (Refused r i) = refused r i lines []
+-- of what a catalog for kind k and piece g comes to, where the book was read from a source
+unfoldable pub textOf : (book source : List ℕ) → ℕ → ℕ → Listing → List ℕ
+textOf book source k g (Written c) = listLines (listOf book (c .pieces) k g)
+textOf book source k g (Refused r i) = refused r i source []
 
-unfoldable pub listText : (book lines : List ℕ) → ℕ → ℕ → List ℕ
-listText book lines k g = textOf book lines k g (outcome book k g zeros)
+unfoldable pub listText : (book source : List ℕ) → ℕ → ℕ → List ℕ
+listText book source k g = textOf book source k g (outcome book k g zeros)

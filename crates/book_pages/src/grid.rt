@@ -209,7 +209,7 @@ fn put_lines(
 // The text of the book's grids, from the start of the page. Answers where it ends.
 fn put_grid(
     book: &[u8],
-    lines: &[u32],
+    source: &[u8],
     page: &mut [u8],
     e: &mut [u64; 65536],
     d: &mut [u64; 65536],
@@ -218,8 +218,8 @@ fn put_grid(
     p: &mut [u64; 65536],
     q: &mut [u64; 65536],
 ) -> usize
-    ensures { λ r. ⌜ Put (now (page .entry)) 0 (gridText (now (book .entry)) (now (lines .entry))) (now (page .exit)) r ⌝ }
-    ensures { λ r. ⌜ length (gridText (now (book .entry)) (now (lines .entry))) ≤ 4498 ⌝ }
+    ensures { λ r. ⌜ Put (now (page .entry)) 0 (gridText (now (book .entry)) (now (source .entry))) (now (page .exit)) r ⌝ }
+    ensures { λ r. ⌜ length (gridText (now (book .entry)) (now (source .entry))) ≤ 4498 ⌝ }
 {
     let made = grids::grid(book, e, d, t, u, p, q);
     let outcome = made.outcome;
@@ -234,7 +234,7 @@ fn put_grid(
             0,
             refusal,
             place,
-            lines,
+            source,
         ),
         Outcome::Accepted(n, _, _) => put_lines(page, &part, &apart, &meets, &notpart, n),
     }
@@ -243,7 +243,7 @@ fn put_grid(
 // The grids of the book on one page: 4,498 bytes always serve. Each record may have its line of a text.
 pub fn write_grid(
     book: &[u8],
-    lines: &[u32],
+    source: &[u8],
     page: &mut [u8],
     e: &mut [u64; 65536],
     d: &mut [u64; 65536],
@@ -252,9 +252,9 @@ pub fn write_grid(
     p: &mut [u64; 65536],
     q: &mut [u64; 65536],
 ) -> Written
-    ensures { λ r. ⌜ Page (now (page .entry)) (gridText (now (book .entry)) (now (lines .entry))) (now (page .exit)) r ⌝ }
-    ensures { λ r. ⌜ length (gridText (now (book .entry)) (now (lines .entry))) ≤ 4498 ⌝ }
+    ensures { λ r. ⌜ Page (now (page .entry)) (gridText (now (book .entry)) (now (source .entry))) (now (page .exit)) r ⌝ }
+    ensures { λ r. ⌜ length (gridText (now (book .entry)) (now (source .entry))) ≤ 4498 ⌝ }
 {
-    let end = put_grid(book, lines, page, e, d, t, u, p, q);
+    let end = put_grid(book, source, page, e, d, t, u, p, q);
     pages::finish(page.len(), end)
 }

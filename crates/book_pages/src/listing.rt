@@ -34,7 +34,7 @@ fn put_list(page: &mut [u8], list: &[u16]) -> usize
 // The text of a catalog's list, from the start of the page. Answers where it ends.
 fn put_catalog(
     book: &[u8],
-    lines: &[u32],
+    source: &[u8],
     kind: usize,
     g: usize,
     page: &mut [u8],
@@ -42,8 +42,8 @@ fn put_catalog(
     d: &mut [u64; 65536],
     t: &mut [u64; 65536],
 ) -> usize
-    ensures { λ r. ⌜ Put (now (page .entry)) 0 (listText (now (book .entry)) (now (lines .entry)) kind g) (now (page .exit)) r ⌝ }
-    ensures { λ r. ⌜ length (listText (now (book .entry)) (now (lines .entry)) kind g) ≤ 12300 ⌝ }
+    ensures { λ r. ⌜ Put (now (page .entry)) 0 (listText (now (book .entry)) (now (source .entry)) kind g) (now (page .exit)) r ⌝ }
+    ensures { λ r. ⌜ length (listText (now (book .entry)) (now (source .entry)) kind g) ≤ 12300 ⌝ }
 {
     let mut parens = [0u8; 2560];
     let mut marks = [0u8; 1280];
@@ -75,7 +75,7 @@ fn put_catalog(
             0,
             refusal,
             place,
-            lines,
+            source,
         ),
         Listing::Written(counts) => {
             let n = counts.listed;
@@ -88,7 +88,7 @@ fn put_catalog(
 // text.
 pub fn write_list(
     book: &[u8],
-    lines: &[u32],
+    source: &[u8],
     kind: usize,
     g: usize,
     page: &mut [u8],
@@ -96,9 +96,9 @@ pub fn write_list(
     d: &mut [u64; 65536],
     t: &mut [u64; 65536],
 ) -> Written
-    ensures { λ r. ⌜ Page (now (page .entry)) (listText (now (book .entry)) (now (lines .entry)) kind g) (now (page .exit)) r ⌝ }
-    ensures { λ r. ⌜ length (listText (now (book .entry)) (now (lines .entry)) kind g) ≤ 12300 ⌝ }
+    ensures { λ r. ⌜ Page (now (page .entry)) (listText (now (book .entry)) (now (source .entry)) kind g) (now (page .exit)) r ⌝ }
+    ensures { λ r. ⌜ length (listText (now (book .entry)) (now (source .entry)) kind g) ≤ 12300 ⌝ }
 {
-    let end = put_catalog(book, lines, kind, g, page, e, d, t);
+    let end = put_catalog(book, source, kind, g, page, e, d, t);
     pages::finish(page.len(), end)
 }

@@ -9,8 +9,8 @@ use pages::Written;
 fn put_ask(
     book: &[u8],
     claims: &[u8],
-    lines: &[u32],
-    others: &[u32],
+    source: &[u8],
+    other: &[u8],
     page: &mut [u8],
     e: &mut [u64; 65536],
     d: &mut [u64; 65536],
@@ -19,8 +19,8 @@ fn put_ask(
     p: &mut [u64; 65536],
     q: &mut [u64; 65536],
 ) -> usize
-    ensures { λ r. ⌜ Put (now (page .entry)) 0 (askText (now (book .entry)) (now (claims .entry)) (now (lines .entry)) (now (others .entry))) (now (page .exit)) r ⌝ }
-    ensures { λ r. ⌜ Short (now (book .entry)) (now (claims .entry)) (now (lines .entry)) (now (others .entry)) ⌝ }
+    ensures { λ r. ⌜ Put (now (page .entry)) 0 (askText (now (book .entry)) (now (claims .entry)) (now (source .entry)) (now (other .entry))) (now (page .exit)) r ⌝ }
+    ensures { λ r. ⌜ Short (now (book .entry)) (now (claims .entry)) (now (source .entry)) (now (other .entry)) ⌝ }
 {
     let mut answers = [0u8; 4097];
     let outcome = report::answer(book, claims, &mut answers, e, d, t, u, p, q);
@@ -30,8 +30,8 @@ fn put_ask(
             0,
             refusal,
             place,
-            lines,
-            others,
+            source,
+            other,
         ),
         Outcome::Accepted(pieces, nodes, shadows) => {
             let at = report::put_counts(page, 0, pieces, nodes, shadows);
@@ -45,8 +45,8 @@ fn put_ask(
 pub fn write_ask(
     book: &[u8],
     claims: &[u8],
-    lines: &[u32],
-    others: &[u32],
+    source: &[u8],
+    other: &[u8],
     page: &mut [u8],
     e: &mut [u64; 65536],
     d: &mut [u64; 65536],
@@ -55,9 +55,9 @@ pub fn write_ask(
     p: &mut [u64; 65536],
     q: &mut [u64; 65536],
 ) -> Written
-    ensures { λ r. ⌜ Page (now (page .entry)) (askText (now (book .entry)) (now (claims .entry)) (now (lines .entry)) (now (others .entry))) (now (page .exit)) r ⌝ }
-    ensures { λ r. ⌜ Short (now (book .entry)) (now (claims .entry)) (now (lines .entry)) (now (others .entry)) ⌝ }
+    ensures { λ r. ⌜ Page (now (page .entry)) (askText (now (book .entry)) (now (claims .entry)) (now (source .entry)) (now (other .entry))) (now (page .exit)) r ⌝ }
+    ensures { λ r. ⌜ Short (now (book .entry)) (now (claims .entry)) (now (source .entry)) (now (other .entry)) ⌝ }
 {
-    let end = put_ask(book, claims, lines, others, page, e, d, t, u, p, q);
+    let end = put_ask(book, claims, source, other, page, e, d, t, u, p, q);
     pages::finish(page.len(), end)
 }

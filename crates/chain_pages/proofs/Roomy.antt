@@ -12,6 +12,6 @@ use Rattle.pages.proofs.Writing.{fitting}
 use Rattle.chain_pages.specs.WhyText.{whyText}
 use Rattle.chain_pages.specs.Why.{said, Why}
 
-pub always-text : (book claim lines page page′ : List ℕ) (r : Written) (w : Why book claim lines page page′ r) → 852835 ≤ length page
-    → (e : ℕ) × (r ≡ Text e) × Printed page (whyText lines (recordAt claim 0) (said book claim) (w .chain)) page′ e
-always-text book claim lines page page′ r w h = fitting r (w .page-is) (omega (arith, w .short))
+pub always-text : (book claim source page page′ : List ℕ) (r : Written) (w : Why book claim source page page′ r) → 852835 ≤ length page
+    → (e : ℕ) × (r ≡ Text e) × Printed page (whyText source (recordAt claim 0) (said book claim) (w .chain)) page′ e
+always-text book claim source page page′ r w h = fitting r (w .page-is) (omega (arith, w .short))

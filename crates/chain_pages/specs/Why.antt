@@ -22,14 +22,14 @@ abbrev pub Bytes : List ℕ → Type 0
 Bytes l = (j : ℕ) → getD l j 0 < 256
 
 -- the page of the reply and of steps that pass; which of several chains they are is free. OPEN and refusals have none
-pub record Why (book claim lines page page′ : List ℕ) (r : Written) : Type 0 where
+pub record Why (book claim source page page′ : List ℕ) (r : Written) : Type 0 where
   pub chain : List ℕ
   pub bytes : Bytes chain
   pub passing : shown (said book claim) ≡ true → passes book claim chain ≡ true
   pub none : shown (said book claim) ≡ false → chain ≡ []
-  pub page-is : Page page (whyText lines (recordAt claim 0) (said book claim) chain) page′ r
+  pub page-is : Page page (whyText source (recordAt claim 0) (said book claim) chain) page′ r
   -- so a page of that many bytes has room
-  pub short : length (whyText lines (recordAt claim 0) (said book claim) chain) ≤ 852835
+  pub short : length (whyText source (recordAt claim 0) (said book claim) chain) ≤ 852835
 
 -- what the inner function is told: a claim that is answered is six bytes
 abbrev pub Whole : List ℕ → Reply → Type 0

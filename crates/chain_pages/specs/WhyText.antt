@@ -10,7 +10,7 @@ use Rattle.chain_pages.specs.AnswerLine.{answerLine}
 use Rattle.chain_writing.specs.declared.Reply.{Reply}
 use Rattle.chain_writing.specs.declared.Reply.the-variants.{Answered, Refused}
 
--- of a reply to a claim, with the steps c, where each record has its line of a text
-unfoldable pub whyText : (lines : List ℕ) → Record → Reply → (c : List ℕ) → List ℕ
-whyText lines claim (Answered a) c = answerLine claim (answerByte a) ++ stepLines c (steps c)
-whyText lines claim (Refused r i) c = refused r i lines []
+-- of a reply to a claim, with the steps c, where the book was read from a source
+unfoldable pub whyText : (source : List ℕ) → Record → Reply → (c : List ℕ) → List ℕ
+whyText source claim (Answered a) c = answerLine claim (answerByte a) ++ stepLines c (steps c)
+whyText source claim (Refused r i) c = refused r i source []

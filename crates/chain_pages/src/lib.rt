@@ -25,10 +25,10 @@ fn byte_of(answer: Answer) -> u8
 }
 
 // The text of a reply and of steps, from the start of the page. Answers where it ends.
-fn put_why(page: &mut [u8], claim: &[u8], lines: &[u32], reply: Reply, c: &[u8]) -> usize
+fn put_why(page: &mut [u8], claim: &[u8], source: &[u8], reply: Reply, c: &[u8]) -> usize
     requires { ⌜ Whole (now claim) reply × (length (now c) ≤ 164000) ⌝ }
-    ensures { λ r. ⌜ Put (now (page .entry)) 0 (whyText (now (lines .entry)) (recordAt (now (claim .entry)) 0) reply (now (c .entry))) (now (page .exit)) r ⌝ }
-    ensures { λ r. ⌜ length (whyText (now (lines .entry)) (recordAt (now (claim .entry)) 0) reply (now (c .entry))) ≤ 852835 ⌝ }
+    ensures { λ r. ⌜ Put (now (page .entry)) 0 (whyText (now (source .entry)) (recordAt (now (claim .entry)) 0) reply (now (c .entry))) (now (page .exit)) r ⌝ }
+    ensures { λ r. ⌜ length (whyText (now (source .entry)) (recordAt (now (claim .entry)) 0) reply (now (c .entry))) ≤ 852835 ⌝ }
     ensures { λ r. ⌜ Bytes (now (c .entry)) ⌝ }
 {
     match reply {
@@ -37,7 +37,7 @@ fn put_why(page: &mut [u8], claim: &[u8], lines: &[u32], reply: Reply, c: &[u8])
             0,
             refusal,
             place,
-            lines,
+            source,
         ),
         Reply::Answered(answer) => {
             let r = records::record_at(claim, 0);
@@ -47,22 +47,22 @@ fn put_why(page: &mut [u8], claim: &[u8], lines: &[u32], reply: Reply, c: &[u8])
     }
 }
 
-// The answer to the one claim about the book, and a chain behind it. Each record may have its line of a text.
+// The answer to the one claim about the book, and a chain behind it. The book was read from the source.
 pub fn write_why(
     book: &[u8],
     claim: &[u8],
-    lines: &[u32],
+    source: &[u8],
     page: &mut [u8],
     e: &mut [u64; 65536],
     d: &mut [u64; 65536],
     t: &mut [u64; 65536],
 ) -> Written
-    ensures { λ r. ⌜ Why (now (book .entry)) (now (claim .entry)) (now (lines .entry)) (now (page .entry)) (now (page .exit)) r ⌝ }
+    ensures { λ r. ⌜ Why (now (book .entry)) (now (claim .entry)) (now (source .entry)) (now (page .entry)) (now (page .exit)) r ⌝ }
 {
     let mut c = [0u8; 164000];
     let written = chain_writing::write_chain(book, claim, &mut c, e, d, t);
     let reply = written.reply;
     let n = 10 * written.steps;
-    let end = put_why(page, claim, lines, reply, &c[..n]);
+    let end = put_why(page, claim, source, reply, &c[..n]);
     pages::finish(page.len(), end)
 }

@@ -1,3 +1,5 @@
 pub mod Refusals
 pub mod Unreads
 pub mod Rooms
+pub mod Readings
+pub mod Arguments

@@ -9,6 +9,8 @@ use lib.ListN.{length, getD, List·getD-eq-default}
 use borrow.Author.Tests.{eq-eqb, ne-eqb}
 use Rattle.records.specs.Refusal.{refusalNumber}
 use Rattle.records.specs.declared.Refusal.{Refusal}
+use Rattle.text.specs.Place.{lineIn}
+use Rattle.text.specs.Either.{isText}
 use Rattle.pages.specs.Text.{ascii, field}
 use Rattle.pages.specs.Decimal.{decimal}
 use Rattle.sentences.specs.Refusals.{sentence, refusalLine, places, lineBy, lineOf, refused}
@@ -26,35 +28,35 @@ module _ (number place : ℕ) where
   located zero h = absurd (h refl)
   located (suc l) h = refl
 
-  module _ (records claims : List ℕ) where
-    pub of-record : getD places number 0 ≡ 114 → getD records place 0 ≡ lineOf number place records claims
+  module _ (book other : List ℕ) where
+    pub of-book : getD places number 0 ≡ 114 → lineIn book place ≡ lineOf number place book other
     unfolding lineOf
-    of-record is = rw (eq-eqb (getD places number 0) 114 is)
+    of-book is = rw (eq-eqb (getD places number 0) 114 is)
 
-    pub of-claim : (getD places number 0 ≡ 114 → ⊥) → getD places number 0 ≡ 99 → getD claims place 0 ≡ lineOf number place records claims
+    pub of-other : (getD places number 0 ≡ 114 → ⊥) → getD places number 0 ≡ 99 → lineIn other place ≡ lineOf number place book other
     unfolding lineOf
-    of-claim not is = rw (ne-eqb (getD places number 0) 114 not, eq-eqb (getD places number 0) 99 is)
+    of-other not is = rw (ne-eqb (getD places number 0) 114 not, eq-eqb (getD places number 0) 99 is)
 
-    pub of-none : (getD places number 0 ≡ 114 → ⊥) → (getD places number 0 ≡ 99 → ⊥) → 0 ≡ lineOf number place records claims
+    pub of-none : (getD places number 0 ≡ 114 → ⊥) → (getD places number 0 ≡ 99 → ⊥) → 0 ≡ lineOf number place book other
     unfolding lineOf
     of-none not nor = rw (ne-eqb (getD places number 0) 114 not, ne-eqb (getD places number 0) 99 nor)
 
     -- numbers that no refusal has
-    pub beyond : 22 ≤ number → 0 ≡ lineOf number place records claims
+    pub beyond : 22 ≤ number → 0 ≡ lineOf number place book other
     beyond h =
         let none : getD places number 0 ≡ 0 = List·getD-eq-default places 0 h in
         of-none (λ is. absurd (omega (arith, none, is))) (λ is. absurd (omega (arith, none, is)))
 
-  -- where no claims were read from a text
-  pub of-other : (records : List ℕ) → (getD places number 0 ≡ 114 → ⊥) → 0 ≡ lineOf number place records []
-  unfolding lineOf
-  of-other records not = rw (ne-eqb (getD places number 0) 114 not) (neither (eqb (getD places number 0) 99))
+  -- where there is no other source
+  pub of-no-other : (book : List ℕ) → (getD places number 0 ≡ 114 → ⊥) → 0 ≡ lineOf number place book []
+  unfolding lineOf lineIn isText
+  of-no-other book not = rw (ne-eqb (getD places number 0) 114 not) (neither (eqb (getD places number 0) 99))
     where
-      neither : (b : Bool) → 0 ≡ lineBy false b (getD records place 0) 0
+      neither : (b : Bool) → 0 ≡ lineBy false b (lineIn book place) 0
       neither true = refl
       neither false = refl
 
-pub as-refused : (r : Refusal) (number place l : ℕ) (records claims : List ℕ) → number ≡ refusalNumber r → l ≡ lineOf number place records claims
-    → refusalLine number place l ≡ refused r place records claims
+pub as-refused : (r : Refusal) (number place l : ℕ) (book other : List ℕ) → number ≡ refusalNumber r → l ≡ lineOf number place book other
+    → refusalLine number place l ≡ refused r place book other
 unfolding refused
-as-refused r number place l records claims is at = rw (at, is)
+as-refused r number place l book other is at = rw (at, is)

@@ -3,14 +3,16 @@ use Prim.Native.Nat.{ℕ, zero, suc, _≤_, _<_, _^_}
 use mathlib.Core.Bool.{Bool, true, false}
 use native.Mathlib.Omega.{arith}
 use mathlib.Core.Path.{_≡_, sym}
-use mathlib.Core.List.{List}
+use mathlib.Core.List.{List, [], _∷_, _++_}
+use lib.Dec.{ltb}
+use Rattle.pages.specs.Text.{ascii, line}
 use lib.ListN.{length, length-append}
 use Rattle.pages.proofs.Decimals.{decimal-length}
 use Rattle.pages.proofs.Entries.{widest, entry-width}
 use Rattle.sentences.specs.Words.{kinds, answers, agreements, kindName, answerName, agreementName}
 use Rattle.sentences.specs.Refusals.{sentences, sentence, refusalLine, refused}
 use Rattle.records.specs.declared.Refusal.{Refusal}
-use Rattle.sentences.specs.Unread.{prefixes, prefix, reasons, wording, reasonOf, unreadLine}
+use Rattle.sentences.specs.Unread.{prefixes, prefix, reasons, wording, reasonOf, lined, unreadLine}
 
 pub kind-width : (k : ℕ) → length (kindName k) ≤ 7
 unfolding kindName widest
@@ -44,6 +46,15 @@ refusal-width number place (suc l) hn hp hl =
     simp length-append
     (omega (arith, decimal-length 19 number (omega arith), decimal-length 19 place (omega arith), decimal-length 19 (suc l) (omega arith), sentence-width number))
 
-pub refused-width : (r : Refusal) (number place l : ℕ) (records claims : List ℕ) → refusalLine number place l ≡ refused r place records claims
-    → number < 2 ^ 64 → place < 2 ^ 64 → l < 2 ^ 64 → length (refused r place records claims) ≤ 142
-refused-width r number place l records claims is hn hp hl = rw (sym is) (refusal-width number place l hn hp hl)
+pub refused-width : (r : Refusal) (number place l : ℕ) (book other : List ℕ) → refusalLine number place l ≡ refused r place book other
+    → number < 2 ^ 64 → place < 2 ^ 64 → l < 2 ^ 64 → length (refused r place book other) ≤ 142
+refused-width r number place l book other is hn hp hl = rw (sym is) (refusal-width number place l hn hp hl)
+
+-- words have no line, and then the line's number is 0
+pub unread-width : (source l reason : ℕ) → l < 2 ^ 64 → length (unreadLine source l reason) ≤ 95
+unfolding unreadLine
+unread-width source l reason h = go (ltb source 4)
+  where
+    go : (b : Bool) → length (prefix source ++ line (ascii "UNREAD" ∷ (lined b l ++ (reasonOf source reason ∷ [])))) ≤ 95
+    go true = simp length-append (omega (arith, prefix-width source, decimal-length 19 l (omega arith), reason-width source reason))
+    go false = simp length-append (omega (arith, prefix-width source, reason-width source reason))

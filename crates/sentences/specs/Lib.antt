@@ -1,3 +1,5 @@
 pub mod Words
 pub mod Refusals
 pub mod Unread
+pub mod Sources
+pub mod Arguments

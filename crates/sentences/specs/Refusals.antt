@@ -4,6 +4,7 @@ use mathlib.Core.Bool.{Bool, true, false}
 use mathlib.Core.List.{List, [], _∷_, _++_}
 use lib.Dec.{eqb}
 use lib.ListN.{getD}
+use Rattle.text.specs.Place.{lineIn}
 use Rattle.records.specs.Refusal.{refusalNumber}
 use Rattle.records.specs.declared.Refusal.{Refusal}
 use Rattle.pages.specs.Text.{ascii, line}
@@ -56,10 +57,10 @@ lineBy true other ofRecord ofClaim = ofRecord
 lineBy false true ofRecord ofClaim = ofClaim
 lineBy false false ofRecord ofClaim = 0
 
--- the line of the place, where each record and each claim has one; what was not read from a text has none
-unfoldable pub lineOf : (number place : ℕ) (records claims : List ℕ) → ℕ
-lineOf number place records claims = lineBy (eqb (getD places number 0) 114) (eqb (getD places number 0) 99) (getD records place 0) (getD claims place 0)
+-- the line of the place in the source that it counts: of the book, or of the claims or the log. Records have no lines, and no bytes have none
+unfoldable pub lineOf : (number place : ℕ) (book other : List ℕ) → ℕ
+lineOf number place book other = lineBy (eqb (getD places number 0) 114) (eqb (getD places number 0) 99) (lineIn book place) (lineIn other place)
 
--- the line of a refusal at a place, with the line of its text
-unfoldable pub refused : Refusal → (place : ℕ) (records claims : List ℕ) → List ℕ
-refused r place records claims = refusalLine (refusalNumber r) place (lineOf (refusalNumber r) place records claims)
+-- the line of a refusal at a place, with the line of its source
+unfoldable pub refused : Refusal → (place : ℕ) (book other : List ℕ) → List ℕ
+refused r place book other = refusalLine (refusalNumber r) place (lineOf (refusalNumber r) place book other)

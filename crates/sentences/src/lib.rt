@@ -2,7 +2,7 @@
 ghost use mathlib.Core.Path.{_≡_};
 ghost use mathlib.Core.List.{[]};
 ghost use Prim.Native.Nat.{_≤_};
-ghost use lib.ListN.{length, getD};
+ghost use lib.ListN.{length};
 ghost use Rattle.pages.specs.Text.{field};
 ghost use Rattle.pages.specs.Put.{Put};
 ghost use Rattle.sentences.specs.Words.{kindName, answerName, agreementName};
@@ -10,6 +10,8 @@ ghost use Rattle.sentences.specs.Refusals.{sentence, refusalLine, lineOf
 ghost use Rattle.sentences.specs.Unread as unread;
 ghost use Rattle.sentences.specs.Unread.{prefix, reasonOf, unreadLine};
 use records::Refusal;
+
+pub mod sources;
 
 // Of whom a line of what cannot be read speaks, and the line of a refusal in a second book.
 pub const BOOK: usize = 0;
@@ -72,19 +74,9 @@ pub fn put_refusal(page: &mut [u8], at: usize, number: usize, place: usize, l: u
     put_sentence(page, at, number)
 }
 
-// The line at a place, or 0 where there is none.
-fn line_at(lines: &[u32], place: usize) -> usize
-    ensures { λ r. ⌜ r ≡ getD (now (lines .entry)) place 0 ⌝ }
-{
-    if lines.len() <= place {
-        return 0;
-    }
-    lines[place] as usize
-}
-
-// The line of a refusal's place, by the lines of the records and of the claims, or 0.
-pub fn line_of(number: usize, place: usize, records: &[u32], claims: &[u32]) -> usize
-    ensures { λ r. ⌜ r ≡ lineOf number place (now (records .entry)) (now (claims .entry)) ⌝ }
+// The line of a refusal's place, in the book or in the other source, the claims or the log; or 0.
+pub fn line_of(number: usize, place: usize, book: &[u8], other: &[u8]) -> usize
+    ensures { λ r. ⌜ r ≡ lineOf number place (now (book .entry)) (now (other .entry)) ⌝ }
 {
     let places = b"-----rrrrr--ccr----r-c";
     if places.len() <= number {
@@ -92,58 +84,58 @@ pub fn line_of(number: usize, place: usize, records: &[u32], claims: &[u32]) -> 
     }
     let counted = places[number];
     if counted == b'r' {
-        return line_at(records, place);
+        return text::line_in(book, place);
     }
     if counted == b'c' {
-        return line_at(claims, place);
+        return text::line_in(other, place);
     }
     0
 }
 
-// The same, where no claims were read from a text.
-fn record_line(number: usize, place: usize, records: &[u32]) -> usize
-    ensures { λ r. ⌜ r ≡ lineOf number place (now (records .entry)) [] ⌝ }
+// The same, where there is no other source.
+fn record_line(number: usize, place: usize, book: &[u8]) -> usize
+    ensures { λ r. ⌜ r ≡ lineOf number place (now (book .entry)) [] ⌝ }
 {
     let places = b"-----rrrrr--ccr----r-c";
     if places.len() <= number {
         return 0;
     }
     if places[number] == b'r' {
-        return line_at(records, place);
+        return text::line_in(book, place);
     }
     0
 }
 
-// The one line of a refusal at a place, by the lines of the records and of the claims.
+// The one line of a refusal at a place of the book, or of the other source.
 pub fn put_refused(
     page: &mut [u8],
     at: usize,
     refusal: Refusal,
     place: usize,
-    records: &[u32],
-    claims: &[u32],
+    book: &[u8],
+    other: &[u8],
 ) -> usize
-    ensures { λ r. ⌜ Put (now (page .entry)) at (refused refusal place (now (records .entry)) (now (claims .entry))) (now (page .exit)) r ⌝ }
-    ensures { λ r. ⌜ length (refused refusal place (now (records .entry)) (now (claims .entry))) ≤ 142 ⌝ }
+    ensures { λ r. ⌜ Put (now (page .entry)) at (refused refusal place (now (book .entry)) (now (other .entry))) (now (page .exit)) r ⌝ }
+    ensures { λ r. ⌜ length (refused refusal place (now (book .entry)) (now (other .entry))) ≤ 142 ⌝ }
 {
     let number = records::refusal_number(refusal) as usize;
-    let l = line_of(number, place, records, claims);
+    let l = line_of(number, place, book, other);
     put_refusal(page, at, number, place, l)
 }
 
-// The same, where no claims were read from a text.
+// The same, where there is no other source.
 pub fn put_refused_book(
     page: &mut [u8],
     at: usize,
     refusal: Refusal,
     place: usize,
-    records: &[u32],
+    book: &[u8],
 ) -> usize
-    ensures { λ r. ⌜ Put (now (page .entry)) at (refused refusal place (now (records .entry)) []) (now (page .exit)) r ⌝ }
-    ensures { λ r. ⌜ length (refused refusal place (now (records .entry)) []) ≤ 142 ⌝ }
+    ensures { λ r. ⌜ Put (now (page .entry)) at (refused refusal place (now (book .entry)) []) (now (page .exit)) r ⌝ }
+    ensures { λ r. ⌜ length (refused refusal place (now (book .entry)) []) ≤ 142 ⌝ }
 {
     let number = records::refusal_number(refusal) as usize;
-    let l = record_line(number, place, records);
+    let l = record_line(number, place, book);
     put_refusal(page, at, number, place, l)
 }
 
@@ -184,6 +176,7 @@ fn put_reason(page: &mut [u8], at: usize, source: usize, reason: usize) -> usize
 // The one line of what cannot be read: the number of its first bad line, and the reason.
 pub fn put_unread(page: &mut [u8], at: usize, source: usize, bad: usize, reason: usize) -> usize
     ensures { λ r. ⌜ Put (now (page .entry)) at (unreadLine source bad reason) (now (page .exit)) r ⌝ }
+    ensures { λ r. ⌜ length (unreadLine source bad reason) ≤ 95 ⌝ }
 {
     let at = put_prefix(page, at, source);
     let at = pages::put(page, at, b"UNREAD ");

@@ -1,6 +1,7 @@
 -- Entries counted line by line. Assumes nothing.
 use Prim.Native.Nat.{ℕ, zero, suc, _+_, _-_, _≤_, _<_}
 use mathlib.Core.Path.{_≡_, refl, sym, ap, ap₂, _∙_}
+use mathlib.Core.Bool.{true, false}
 use mathlib.Core.List.{List, [], _∷_}
 use native.Mathlib.Numerals.{add-one}
 use native.Mathlib.Omega.{arith}
@@ -10,7 +11,8 @@ use Rattle.text.specs.Runs.{ofSort, run}
 use Rattle.text.specs.Word.{word}
 use Rattle.text.specs.Lines.{lines}
 use Rattle.text.specs.Text.{markLength, linesOf}
-use Rattle.text.specs.Place.{numberedIf, numbered, oneIf, entriesOn, placeLine}
+use Rattle.text.specs.Place.{numberedIf, numbered, oneIf, entriesOn, placeLine, lineIn}
+use Rattle.text.specs.Either.{isText}
 use Rattle.text.specs.Reading.{WordAt}
 use Rattle.text.proofs.Said.{no-word, some-word}
 use Rattle.text.proofs.Cuts.{line-at}
@@ -66,3 +68,12 @@ module _ (text : List ℕ) (k at line left : ℕ) (s : Seeking text k at line le
       next-line
       ∙ later-if (word (take (e - at) (drop at text))) line left (numbered (suc line) (lines (drop (e + 1) text))) (omega (arith, on))
       ∙ ap₂ (λ (x y : ℕ). getD (numbered x (lines (drop (e + 1) text))) (left - y) 0) (sym (add-one line)) (sym on)
+
+-- a source that is text, and one that is not
+pub in-text : (s : List ℕ) (k l : ℕ) → isText s ≡ true → l ≡ placeLine s k → l ≡ lineIn s k
+unfolding lineIn
+in-text s k l e is = rw e is
+
+pub in-records : (s : List ℕ) (k : ℕ) → isText s ≡ false → 0 ≡ lineIn s k
+unfolding lineIn
+in-records s k e = rw e

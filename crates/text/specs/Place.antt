@@ -11,6 +11,8 @@ use Rattle.text.specs.Entry.{size, bytesOf}
 use Rattle.text.specs.Text.{Entries, most, linesOf, readText}
 use Rattle.text.specs.Lent.{entriesOf}
 use Rattle.text.specs.Word.{word}
+use Rattle.text.specs.Tests.{ifTrue}
+use Rattle.text.specs.Either.{isText}
 
 -- the number of a line, where it has a word, before others
 abbrev pub numberedIf : List ℕ → ℕ → List ℕ → List ℕ
@@ -24,6 +26,10 @@ numbered n (l ∷ ls) = numberedIf (word l) n (numbered (suc n) ls)
 -- the line of entry k, counted from 1; 0 where there is none
 unfoldable pub placeLine : List ℕ → ℕ → ℕ
 placeLine text k = getD (numbered 1 (linesOf text)) k 0
+
+-- of a source in either form: records have no lines
+unfoldable pub lineIn : List ℕ → ℕ → ℕ
+lineIn source k = ifTrue (isText source) (placeLine source k) 0
 
 -- how many entries a line stands for
 abbrev pub oneIf : List ℕ → ℕ

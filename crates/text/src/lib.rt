@@ -2,6 +2,7 @@
 ghost use mathlib.Core.Path.{_≡_};
 ghost use Rattle.text.specs.Reason.{reasonNumber};
 ghost use Rattle.text.specs.Either.{isText};
+ghost use Rattle.text.specs.Place.{lineIn};
 
 pub mod lines;
 pub mod reading;
@@ -44,4 +45,14 @@ pub fn is_text(s: &[u8]) -> bool
         return false;
     }
     9 <= s[0]
+}
+
+// The line of entry k of a source in either form, counted from 1, or 0 where there is none.
+pub fn line_in(source: &[u8], k: usize) -> usize
+    ensures { λ r. ⌜ r ≡ lineIn (now (source .entry)) k ⌝ }
+{
+    if is_text(source) {
+        return reading::entry_line(source, k);
+    }
+    0
 }

@@ -1,7 +1,7 @@
 -- `sentences::line_of` meets its contract. Assumes nothing.
 use native.Mathlib.Omega.{arith}
 use borrow.Author.Needs.{needs}
-use Rattle.sentences.proofs.Refusals.{of-record, of-claim, of-none, beyond}
+use Rattle.sentences.proofs.Refusals.{of-book, of-other, of-none, beyond}
 use mathlib.Core.Path.{_∙_}
 use Rattle.sentences.proofs.line_of.Statement.{statement}
 use Rattle.sentences.proofs.line_of.Tie as tie
@@ -12,17 +12,17 @@ returns c = beyond _ _ _ _ (omega arith)
 element-copy-out-counted : tie.Need-element-copy-out-counted
 element-copy-out-counted c = search needs
 
-line-at-requires : tie.Need-line-at-requires
-line-at-requires c κs = search needs
+line-in-requires : tie.Need-line-in-requires
+line-in-requires c κs = search needs
 
 returns-2 : tie.Need-returns-2
-returns-2 c = c .line-at .ensures ∙ of-record _ _ _ _ (c .before .if2 .taken)
+returns-2 c = c .line-in .ensures ∙ of-book _ _ _ _ (c .before .if2 .taken)
 
-line-at-requires-2 : tie.Need-line-at-requires-2
-line-at-requires-2 c κs = search needs
+line-in-requires-2 : tie.Need-line-in-requires-2
+line-in-requires-2 c κs = search needs
 
 returns-3 : tie.Need-returns-3
-returns-3 c = c .line-at2 .ensures ∙ of-claim _ _ _ _ (c .before .before .if2 .left) (c .before .if3 .taken)
+returns-3 c = c .line-in2 .ensures ∙ of-other _ _ _ _ (c .before .before .if2 .left) (c .before .if3 .taken)
 
 returns-4 : tie.Need-returns-4
 returns-4 c = of-none _ _ _ _ (c .before .if2 .left) (c .if3 .left)
@@ -33,8 +33,8 @@ line-of-spec =
     (tie.spec
     returns
     element-copy-out-counted
-    line-at-requires
+    line-in-requires
     returns-2
-    line-at-requires-2
+    line-in-requires-2
     returns-3
     returns-4)

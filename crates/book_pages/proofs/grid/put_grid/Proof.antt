@@ -20,7 +20,7 @@ enum-known-outcome-2 : tie.Need-enum-known-outcome-2
 enum-known-outcome-2 c = search needs
 
 put-lines-requires : tie.Need-put-lines-requires
-put-lines-requires c κs = small _ (now (c .before .before .before .before .before .before .before .before .before .before .before .before .before .before .before .before .before .before .before .before .before .before .before .args .lines)) _ _ (c .before .before .before .before .before .before .before .before .before .before .before .before .before .grid .ensures) _ _ _ (c .before .before .before .before .before .before .outcome2 .given .1)
+put-lines-requires c κs = small _ (now (c .before .before .before .before .before .before .before .before .before .before .before .before .before .before .before .before .before .before .before .before .before .before .before .args .source)) _ _ (c .before .before .before .before .before .before .before .before .before .before .before .before .before .grid .ensures) _ _ _ (c .before .before .before .before .before .before .outcome2 .given .1)
 
 same-length : tie.Need-same-length
 same-length c = search needs

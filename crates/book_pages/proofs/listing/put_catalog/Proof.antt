@@ -50,16 +50,16 @@ enum-known-made-2 c = search needs
 
 array-share-prefix-list : tie.Need-array-share-prefix-list
 unfolding zeros
-array-share-prefix-list c = listed-fits _ (now (c .before .before .before .before .before .before .before .before .before .before .before .before .before .before .before .before .before .before .before .before .before .before .before .before .before .before .before .args .lines)) _ _ _ _ (c .before .before .before .before .before .before .before .before .before .before .before .before .write-catalog .ensures) _ (c .before .before .made2 .given .1)
+array-share-prefix-list c = listed-fits _ (now (c .before .before .before .before .before .before .before .before .before .before .before .before .before .before .before .before .before .before .before .before .before .before .before .before .before .before .before .args .source)) _ _ _ _ (c .before .before .before .before .before .before .before .before .before .before .before .before .write-catalog .ensures) _ (c .before .before .made2 .given .1)
 
 slice-aggregate-put-list : tie.Need-slice-aggregate-put-list
 unfolding zeros
-slice-aggregate-put-list c = sym (length-take-le _ _ (listed-fits _ (now (c .before .before .before .before .before .before .before .before .before .before .before .before .before .before .before .before .before .before .before .before .before .before .before .before .before .before .before .before .args .lines)) _ _ _ _ (c .before .before .before .before .before .before .before .before .before .before .before .before .before .write-catalog .ensures) _ (c .before .before .before .made2 .given .1)))
+slice-aggregate-put-list c = sym (length-take-le _ _ (listed-fits _ (now (c .before .before .before .before .before .before .before .before .before .before .before .before .before .before .before .before .before .before .before .before .before .before .before .before .before .before .before .before .args .source)) _ _ _ _ (c .before .before .before .before .before .before .before .before .before .before .before .before .before .write-catalog .ensures) _ (c .before .before .before .made2 .given .1)))
 
 put-list-requires : tie.Need-put-list-requires
 unfolding zeros
 put-list-requires c κs =
-    let fits = listed-fits _ (now (c .before .before .before .before .before .before .before .before .before .before .before .before .before .before .before .before .before .before .before .before .before .before .before .before .before .before .before .before .args .lines)) _ _ _ _ (c .before .before .before .before .before .before .before .before .before .before .before .before .before .write-catalog .ensures) _ (c .before .before .before .made2 .given .1) in
+    let fits = listed-fits _ (now (c .before .before .before .before .before .before .before .before .before .before .before .before .before .before .before .before .before .before .before .before .before .before .before .before .before .before .before .before .args .source)) _ _ _ _ (c .before .before .before .before .before .before .before .before .before .before .before .before .before .write-catalog .ensures) _ (c .before .before .before .made2 .given .1) in
     omega (arith, slice-aggregate-put-list c, fits, c .before .before .before .before .before .before .before .before .before .before .before .before .before .write-catalog .kept .1 .1 .1 .1 .1 .1 .1 .0, length-replicate {A = ℕ} 2048 0)
 
 same-length : tie.Need-same-length
