@@ -1,7 +1,7 @@
 -- What the words of the arguments come to, and their text. Assumes nothing.
-use Prim.Native.Nat.{ℕ, _≤_, _<_}
+use Prim.Native.Nat.{ℕ, _≤_, _<_, _/_, _%_}
 use mathlib.Core.Path.{_≡_, refl, _∙_, ap, sym}
-use mathlib.Core.List.{List}
+use mathlib.Core.List.{List, [], _∷_}
 use native.Mathlib.Omega.{arith}
 use lib.ListN.{length}
 use borrow.Author.Tests.{lt-ltb, le-ltb}
@@ -10,6 +10,7 @@ use Rattle.text.specs.declared.Form.{Form}
 use Rattle.text.specs.declared.lines.Line.{Line}
 use Rattle.text.specs.declared.lines.Line.the-variants as line
 use Rattle.text.specs.Line.{lineOf}
+use Rattle.text.specs.Entry.{sixBytes}
 use Rattle.sentences.specs.Unread.{unreadLine}
 use Rattle.sentences.specs.declared.sources.Words.{Words}
 use Rattle.sentences.specs.declared.sources.Words.the-variants.{Entry, Wrong}
@@ -35,3 +36,7 @@ module _ (form : Form) (words : List ℕ) where
 
     pub wrong-short : (n reason : ℕ) → w ≡ Wrong reason → length (unreadLine (speaker form) 0 reason) ≤ n → length (ofWords form words text) ≤ n
     wrong-short n reason e h = rw (sym (of-wrong reason e)) h
+
+pub six : (r : Record) (w x y z : ℕ) → w ≡ r .a % 256 → x ≡ r .a / 256 % 256 → y ≡ r .b % 256 → z ≡ r .b / 256 % 256
+    → r .kind ∷ r .origin ∷ w ∷ x ∷ y ∷ z ∷ [] ≡ sixBytes r
+six r w x y z is js ks ls = rw (is, js, ks, ls)

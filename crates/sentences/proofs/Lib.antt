@@ -3,3 +3,4 @@ pub mod Unreads
 pub mod Rooms
 pub mod Readings
 pub mod Arguments
+pub mod Tellings

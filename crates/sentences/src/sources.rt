@@ -2,6 +2,7 @@
 ghost use mathlib.Core.Path.{_≡_};
 ghost use Prim.Native.Nat.{_≤_};
 ghost use lib.ListN.{length};
+ghost use Rattle.text.specs.Entry.{sixBytes};
 ghost use Rattle.text.specs.Text.{bytesMost};
 ghost use Rattle.text.specs.Either.{readEither};
 ghost use Rattle.sentences.specs.Sources.{Took};
@@ -61,4 +62,20 @@ pub fn read_words(form: Form, words: &[u8]) -> Words
         Line::Bad(reason) => Words::Wrong(text::reason_number(reason) as usize),
         Line::Nothing => Words::Wrong(absent(form)),
     }
+}
+
+// The bytes of a record or a claim.
+pub fn six_bytes(r: Record) -> [u8; 6]
+    ensures { λ x. ⌜ x ≡ sixBytes r ⌝ }
+{
+    let a = r.a;
+    let b = r.b;
+    [
+        r.kind,
+        r.origin,
+        numbers::low(a),
+        numbers::low(a / 256),
+        numbers::low(b),
+        numbers::low(b / 256),
+    ]
 }
