@@ -15,7 +15,7 @@ use Rattle.pages.specs.Written.{Page}
 use Rattle.pages.specs.declared.Written.{Written}
 use Rattle.pages.specs.declared.Written.the-variants.{Text}
 use Rattle.text.specs.declared.Form.the-variants.{Records, Claims}
-use Rattle.text.specs.Entry.{bytesOf}
+use Rattle.text.specs.Entry.{sixBytes}
 use Rattle.text.specs.Text.{Entries}
 use Rattle.text.specs.Either.{readEither}
 use Rattle.sentences.specs.declared.sources.Words.the-variants.{Entry}
@@ -35,7 +35,7 @@ pub record Asks (source words book claim : List ℕ) : Type 0 where
   pub read : readEither Records source ≡ Entries book
   pub entry : Record
   pub worded : wordsOf Claims words ≡ Entry entry
-  pub claim-is : claim ≡ bytesOf Claims entry
+  pub claim-is : claim ≡ sixBytes entry
 
 -- the page of the reply and of steps behind it; which of several chains they are is free
 pub record Why (source words page page′ : List ℕ) (r : Written) : Type 0 where
@@ -66,11 +66,11 @@ pub record OfBook (source book claim page page′ : List ℕ) (end : ℕ) : Type
   pub short : length (whyText source claim (said book claim) chain) ≤ 852835
 
 abbrev pub textOf : (source : List ℕ) → Record → (c : List ℕ) → List ℕ
-textOf source r c = ofBook source (λ book. whyText source (bytesOf Claims r) (said book (bytesOf Claims r)) c)
+textOf source r c = ofBook source (λ book. whyText source (sixBytes r) (said book (sixBytes r)) c)
 
 pub record OfSource (source : List ℕ) (r : Record) (page page′ : List ℕ) (end : ℕ) : Type 0 where
   pub chain : List ℕ
   pub bytes : Bytes chain
-  pub behind : (book : List ℕ) → readEither Records source ≡ Entries book → Behind book (bytesOf Claims r) chain
+  pub behind : (book : List ℕ) → readEither Records source ≡ Entries book → Behind book (sixBytes r) chain
   pub put : Put page 0 (textOf source r chain) page′ end
   pub short : length (textOf source r chain) ≤ 852835

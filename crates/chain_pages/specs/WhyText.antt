@@ -5,7 +5,7 @@ use Rattle.records.specs.Record.{recordAt}
 use Rattle.chain_writing.specs.declared.Reply.{Reply}
 use Rattle.chain_writing.specs.declared.Reply.the-variants.{Answered, Refused}
 use Rattle.text.specs.declared.Form.the-variants.{Claims}
-use Rattle.text.specs.Entry.{bytesOf}
+use Rattle.text.specs.Entry.{sixBytes}
 use Rattle.sentences.specs.Refusals.{refused}
 use Rattle.sentences.specs.Sources.{ofBook}
 use Rattle.sentences.specs.Arguments.{ofWords}
@@ -19,4 +19,4 @@ whyText source claim (Refused r i) c = refused r i source []
 
 -- of the claim that the words say, about the book of a source
 unfoldable pub whyPage : (source words c : List ℕ) → List ℕ
-whyPage source words c = ofWords Claims words (λ r. ofBook source (λ book. whyText source (bytesOf Claims r) (said book (bytesOf Claims r)) c))
+whyPage source words c = ofWords Claims words (λ r. ofBook source (λ book. whyText source (sixBytes r) (said book (sixBytes r)) c))

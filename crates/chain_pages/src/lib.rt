@@ -1,9 +1,9 @@
 // The pages of chains: the one behind an answer, the one behind a contradiction, and whether a page of the first sort passes.
-pub use contradiction::write_contradiction;
+pub use contradicted::write_contradiction;
 pub use verdict::write_verdict;
 pub use why::write_why;
 
-pub mod contradiction;
+pub mod contradicted;
 pub mod verdict;
 pub mod why;
 

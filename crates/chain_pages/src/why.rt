@@ -70,7 +70,7 @@ fn why_source(
     match read {
         Source::Unread(l, reason) => sentences::put_unread(page, 0, sentences::BOOK, l, reason),
         Source::Bytes(n) => {
-            let six = chain_text::reading::claim_bytes(claim);
+            let six = sentences::sources::six_bytes(claim);
             why_book(page, source, &book[..n], &six, e, d, t)
         }
     }

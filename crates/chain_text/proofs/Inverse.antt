@@ -13,8 +13,7 @@ use Rattle.records.specs.declared.Record.{Record}
 use Rattle.records.specs.Record.{recordAt}
 use Rattle.records.specs.Facts.{saying}
 use Rattle.records.specs.Pieces.{stated}
-use Rattle.text.specs.declared.Form.the-variants.{Claims}
-use Rattle.text.specs.Entry.{bytesOf}
+use Rattle.text.specs.Entry.{sixBytes}
 use Rattle.verdicts.specs.declared.Answer.{Answer}
 use Rattle.verdicts.specs.declared.Answer.the-variants.{Open}
 use Rattle.verdicts.specs.Answers.{answerByte}
@@ -33,8 +32,8 @@ never-open : (answer : Answer) (f : Fact) (c : List ℕ) → tells answer f c �
 unfolding tells
 never-open answer f c t e = false≢true (rw e at t)
 
-claim-back : (l : List ℕ) → length l ≡ 6 → Bytes l → bytesOf Claims (recordAt l 0) ≡ l
-unfolding bytesOf recordAt
+claim-back : (l : List ℕ) → length l ≡ 6 → Bytes l → sixBytes (recordAt l 0) ≡ l
+unfolding recordAt
 claim-back l six bytes =
     let whole : l ≡ getD l 0 0 ∷ getD l 1 0 ∷ getD l 2 0 ∷ getD l 3 0 ∷ getD l 4 0 ∷ getD l 5 0 ∷ [] =
     byte-at l 0 1 refl (omega arith)
@@ -79,10 +78,10 @@ module _ (book page : List ℕ) (v : Verified book page) where
   unfolding chainText
   printed = v .page-of .page-is
 
-  pub claim-found : bytesOf Claims (claimIn page) ≡ v .claim
+  pub claim-found : sixBytes (claimIn page) ≡ v .claim
   claim-found =
-      ap (λ (l : List ℕ). bytesOf Claims (claimIn l)) printed
-      ∙ ap (bytesOf Claims) (claim-read claim (v .answer) lined (kinds .0) (kinds .1) (p .choices) (small .0) (small .1) answered)
+      ap (λ (l : List ℕ). sixBytes (claimIn l)) printed
+      ∙ ap sixBytes (claim-read claim (v .answer) lined (kinds .0) (kinds .1) (p .choices) (small .0) (small .1) answered)
       ∙ claim-back (v .claim) (p .six) (v .claim-bytes)
 
   pub answer-found : answerIn page ≡ v .answer
@@ -97,7 +96,7 @@ module _ (book page : List ℕ) (v : Verified book page) where
 
 -- ---- what was read verifies or nothing does
 
-module _ (book page claim chain : List ℕ) (head : Record) (answer : Answer) (next : ℕ) (r : Bool) (h : HeadOf page head answer next) (bytes : claim ≡ bytesOf Claims head)
+module _ (book page claim chain : List ℕ) (head : Record) (answer : Answer) (next : ℕ) (r : Bool) (h : HeadOf page head answer next) (bytes : claim ≡ sixBytes head)
     (read : chain ≡ stepsIn 16400 (drop next page)) (j : Judged book page claim answer chain r) where
   page-verified : r ≡ true → Verified book page
   page-verified t =
@@ -105,7 +104,7 @@ module _ (book page claim chain : List ℕ) (head : Record) (answer : Answer) (n
 
   page-fails : r ≡ false → Verified book page → ⊥
   page-fails f v =
-      let a : v .claim ≡ claim = sym (bytes ∙ ap (bytesOf Claims) (h .claim-is) ∙ claim-found book page v) in
+      let a : v .claim ≡ claim = sym (bytes ∙ ap sixBytes (h .claim-is) ∙ claim-found book page v) in
       let b : v .answer ≡ answer = sym (h .answer-is ∙ answer-found book page v) in
       let c : v .chain ≡ chain = sym (read ∙ ap (stepsIn 16400) (h .left) ∙ chain-found book page v) in
       let found : PageOf book page claim answer chain = rw (← a, ← b, ← c) (v .page-of) in

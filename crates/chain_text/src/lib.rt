@@ -70,7 +70,7 @@ pub fn verify(
     ensures { λ r. ⌜ Verifies (now (book .entry)) (now (page .entry)) r ⌝ }
 {
     let head = reading::read_head(page);
-    let claim = reading::claim_bytes(head.claim);
+    let claim = sentences::sources::six_bytes(head.claim);
     let answer = head.answer;
     let mut c = [0u8; CHAIN_BYTES];
     let n = reading::read_steps(page, head.next, &mut c);

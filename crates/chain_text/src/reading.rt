@@ -3,8 +3,6 @@ ghost use mathlib.Core.Path.{_≡_};
 ghost use Prim.Native.Nat.{_+_, _*_, _≤_, _%_};
 ghost use lib.ListN.{length, take, drop, getD};
 ghost use Rattle.lists.specs.Front.{placed};
-ghost use Rattle.text.specs.Entry.{bytesOf};
-ghost use Rattle.text.specs.declared.Form.the-variants.{Claims};
 ghost use Rattle.chain_text.specs.Read.{valueOf, placeIn, kindBy, ruleIn, originBy, answerBy, stepBytes, stepsIn};
 ghost use Rattle.chain_text.specs.Found.{FoundAt, FoundIf, StepAt, HeadOf};
 use chain_format::Step;
@@ -220,20 +218,4 @@ pub fn read_head(s: &[u8]) -> Head
         answer,
         next,
     }
-}
-
-// The six bytes of a claim.
-pub fn claim_bytes(r: Record) -> [u8; 6]
-    ensures { λ x. ⌜ x ≡ bytesOf Claims r ⌝ }
-{
-    let a = r.a;
-    let b = r.b;
-    [
-        r.kind,
-        r.origin,
-        numbers::low(a),
-        numbers::low(a / 256),
-        numbers::low(b),
-        numbers::low(b / 256),
-    ]
 }

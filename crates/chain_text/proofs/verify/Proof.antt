@@ -10,8 +10,8 @@ use Rattle.chain_text.proofs.verify.Tie as tie
 read-head-requires : tie.Need-read-head-requires
 read-head-requires c κs = search needs
 
-claim-bytes-requires : tie.Need-claim-bytes-requires
-claim-bytes-requires c κs = search needs
+six-bytes-requires : tie.Need-six-bytes-requires
+six-bytes-requires c κs = search needs
 
 slice-aggregate-read-steps : tie.Need-slice-aggregate-read-steps
 slice-aggregate-read-steps c = search needs
@@ -35,14 +35,14 @@ is-page-of-requires : tie.Need-is-page-of-requires
 is-page-of-requires c κs = (sym (slice-aggregate-is-page-of (c .before .before .before .before .before .before .before)), omega (arith, slice-aggregate-is-page-of-2 (c .before .before .before .before .before .before), c .before .before .before .before .before .before .before .before .before .read-steps .ensures .0))
 
 returns : tie.Need-returns
-returns c = page-judged _ _ _ _ _ _ _ _ (c .before .before .before .before .before .before .before .before .before .before .before .before .before .read-head .ensures) (c .before .before .before .before .before .before .before .before .before .before .before .before .claim-bytes .ensures) (c .before .before .before .before .before .before .before .before .before .before .read-steps .ensures .1) (c .is-page-of .ensures)
+returns c = page-judged _ _ _ _ _ _ _ _ (c .before .before .before .before .before .before .before .before .before .before .before .before .before .read-head .ensures) (c .before .before .before .before .before .before .before .before .before .before .before .before .six-bytes .ensures) (c .before .before .before .before .before .before .before .before .before .before .read-steps .ensures .1) (c .is-page-of .ensures)
 
 pub verify-spec : {M : Type 1} → statement M
 verify-spec =
     tie.close
     (tie.spec
     read-head-requires
-    claim-bytes-requires
+    six-bytes-requires
     slice-aggregate-read-steps
     read-steps-requires
     mul-end

@@ -1,9 +1,21 @@
 // The page of `why` without a claim: the chain behind refusal 14, the line of another refusal, or the counts' line.
+ghost use Rattle.pages.specs.Put.{Put};
+ghost use Rattle.chain_format.specs.Step.{steps};
+ghost use Rattle.chain_text.specs.StepLine.{stepLines};
+ghost use Rattle.chain_text.specs.ChainText.{Bytes};
 ghost use Rattle.chain_pages.specs.Clash.{StepsOf, OfBook, Clash};
 use outcomes::Outcome;
 use pages::Written;
 use sentences::sources::Source;
 use text::Form;
+
+// The lines of steps, which are bytes.
+fn put_lines(page: &mut [u8], at: usize, c: &[u8]) -> usize
+    ensures { λ r. ⌜ Put (now (page .entry)) at (stepLines (now (c .entry)) (steps (now (c .entry)))) (now (page .exit)) r ⌝ }
+    ensures { λ r. ⌜ Bytes (now (c .entry)) ⌝ }
+{
+    chain_text::lines::put_steps(page, at, c)
+}
 
 // The lines of a chain behind the contradiction of a book, where it has one.
 fn put_clash(
@@ -19,7 +31,7 @@ fn put_clash(
     let mut c = [0u8; crate::CHAIN_BYTES];
     let written = clash::write_clash(book, &mut c, e, d, t);
     let n = 10 * written.steps;
-    chain_text::lines::put_steps(page, at, &c[..n])
+    put_lines(page, at, &c[..n])
 }
 
 // The text of a book that was read from the source.
