@@ -5,3 +5,4 @@ pub mod Asking
 pub mod Clashes
 pub mod Verdicts
 pub mod WhyVerifies
+pub mod SessionWhy

@@ -2,3 +2,4 @@ pub mod WhyText
 pub mod Why
 pub mod Clash
 pub mod Verdict
+pub mod SessionWhy
