@@ -22,11 +22,10 @@ use Rattle.grids.specs.Loaded.{among}
 use Rattle.grids.specs.Answers.{claimed}
 use Rattle.grids.specs.Sheet.{bySize, gridOutcome, bitFor, Gridded}
 use Rattle.sentences.specs.Refusals as line
-use Rattle.pages.specs.Lines.{lines}
 use Rattle.pages.proofs.Lined.{same-lines}
 use Rattle.book_pages.proofs.Rooms.{grid-width}
 use Rattle.book_pages.specs.Sign.{between, sign, four}
-use Rattle.book_pages.specs.GridText.{tens, ones, digit, heading, headings, signs, row, rows, gridLines, textOf, gridText}
+use Rattle.book_pages.specs.GridText.{tens, ones, digit, heading, headings, signs, row, rows, gridLines, textOf, sheetText}
 
 -- ---- the columns
 
@@ -101,12 +100,12 @@ among-them : (n : ℕ) (f : Fact) → Within n f → among n (left f) (right f) 
 unfolding among
 among-them n f w = rw (lt-ltb (left f) n (w .0), lt-ltb (right f) n (w .1))
 
-module _ (s ls : List ℕ) (o : Outcome) (g : Grids) (d : Gridded s o g) where
-  pub refused : (r : Refusal) (i : ℕ) → o ≡ Refused r i → line.refused r i ls [] ≡ gridText s ls
-  unfolding gridText textOf
+module _ (s source : List ℕ) (o : Outcome) (g : Grids) (d : Gridded s o g) where
+  pub refused : (r : Refusal) (i : ℕ) → o ≡ Refused r i → line.refused r i source [] ≡ sheetText s source
+  unfolding sheetText textOf
   refused r i is = rw (← (d .outcome-is), is)
 
-  pub refused-short : (r : Refusal) (i : ℕ) → o ≡ Refused r i → length (line.refused r i ls []) ≤ 142 → length (gridText s ls) ≤ 4498
+  pub refused-short : (r : Refusal) (i : ℕ) → o ≡ Refused r i → length (line.refused r i source []) ≤ 142 → length (sheetText s source) ≤ 4498
   refused-short r i is h = rw (sym (refused r i is)) (omega arith)
 
   module _ (n x y : ℕ) (is : o ≡ Accepted n x y) where
@@ -122,9 +121,9 @@ module _ (s ls : List ℕ) (o : Outcome) (g : Grids) (d : Gridded s o g) where
         ∙ ap (λ p. bitFor s p f) (sym (d .outcome-is) ∙ is)
         ∙ ap (λ b. b && follows (marked s) n (facts s) f) (among-them n f w)
 
-    pub accepted : gridLines (four (g .part) (g .apart) (g .meets) (g .notpart)) n ≡ gridText s ls
-    unfolding gridText textOf
+    pub accepted : gridLines (four (g .part) (g .apart) (g .meets) (g .notpart)) n ≡ sheetText s source
+    unfolding sheetText textOf
     accepted = same-grid (four (g .part) (g .apart) (g .meets) (g .notpart)) (follows (marked s) n (facts s)) n bits-follow ∙ rw (← (d .outcome-is), is)
 
-    pub accepted-short : length (gridText s ls) ≤ 4498
+    pub accepted-short : length (sheetText s source) ≤ 4498
     accepted-short = rw (sym accepted) (grid-width (four (g .part) (g .apart) (g .meets) (g .notpart)) n small)

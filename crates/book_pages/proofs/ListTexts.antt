@@ -27,7 +27,7 @@ use Rattle.pages.specs.Text.{field}
 use Rattle.pages.specs.Decimal.{decimal}
 use Rattle.pages.proofs.Decimals.{decimal-length}
 use Rattle.pages.proofs.Lined.{lines-length}
-use Rattle.book_pages.specs.ListText.{numberLines, listLines, zeros, textOf, listText}
+use Rattle.book_pages.specs.ListText.{numberLines, listLines, zeros, textOf, catalogText}
 
 -- a row that did not refuse
 past : (b : Bool) (r : Refusal) (l : Listing) (c : Counts) → refuseIf b r l ≡ listing.Written c → l ≡ listing.Written c
@@ -70,12 +70,12 @@ lines-width l few small =
           (λ i h. simp length-append (omega (arith, decimal-length 4 (getD l i 0) (omega (arith, small i))))),
     ))
 
-module _ (s ls : List ℕ) (k g : ℕ) (r : Listing) (l : Lent) (d : Determined s k g zeros r l) where
-  pub refused : (e : Refusal) (i : ℕ) → r ≡ listing.Refused e i → line.refused e i ls [] ≡ listText s ls k g
-  unfolding listText textOf
+module _ (s source : List ℕ) (k g : ℕ) (r : Listing) (l : Lent) (d : Determined s k g zeros r l) where
+  pub refused : (e : Refusal) (i : ℕ) → r ≡ listing.Refused e i → line.refused e i source [] ≡ catalogText s source k g
+  unfolding catalogText textOf
   refused e i is = rw (← (d .0), is)
 
-  pub refused-short : (e : Refusal) (i : ℕ) → r ≡ listing.Refused e i → length (line.refused e i ls []) ≤ 142 → length (listText s ls k g) ≤ 12300
+  pub refused-short : (e : Refusal) (i : ℕ) → r ≡ listing.Refused e i → length (line.refused e i source []) ≤ 142 → length (catalogText s source k g) ≤ 12300
   refused-short e i is h = rw (sym (refused e i is)) (omega arith)
 
   module _ (c : Counts) (is : r ≡ listing.Written c) where
@@ -90,11 +90,11 @@ module _ (s ls : List ℕ) (k g : ℕ) (r : Listing) (l : Lent) (d : Determined 
     unfolding front
     listed-fits = rw fronted (simp length-append (omega (arith, many)))
 
-    pub listed : listLines (take (c .listed) (l .list)) ≡ listText s ls k g
-    unfolding listText textOf
+    pub listed : listLines (take (c .listed) (l .list)) ≡ catalogText s source k g
+    unfolding catalogText textOf
     listed =
         ap listLines (ap (λ n. take n (l .list)) many ∙ ap (take (length (listOf s (c .pieces) k g))) fronted ∙ front-taken (listOf s (c .pieces) k g) (zeros .list))
         ∙ rw (← (d .0), is)
 
-    pub listed-short : length (listLines (take (c .listed) (l .list))) ≤ 12300 → length (listText s ls k g) ≤ 12300
+    pub listed-short : length (listLines (take (c .listed) (l .list))) ≤ 12300 → length (catalogText s source k g) ≤ 12300
     listed-short h = rw (sym listed) h

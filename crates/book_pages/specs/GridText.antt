@@ -14,6 +14,7 @@ use Rattle.pages.specs.Text.{ascii, field, line}
 use Rattle.pages.specs.Decimal.{decimal}
 use Rattle.pages.specs.Lines.{lines}
 use Rattle.sentences.specs.Refusals.{refused}
+use Rattle.sentences.specs.Sources.{ofBook}
 use Rattle.book_pages.specs.Sign.{pick, sign}
 
 -- the two columns of a number below 100: its tens, a space below 10, and its ones
@@ -55,5 +56,8 @@ unfoldable pub textOf : (book source : List ℕ) → Outcome → List ℕ
 textOf book source (Accepted n nodes shadows) = gridLines (follows (marked book) n (facts book)) n
 textOf book source (Refused r i) = refused r i source []
 
-unfoldable pub gridText : (book source : List ℕ) → List ℕ
-gridText book source = textOf book source (gridOutcome book)
+unfoldable pub sheetText : (book source : List ℕ) → List ℕ
+sheetText book source = textOf book source (gridOutcome book)
+
+unfoldable pub gridText : (source : List ℕ) → List ℕ
+gridText source = ofBook source (λ book. sheetText book source)

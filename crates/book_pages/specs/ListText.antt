@@ -9,7 +9,10 @@ use Rattle.catalog.specs.declared.Listing.the-variants.{Written, Refused}
 use Rattle.pages.specs.Text.{ascii, field, line}
 use Rattle.pages.specs.Decimal.{decimal}
 use Rattle.pages.specs.Lines.{lines}
+use Rattle.text.specs.declared.Form.the-variants.{Log}
 use Rattle.sentences.specs.Refusals.{refused}
+use Rattle.sentences.specs.Sources.{ofBook}
+use Rattle.sentences.specs.Arguments.{ofWords}
 
 -- the first n numbers of a list, one a line
 unfoldable pub numberLines : List ℕ → ℕ → List ℕ
@@ -27,5 +30,9 @@ unfoldable pub textOf : (book source : List ℕ) → ℕ → ℕ → Listing →
 textOf book source k g (Written c) = listLines (listOf book (c .pieces) k g)
 textOf book source k g (Refused r i) = refused r i source []
 
-unfoldable pub listText : (book source : List ℕ) → ℕ → ℕ → List ℕ
-listText book source k g = textOf book source k g (outcome book k g zeros)
+unfoldable pub catalogText : (book source : List ℕ) → ℕ → ℕ → List ℕ
+catalogText book source k g = textOf book source k g (outcome book k g zeros)
+
+-- the piece is the one number of the arguments
+unfoldable pub listText : (source : List ℕ) → (k : ℕ) → (words : List ℕ) → List ℕ
+listText source k words = ofWords Log words (λ number. ofBook source (λ book. catalogText book source k (number .a)))

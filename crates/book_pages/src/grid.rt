@@ -8,9 +8,11 @@ ghost use Rattle.pages.specs.Written.{Page};
 ghost use Rattle.book_pages.specs.Sign as by;
 ghost use Rattle.book_pages.specs.Sign.{four};
 ghost use Rattle.book_pages.specs.GridText as text;
-ghost use Rattle.book_pages.specs.GridText.{columns, heading, headings, signs, rows, gridLines, gridText};
+ghost use Rattle.book_pages.specs.GridText.{columns, heading, headings, signs, rows, gridLines, sheetText, gridText};
 use outcomes::Outcome;
 use pages::Written;
+use sentences::sources::Source;
+use text::Form;
 
 // Bit b of row a.
 fn has(grid: &[u64; 64], a: usize, b: usize) -> bool
@@ -218,8 +220,8 @@ fn put_grid(
     p: &mut [u64; 65536],
     q: &mut [u64; 65536],
 ) -> usize
-    ensures { λ r. ⌜ Put (now (page .entry)) 0 (gridText (now (book .entry)) (now (source .entry))) (now (page .exit)) r ⌝ }
-    ensures { λ r. ⌜ length (gridText (now (book .entry)) (now (source .entry))) ≤ 4498 ⌝ }
+    ensures { λ r. ⌜ Put (now (page .entry)) 0 (sheetText (now (book .entry)) (now (source .entry))) (now (page .exit)) r ⌝ }
+    ensures { λ r. ⌜ length (sheetText (now (book .entry)) (now (source .entry))) ≤ 4498 ⌝ }
 {
     let made = grids::grid(book, e, d, t, u, p, q);
     let outcome = made.outcome;
@@ -240,8 +242,7 @@ fn put_grid(
     }
 }
 
-// The grids of the book on one page: 4,498 bytes always serve. Each record may have its line of a text.
-pub fn write_grid(
+fn write_sheet(
     book: &[u8],
     source: &[u8],
     page: &mut [u8],
@@ -252,9 +253,31 @@ pub fn write_grid(
     p: &mut [u64; 65536],
     q: &mut [u64; 65536],
 ) -> Written
-    ensures { λ r. ⌜ Page (now (page .entry)) (gridText (now (book .entry)) (now (source .entry))) (now (page .exit)) r ⌝ }
-    ensures { λ r. ⌜ length (gridText (now (book .entry)) (now (source .entry))) ≤ 4498 ⌝ }
+    ensures { λ r. ⌜ Page (now (page .entry)) (sheetText (now (book .entry)) (now (source .entry))) (now (page .exit)) r ⌝ }
+    ensures { λ r. ⌜ length (sheetText (now (book .entry)) (now (source .entry))) ≤ 4498 ⌝ }
 {
     let end = put_grid(book, source, page, e, d, t, u, p, q);
     pages::finish(page.len(), end)
+}
+
+// The grids of the book on one page: 4,498 bytes always serve.
+pub fn write_grid(
+    source: &[u8],
+    page: &mut [u8],
+    e: &mut [u64; 65536],
+    d: &mut [u64; 65536],
+    t: &mut [u64; 65536],
+    u: &mut [u64; 65536],
+    p: &mut [u64; 65536],
+    q: &mut [u64; 65536],
+) -> Written
+    ensures { λ r. ⌜ Page (now (page .entry)) (gridText (now (source .entry))) (now (page .exit)) r ⌝ }
+    ensures { λ r. ⌜ length (gridText (now (source .entry))) ≤ 4498 ⌝ }
+{
+    let mut book = [0u8; 49158];
+    let read = sentences::sources::read_source(Form::Records, source, &mut book);
+    match read {
+        Source::Unread(bad, reason) => sentences::write_unread(page, sentences::BOOK, bad, reason),
+        Source::Bytes(n) => write_sheet(&book[..n], source, page, e, d, t, u, p, q),
+    }
 }

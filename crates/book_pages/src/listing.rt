@@ -3,9 +3,13 @@ ghost use Prim.Native.Nat.{_≤_};
 ghost use lib.ListN.{length};
 ghost use Rattle.pages.specs.Put.{Put};
 ghost use Rattle.pages.specs.Written.{Page};
-ghost use Rattle.book_pages.specs.ListText.{numberLines, listLines, listText};
+ghost use Rattle.sentences.specs.Sources.{ofBook};
+ghost use Rattle.book_pages.specs.ListText.{numberLines, listLines, catalogText, listText};
 use catalog::Listing;
 use pages::Written;
+use sentences::sources::Source;
+use sentences::sources::Words;
+use text::Form;
 
 // The numbers of a list, one a line.
 fn put_numbers(page: &mut [u8], at: usize, list: &[u16]) -> usize
@@ -42,8 +46,8 @@ fn put_catalog(
     d: &mut [u64; 65536],
     t: &mut [u64; 65536],
 ) -> usize
-    ensures { λ r. ⌜ Put (now (page .entry)) 0 (listText (now (book .entry)) (now (source .entry)) kind g) (now (page .exit)) r ⌝ }
-    ensures { λ r. ⌜ length (listText (now (book .entry)) (now (source .entry)) kind g) ≤ 12300 ⌝ }
+    ensures { λ r. ⌜ Put (now (page .entry)) 0 (catalogText (now (book .entry)) (now (source .entry)) kind g) (now (page .exit)) r ⌝ }
+    ensures { λ r. ⌜ length (catalogText (now (book .entry)) (now (source .entry)) kind g) ≤ 12300 ⌝ }
 {
     let mut parens = [0u8; 2560];
     let mut marks = [0u8; 1280];
@@ -84,9 +88,7 @@ fn put_catalog(
     }
 }
 
-// The pieces x of which the claim of a kind 1 to 3 about x and g follows, on a page: 12,300 bytes always serve. Each record may have its line of a
-// text.
-pub fn write_list(
+fn write_catalog(
     book: &[u8],
     source: &[u8],
     kind: usize,
@@ -96,9 +98,50 @@ pub fn write_list(
     d: &mut [u64; 65536],
     t: &mut [u64; 65536],
 ) -> Written
-    ensures { λ r. ⌜ Page (now (page .entry)) (listText (now (book .entry)) (now (source .entry)) kind g) (now (page .exit)) r ⌝ }
-    ensures { λ r. ⌜ length (listText (now (book .entry)) (now (source .entry)) kind g) ≤ 12300 ⌝ }
+    ensures { λ r. ⌜ Page (now (page .entry)) (catalogText (now (book .entry)) (now (source .entry)) kind g) (now (page .exit)) r ⌝ }
+    ensures { λ r. ⌜ length (catalogText (now (book .entry)) (now (source .entry)) kind g) ≤ 12300 ⌝ }
 {
     let end = put_catalog(book, source, kind, g, page, e, d, t);
     pages::finish(page.len(), end)
+}
+
+// The same of a source.
+fn write_pieces(
+    source: &[u8],
+    kind: usize,
+    g: usize,
+    page: &mut [u8],
+    e: &mut [u64; 65536],
+    d: &mut [u64; 65536],
+    t: &mut [u64; 65536],
+) -> Written
+    ensures { λ r. ⌜ Page (now (page .entry)) (ofBook (now (source .entry)) (λ book. catalogText book (now (source .entry)) kind g)) (now (page .exit)) r ⌝ }
+    ensures { λ r. ⌜ length (ofBook (now (source .entry)) (λ book. catalogText book (now (source .entry)) kind g)) ≤ 12300 ⌝ }
+{
+    let mut book = [0u8; 49158];
+    let read = sentences::sources::read_source(Form::Records, source, &mut book);
+    match read {
+        Source::Unread(bad, reason) => sentences::write_unread(page, sentences::BOOK, bad, reason),
+        Source::Bytes(n) => write_catalog(&book[..n], source, kind, g, page, e, d, t),
+    }
+}
+
+// The pieces x of which the claim of a kind 1 to 3 about x and the piece in the words follows, on a page: 12,300 bytes always serve.
+pub fn write_list(
+    source: &[u8],
+    kind: usize,
+    words: &[u8],
+    page: &mut [u8],
+    e: &mut [u64; 65536],
+    d: &mut [u64; 65536],
+    t: &mut [u64; 65536],
+) -> Written
+    ensures { λ r. ⌜ Page (now (page .entry)) (listText (now (source .entry)) kind (now (words .entry))) (now (page .exit)) r ⌝ }
+    ensures { λ r. ⌜ length (listText (now (source .entry)) kind (now (words .entry))) ≤ 12300 ⌝ }
+{
+    let said = sentences::sources::read_words(Form::Log, words);
+    match said {
+        Words::Wrong(reason) => sentences::write_unread(page, sentences::WORDS, 0, reason),
+        Words::Entry(number) => write_pieces(source, kind, number.a, page, e, d, t),
+    }
 }

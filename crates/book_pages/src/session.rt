@@ -1,12 +1,20 @@
-// The pages of `ask` and `check`: document 01's session, with the sentence of a refusal.
+// The pages of `check` and `ask`: document 01's session, with the sentence of a refusal.
+ghost use mathlib.Core.List.{[]};
+ghost use Prim.Native.Nat.{_+_, _*_, _≤_};
+ghost use lib.ListN.{length};
+ghost use Rattle.records.specs.Record.{records};
 ghost use Rattle.pages.specs.Put.{Put};
 ghost use Rattle.pages.specs.Written.{Page};
-ghost use Rattle.book_pages.specs.AskText.{askText, Short};
+ghost use Rattle.sentences.specs.Sources.{ofBook, ofClaims};
+ghost use Rattle.book_pages.specs.AskText.{sessionText, checkText, askText, askWordsText};
 use outcomes::Outcome;
 use pages::Written;
+use sentences::sources::Source;
+use sentences::sources::Words;
+use text::Form;
 
 // The text of the call's outcome, from the start of the page. Answers where it ends.
-fn put_ask(
+fn put_session(
     book: &[u8],
     claims: &[u8],
     source: &[u8],
@@ -19,8 +27,9 @@ fn put_ask(
     p: &mut [u64; 65536],
     q: &mut [u64; 65536],
 ) -> usize
-    ensures { λ r. ⌜ Put (now (page .entry)) 0 (askText (now (book .entry)) (now (claims .entry)) (now (source .entry)) (now (other .entry))) (now (page .exit)) r ⌝ }
-    ensures { λ r. ⌜ Short (now (book .entry)) (now (claims .entry)) (now (source .entry)) (now (other .entry)) ⌝ }
+    requires { ⌜ length (now claims) ≤ 24582 ⌝ }
+    ensures { λ r. ⌜ Put (now (page .entry)) 0 (sessionText (now (book .entry)) (now (claims .entry)) (now (source .entry)) (now (other .entry))) (now (page .exit)) r ⌝ }
+    ensures { λ r. ⌜ length (sessionText (now (book .entry)) (now (claims .entry)) (now (source .entry)) (now (other .entry))) ≤ 142 + 33 * records (now (claims .entry)) ⌝ }
 {
     let mut answers = [0u8; 4097];
     let outcome = report::answer(book, claims, &mut answers, e, d, t, u, p, q);
@@ -40,9 +49,7 @@ fn put_ask(
     }
 }
 
-// The answers to the claims about the book on a page: 142 bytes and 33 a claim always serve, with up to 10,000 claims. Each record and each claim
-// may have its line of a text.
-pub fn write_ask(
+fn write_session(
     book: &[u8],
     claims: &[u8],
     source: &[u8],
@@ -55,9 +62,154 @@ pub fn write_ask(
     p: &mut [u64; 65536],
     q: &mut [u64; 65536],
 ) -> Written
-    ensures { λ r. ⌜ Page (now (page .entry)) (askText (now (book .entry)) (now (claims .entry)) (now (source .entry)) (now (other .entry))) (now (page .exit)) r ⌝ }
-    ensures { λ r. ⌜ Short (now (book .entry)) (now (claims .entry)) (now (source .entry)) (now (other .entry)) ⌝ }
+    requires { ⌜ length (now claims) ≤ 24582 ⌝ }
+    ensures { λ r. ⌜ Page (now (page .entry)) (sessionText (now (book .entry)) (now (claims .entry)) (now (source .entry)) (now (other .entry))) (now (page .exit)) r ⌝ }
+    ensures { λ r. ⌜ length (sessionText (now (book .entry)) (now (claims .entry)) (now (source .entry)) (now (other .entry))) ≤ 142 + 33 * records (now (claims .entry)) ⌝ }
 {
-    let end = put_ask(book, claims, source, other, page, e, d, t, u, p, q);
+    let end = put_session(book, claims, source, other, page, e, d, t, u, p, q);
     pages::finish(page.len(), end)
+}
+
+// The answers about a book to the claims of a source.
+fn write_answers(
+    book: &[u8],
+    source: &[u8],
+    claims: &[u8],
+    page: &mut [u8],
+    e: &mut [u64; 65536],
+    d: &mut [u64; 65536],
+    t: &mut [u64; 65536],
+    u: &mut [u64; 65536],
+    p: &mut [u64; 65536],
+    q: &mut [u64; 65536],
+) -> Written
+    ensures { λ r. ⌜ Page (now (page .entry)) (ofClaims (now (claims .entry)) (λ asked. sessionText (now (book .entry)) asked (now (source .entry)) (now (claims .entry)))) (now (page .exit)) r ⌝ }
+    ensures { λ r. ⌜ length (ofClaims (now (claims .entry)) (λ asked. sessionText (now (book .entry)) asked (now (source .entry)) (now (claims .entry)))) ≤ 135343 ⌝ }
+{
+    let mut asked = [0u8; 24582];
+    let read = sentences::sources::read_source(Form::Claims, claims, &mut asked);
+    match read {
+        Source::Unread(bad, reason) => sentences::write_unread(
+            page,
+            sentences::CLAIMS,
+            bad,
+            reason,
+        ),
+        Source::Bytes(n) => write_session(
+            book,
+            &asked[..n],
+            source,
+            claims,
+            page,
+            e,
+            d,
+            t,
+            u,
+            p,
+            q,
+        ),
+    }
+}
+
+// The answers to the claims about the book: 135,343 bytes always serve.
+pub fn write_ask(
+    source: &[u8],
+    claims: &[u8],
+    page: &mut [u8],
+    e: &mut [u64; 65536],
+    d: &mut [u64; 65536],
+    t: &mut [u64; 65536],
+    u: &mut [u64; 65536],
+    p: &mut [u64; 65536],
+    q: &mut [u64; 65536],
+) -> Written
+    ensures { λ r. ⌜ Page (now (page .entry)) (askText (now (source .entry)) (now (claims .entry))) (now (page .exit)) r ⌝ }
+    ensures { λ r. ⌜ length (askText (now (source .entry)) (now (claims .entry))) ≤ 135343 ⌝ }
+{
+    let mut book = [0u8; 49158];
+    let read = sentences::sources::read_source(Form::Records, source, &mut book);
+    match read {
+        Source::Unread(bad, reason) => sentences::write_unread(page, sentences::BOOK, bad, reason),
+        Source::Bytes(n) => write_answers(&book[..n], source, claims, page, e, d, t, u, p, q),
+    }
+}
+
+// The answer about a source to one claim, or to none.
+fn write_about(
+    source: &[u8],
+    claims: &[u8],
+    page: &mut [u8],
+    e: &mut [u64; 65536],
+    d: &mut [u64; 65536],
+    t: &mut [u64; 65536],
+    u: &mut [u64; 65536],
+    p: &mut [u64; 65536],
+    q: &mut [u64; 65536],
+) -> Written
+    requires { ⌜ length (now claims) ≤ 24582 ⌝ }
+    ensures { λ r. ⌜ Page (now (page .entry)) (ofBook (now (source .entry)) (λ book. sessionText book (now (claims .entry)) (now (source .entry)) [])) (now (page .exit)) r ⌝ }
+    ensures { λ r. ⌜ length (ofBook (now (source .entry)) (λ book. sessionText book (now (claims .entry)) (now (source .entry)) [])) ≤ 142 + 33 * records (now (claims .entry)) ⌝ }
+{
+    let mut book = [0u8; 49158];
+    let none = [0u8; 0];
+    let read = sentences::sources::read_source(Form::Records, source, &mut book);
+    match read {
+        Source::Unread(bad, reason) => sentences::write_unread(page, sentences::BOOK, bad, reason),
+        Source::Bytes(n) => write_session(
+            &book[..n],
+            claims,
+            source,
+            &none,
+            page,
+            e,
+            d,
+            t,
+            u,
+            p,
+            q,
+        ),
+    }
+}
+
+// The counts of the book: 142 bytes always serve.
+pub fn write_check(
+    source: &[u8],
+    page: &mut [u8],
+    e: &mut [u64; 65536],
+    d: &mut [u64; 65536],
+    t: &mut [u64; 65536],
+    u: &mut [u64; 65536],
+    p: &mut [u64; 65536],
+    q: &mut [u64; 65536],
+) -> Written
+    ensures { λ r. ⌜ Page (now (page .entry)) (checkText (now (source .entry))) (now (page .exit)) r ⌝ }
+    ensures { λ r. ⌜ length (checkText (now (source .entry))) ≤ 142 ⌝ }
+{
+    let none = [0u8; 0];
+    write_about(source, &none, page, e, d, t, u, p, q)
+}
+
+// The answer to the claim in the words: 175 bytes always serve.
+pub fn write_ask_words(
+    source: &[u8],
+    words: &[u8],
+    page: &mut [u8],
+    e: &mut [u64; 65536],
+    d: &mut [u64; 65536],
+    t: &mut [u64; 65536],
+    u: &mut [u64; 65536],
+    p: &mut [u64; 65536],
+    q: &mut [u64; 65536],
+) -> Written
+    ensures { λ r. ⌜ Page (now (page .entry)) (askWordsText (now (source .entry)) (now (words .entry))) (now (page .exit)) r ⌝ }
+    ensures { λ r. ⌜ length (askWordsText (now (source .entry)) (now (words .entry))) ≤ 175 ⌝ }
+{
+    let said = sentences::sources::read_words(Form::Claims, words);
+    match said {
+        Words::Wrong(reason) => sentences::write_unread(page, sentences::CLAIM_WORDS, 0, reason),
+        Words::Entry(claim) => {
+            let six = sentences::sources::six_bytes(claim);
+            write_about(source, &six, page, e, d, t, u, p, q)
+        }
+    }
 }

@@ -23,9 +23,9 @@ use Rattle.sentences.specs.declared.sources.Words.the-variants.{Entry, W
 use Rattle.sentences.proofs.Readings.{of-read, of-unread}
 use Rattle.sentences.proofs.Arguments.{of-entry, of-wrong}
 
--- a text from the start of a page, of at most so many bytes
-abbrev pub Told : ℕ → (page text page′ : List ℕ) → ℕ → Type 0
-Told most page text page′ end = Put page 0 text page′ end × (length text ≤ most)
+-- a page of a text of at most so many bytes
+abbrev pub Paged : ℕ → (page text page′ : List ℕ) → Written → Type 0
+Paged most page text page′ r = Page page text page′ r × (length text ≤ most)
 
 -- ---- what a reading took, by its answer
 
@@ -37,28 +37,26 @@ took-unread x out r l number e t = subst (Took x out) e t
 
 -- ---- texts by another name
 
-module _ {most : ℕ} {p q : List ℕ} {e : ℕ} where
-  pub told-as : {s t : List ℕ} → s ≡ t → Told most p s q e → Told most p t q e
-  told-as {s} {t} same a = subst (λ x. Told most p x q e) same a
+pub put-page : (most : ℕ) (p s q : List ℕ) (e : ℕ) (r : Written) → Put p 0 s q e × (length s ≤ most) → r ≡ writtenAt (length q) e → Paged most p s q r
+put-page most p s q e r a is = (write-page r (a .0) is, a .1)
 
-  pub told-below : {s : List ℕ} (n : ℕ) → most ≤ n → Told most p s q e → Told n p s q e
-  told-below n h a = (a .0, omega (arith, a .1))
-
-  -- the page that is written of it
-  pub told-page : {s : List ℕ} (r : Written) → Told most p s q e → r ≡ writtenAt (length q) e → Page p s q r × (length s ≤ most)
-  told-page r a is = (write-page r (a .0) is, a .1)
+module _ (most : ℕ) (p q : List ℕ) (r : Written) where
+  pub page-as : (s t : List ℕ) → s ≡ t → Paged most p s q r → Paged most p t q r
+  page-as s t same a = subst (λ x. Paged most p x q r) same a
 
   module _ (whom : ℕ) (form : Form) (source : List ℕ) (text : List ℕ → List ℕ) where
-    pub told-read : {bytes : List ℕ} → readEither form source ≡ Entries bytes → Told most p (text bytes) q e → Told most p (ofSource whom form source text) q e
-    told-read {bytes} is a = told-as (of-read whom form source text bytes is) a
+    pub page-read : {bytes : List ℕ} → readEither form source ≡ Entries bytes → Paged most p (text bytes) q r → Paged most p (ofSource whom form source text) q r
+    page-read {bytes} is a = page-as (text bytes) (ofSource whom form source text) (of-read whom form source text bytes is) a
 
-    pub told-unread : {l number : ℕ} → Breaks (readEither form source) l number → Told most p (unreadLine whom l number) q e
-        → Told most p (ofSource whom form source text) q e
-    told-unread {l} {number} b a = told-as (of-unread whom form source text l number b) a
+    -- 95 bytes always serve for what cannot be read
+    pub page-unread : {l number : ℕ} → 95 ≤ most → Breaks (readEither form source) l number → Paged 95 p (unreadLine whom l number) q r
+        → Paged most p (ofSource whom form source text) q r
+    page-unread {l} {number} h b a = page-as (unreadLine whom l number) (ofSource whom form source text) (of-unread whom form source text l number b) (a .0, omega (arith, a .1))
 
   module _ (form : Form) (words : List ℕ) (text : Record → List ℕ) {w : Words} (is : w ≡ wordsOf form words) where
-    pub told-entry : {r : Record} → w ≡ Entry r → Told most p (text r) q e → Told most p (ofWords form words text) q e
-    told-entry {r} said a = told-as (of-entry form words text w is r said) a
+    pub page-entry : {said : Record} → w ≡ Entry said → Paged most p (text said) q r → Paged most p (ofWords form words text) q r
+    page-entry {said} so a = page-as (text said) (ofWords form words text) (of-entry form words text w is said so) a
 
-    pub told-wrong : {reason : ℕ} → w ≡ Wrong reason → Told most p (unreadLine (speaker form) 0 reason) q e → Told most p (ofWords form words text) q e
-    told-wrong {reason} said a = told-as (of-wrong form words text w is reason said) a
+    pub page-wrong : {reason : ℕ} → 95 ≤ most → w ≡ Wrong reason → Paged 95 p (unreadLine (speaker form) 0 reason) q r
+        → Paged most p (ofWords form words text) q r
+    page-wrong {reason} h so a = page-as (unreadLine (speaker form) 0 reason) (ofWords form words text) (of-wrong form words text w is reason so) (a .0, omega (arith, a .1))

@@ -5,10 +5,12 @@ ghost use Prim.Native.Nat.{_≤_};
 ghost use lib.ListN.{length};
 ghost use Rattle.pages.specs.Text.{field};
 ghost use Rattle.pages.specs.Put.{Put};
+ghost use Rattle.pages.specs.Written.{Page};
 ghost use Rattle.sentences.specs.Words.{kindName, answerName, agreementName};
 ghost use Rattle.sentences.specs.Refusals.{sentence, refusalLine, lineOf, refused};
 ghost use Rattle.sentences.specs.Unread as unread;
 ghost use Rattle.sentences.specs.Unread.{prefix, reasonOf, unreadLine};
+use pages::Written;
 use records::Refusal;
 
 pub mod sources;
@@ -186,4 +188,13 @@ pub fn put_unread(page: &mut [u8], at: usize, source: usize, bad: usize, reason:
     let at = pages::put(page, at, b"line ");
     let at = pages::put_number(page, at, bad, b' ');
     put_reason(page, at, source, reason)
+}
+
+// The same on a page of its own: 95 bytes always serve.
+pub fn write_unread(page: &mut [u8], source: usize, bad: usize, reason: usize) -> Written
+    ensures { λ r. ⌜ Page (now (page .entry)) (unreadLine source bad reason) (now (page .exit)) r ⌝ }
+    ensures { λ r. ⌜ length (unreadLine source bad reason) ≤ 95 ⌝ }
+{
+    let end = put_unread(page, 0, source, bad, reason);
+    pages::finish(page.len(), end)
 }

@@ -1,21 +1,64 @@
--- `session::write_ask` meets its contract. Assumes nothing.
+-- `book_pages::write_ask` meets its contract. Assumes nothing.
 use native.Mathlib.Omega.{arith}
 use borrow.Author.Needs.{needs}
-use Rattle.pages.proofs.Writing.{write-page}
+use mathlib.Core.Path.{sym}
+use lib.Seq.{length-take-le}
+use Rattle.sentences.proofs.Tellings.{took-bytes, took-unread, page-read, page-unread}
+use Rattle.book_pages.specs.AskText.{askText}
 use Rattle.book_pages.proofs.session.write_ask.Statement.{statement}
 use Rattle.book_pages.proofs.session.write_ask.Tie as tie
 
-put-ask-requires : tie.Need-put-ask-requires
-put-ask-requires c κs = search needs
+slice-aggregate-read-source : tie.Need-slice-aggregate-read-source
+slice-aggregate-read-source c = search needs
 
-finish-requires : tie.Need-finish-requires
-finish-requires c κs = search needs
+read-source-requires : tie.Need-read-source-requires
+read-source-requires c κs = search needs
+
+enum-known-read : tie.Need-enum-known-read
+enum-known-read c = search needs
+
+write-unread-requires : tie.Need-write-unread-requires
+write-unread-requires c κs = search needs
+
+enum-known-read-2 : tie.Need-enum-known-read-2
+enum-known-read-2 c = search needs
+
+array-share-prefix-book : tie.Need-array-share-prefix-book
+array-share-prefix-book c = took-bytes _ _ _ _ (c .before .read2 .given .1) (c .before .before .before .before .read-source .ensures) .0
+
+slice-aggregate-write-answers : tie.Need-slice-aggregate-write-answers
+slice-aggregate-write-answers c = sym (length-take-le _ _ (took-bytes _ _ _ _ (c .before .before .read2 .given .1) (c .before .before .before .before .before .read-source .ensures) .0))
+
+write-answers-requires : tie.Need-write-answers-requires
+write-answers-requires c κs = search needs
 
 same-length : tie.Need-same-length
 same-length c = search needs
 
 returns : tie.Need-returns
-returns c = (write-page _ (c .before .before .before .put-ask .ensures .0) (c .finish .ensures), c .before .before .before .put-ask .ensures .1)
+unfolding askText
+returns c = page-unread _ _ _ (c .before .before .write-unread .result) _ _ _ _ (omega arith) (took-unread _ _ _ _ _ (c .before .before .before .before .before .read .given .1) (c .before .before .before .before .before .before .before .before .read-source .ensures)) (c .before .before .write-unread .ensures)
+
+same-length-2 : tie.Need-same-length-2
+same-length-2 c = search needs
+
+returns-2 : tie.Need-returns-2
+unfolding askText
+returns-2 c = page-read _ _ _ (c .before .before .write-answers .result) _ _ _ _ (took-bytes _ _ _ _ (c .before .before .before .before .before .before .before .before .before .before .before .before .read2 .given .1) (c .before .before .before .before .before .before .before .before .before .before .before .before .before .before .before .read-source .ensures) .1) (c .before .before .write-answers .ensures)
 
 pub write-ask-spec : {M : Type 1} → statement M
-write-ask-spec = tie.close (tie.spec put-ask-requires finish-requires same-length returns)
+write-ask-spec =
+    tie.close
+    (tie.spec
+    slice-aggregate-read-source
+    read-source-requires
+    enum-known-read
+    write-unread-requires
+    enum-known-read-2
+    array-share-prefix-book
+    slice-aggregate-write-answers
+    write-answers-requires
+    same-length
+    returns
+    same-length-2
+    returns-2)
