@@ -24,7 +24,7 @@ use Rattle.text.specs.Either.{readEither}
 use Rattle.sentences.specs.Unread.{unreadLine}
 use Rattle.sentences.specs.Refusals.{refused}
 use Rattle.sentences.specs.Sources.{Breaks}
-use Rattle.sentences.proofs.Tellings.{Told, told-below, told-read, told-unread, told-page}
+use Rattle.sentences.proofs.Tellings.{Paged, put-page, page-read, page-unread}
 use Rattle.report.specs.Session.{countsLine}
 use Rattle.report.proofs.Rooms.{counts-width}
 use Rattle.chain_text.specs.StepLine.{stepLines}
@@ -97,18 +97,19 @@ module _ (source book : List ℕ) (o : Outcome) (comes : o ≡ freshCall book []
 abbrev of : List ℕ → List ℕ → List ℕ → List ℕ
 of source c book = clashText source (freshCall book []) c
 
-module _ (source : List ℕ) {page page′ : List ℕ} {end : ℕ} (x : laid.Written) (finished : x ≡ writtenAt (length page′) end) where
-  pub clash-unread : (l number : ℕ) → Breaks (readEither Records source) l number → Told 95 page (unreadLine 0 l number) page′ end → Clash source page page′ x
+module _ (source : List ℕ) {page page′ : List ℕ} (x : laid.Written) where
+  pub clash-unread : (l number : ℕ) → Breaks (readEither Records source) l number → Paged 95 page (unreadLine 0 l number) page′ x → Clash source page page′ x
   unfolding clashPage
   clash-unread l number b t =
-      let p = told-page x (told-unread 0 Records source (of source []) b (told-below 852942 (omega arith) t)) finished in
+      let p : Paged 852942 page (clashPage source []) page′ x = page-unread 852942 page page′ x 0 Records source (of source []) (omega arith) b t in
       record { chain = []; bytes = no-bytes; behind = λ book e. absurd (not-read _ l number book b e); page-is = p .0; short = p .1 }
 
-  pub clash-read : (book : List ℕ) → readEither Records source ≡ Entries book → OfBook source book page page′ end → Clash source page page′ x
+  pub clash-read : (book : List ℕ) (end : ℕ) → x ≡ writtenAt (length page′) end → readEither Records source ≡ Entries book → OfBook source book page page′ end
+      → Clash source page page′ x
   unfolding clashPage
-  clash-read book e o =
-      let told : Told 852942 page (of source (o .chain) book) page′ end = (o .put, o .short) in
-      let p = told-page x (told-read 0 Records source (of source (o .chain)) e told) finished in
+  clash-read book end finished e o =
+      let told : Paged 852942 page (of source (o .chain) book) page′ x = put-page 852942 page _ page′ end x (o .put, o .short) finished in
+      let p : Paged 852942 page (clashPage source (o .chain)) page′ x = page-read 852942 page page′ x 0 Records source (of source (o .chain)) e told in
       record {
         chain = o .chain;
         bytes = o .bytes;

@@ -92,14 +92,16 @@ steps-pass = (refl, refl)
 
 pub session-why : SessionWhy
 unfolding whyText
-session-why =
-    (pages-read .0 ∙ ap (λ x. whyText sessionBook partClaim x partSteps) (answers-said .0) ∙ texts .0,
-     pages-read .1 ∙ ap (λ x. whyText sessionBook notpartClaim x notpartSteps) (answers-said .1) ∙ texts .1)
+session-why = (
+  pages-read .0 ∙ ap (λ x. whyText sessionBook partClaim x partSteps) (answers-said .0) ∙ texts .0,
+  pages-read .1 ∙ ap (λ x. whyText sessionBook notpartClaim x notpartSteps) (answers-said .1) ∙ texts .1,
+)
 
 pub session-verified : SessionVerified
 unfolding allBytes
-session-verified =
-    (subst (Verified sessionBook) (texts .0)
-    (answer-verifies sessionBook partClaim partSteps Follows (bytes-all partClaim refl) (bytes-all partSteps refl) (answers-said .0) (steps-pass .0)),
-     subst (Verified sessionBook) (texts .1)
-    (answer-verifies sessionBook notpartClaim notpartSteps Denied (bytes-all notpartClaim refl) (bytes-all notpartSteps refl) (answers-said .1) (steps-pass .1)))
+session-verified = (
+  subst (Verified sessionBook) (texts .0)
+      (answer-verifies sessionBook partClaim partSteps Follows (bytes-all partClaim refl) (bytes-all partSteps refl) (answers-said .0) (steps-pass .0)),
+  subst (Verified sessionBook) (texts .1)
+      (answer-verifies sessionBook notpartClaim notpartSteps Denied (bytes-all notpartClaim refl) (bytes-all notpartSteps refl) (answers-said .1) (steps-pass .1)),
+)

@@ -10,7 +10,6 @@ use Rattle.chain_check.specs.Call.{passes}
 use Rattle.chain_writing.specs.Call.{shown}
 use Rattle.chain_writing.specs.declared.Reply.{Reply}
 use Rattle.chain_writing.specs.declared.Reply.the-variants.{Answered}
-use Rattle.pages.specs.Put.{Put}
 use Rattle.pages.specs.Written.{Page}
 use Rattle.pages.specs.declared.Written.{Written}
 use Rattle.pages.specs.declared.Written.the-variants.{Text}
@@ -58,19 +57,19 @@ WhyVerifies =
 abbrev pub Whole : List ℕ → Reply → Type 0
 Whole claim r = (a : Answer) → r ≡ Answered a → length claim ≡ 6
 
-pub record OfBook (source book claim page page′ : List ℕ) (end : ℕ) : Type 0 where
+pub record OfBook (source book claim page page′ : List ℕ) (r : Written) : Type 0 where
   pub chain : List ℕ
   pub bytes : Bytes chain
   pub behind : Behind book claim chain
-  pub put : Put page 0 (whyText source claim (said book claim) chain) page′ end
+  pub page-is : Page page (whyText source claim (said book claim) chain) page′ r
   pub short : length (whyText source claim (said book claim) chain) ≤ 852835
 
 abbrev pub textOf : (source : List ℕ) → Record → (c : List ℕ) → List ℕ
 textOf source r c = ofBook source (λ book. whyText source (sixBytes r) (said book (sixBytes r)) c)
 
-pub record OfSource (source : List ℕ) (r : Record) (page page′ : List ℕ) (end : ℕ) : Type 0 where
+pub record OfSource (source : List ℕ) (entry : Record) (page page′ : List ℕ) (r : Written) : Type 0 where
   pub chain : List ℕ
   pub bytes : Bytes chain
-  pub behind : (book : List ℕ) → readEither Records source ≡ Entries book → Behind book (sixBytes r) chain
-  pub put : Put page 0 (textOf source r chain) page′ end
-  pub short : length (textOf source r chain) ≤ 852835
+  pub behind : (book : List ℕ) → readEither Records source ≡ Entries book → Behind book (sixBytes entry) chain
+  pub page-is : Page page (textOf source entry chain) page′ r
+  pub short : length (textOf source entry chain) ≤ 852835

@@ -80,10 +80,7 @@ pub fn write_contradiction(
     let mut book = [0u8; crate::BOOK_BYTES];
     let read = sentences::sources::read_source(Form::Records, source, &mut book);
     match read {
-        Source::Unread(l, reason) => {
-            let end = sentences::put_unread(page, 0, sentences::BOOK, l, reason);
-            pages::finish(page.len(), end)
-        }
+        Source::Unread(l, reason) => sentences::write_unread(page, sentences::BOOK, l, reason),
         Source::Bytes(n) => {
             let end = clash_book(page, source, &book[..n], e, d, t, u, p, q);
             pages::finish(page.len(), end)

@@ -31,10 +31,7 @@ pub fn write_verdict(
     let mut book = [0u8; crate::BOOK_BYTES];
     let read = sentences::sources::read_source(Form::Records, source, &mut book);
     match read {
-        Source::Unread(l, reason) => {
-            let end = sentences::put_unread(page, 0, sentences::BOOK, l, reason);
-            pages::finish(page.len(), end)
-        }
+        Source::Unread(l, reason) => sentences::write_unread(page, sentences::BOOK, l, reason),
         Source::Bytes(n) => {
             let passes = chain_text::verify(&book[..n], chain, e, d, t, u, p, q);
             let end = put_verdict(page, passes);

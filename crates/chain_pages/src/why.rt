@@ -35,7 +35,7 @@ fn put_why(page: &mut [u8], source: &[u8], claim: &[u8], reply: Reply, c: &[u8])
     }
 }
 
-// The text of the answer to the one claim about the book, and of a chain behind it. The book was read from the source.
+// The page of the answer to the one claim about the book, and of a chain behind it. The book was read from the source.
 fn why_book(
     page: &mut [u8],
     source: &[u8],
@@ -44,14 +44,15 @@ fn why_book(
     e: &mut [u64; 65536],
     d: &mut [u64; 65536],
     t: &mut [u64; 65536],
-) -> usize
+) -> Written
     ensures { λ r. ⌜ OfBook (now (source .entry)) (now (book .entry)) (now (claim .entry)) (now (page .entry)) (now (page .exit)) r ⌝ }
 {
     let mut c = [0u8; crate::CHAIN_BYTES];
     let written = chain_writing::write_chain(book, claim, &mut c, e, d, t);
     let reply = written.reply;
     let n = 10 * written.steps;
-    put_why(page, source, claim, reply, &c[..n])
+    let end = put_why(page, source, claim, reply, &c[..n]);
+    pages::finish(page.len(), end)
 }
 
 // The same for the book of a source.
@@ -62,13 +63,13 @@ fn why_source(
     e: &mut [u64; 65536],
     d: &mut [u64; 65536],
     t: &mut [u64; 65536],
-) -> usize
+) -> Written
     ensures { λ r. ⌜ OfSource (now (source .entry)) claim (now (page .entry)) (now (page .exit)) r ⌝ }
 {
     let mut book = [0u8; crate::BOOK_BYTES];
     let read = sentences::sources::read_source(Form::Records, source, &mut book);
     match read {
-        Source::Unread(l, reason) => sentences::put_unread(page, 0, sentences::BOOK, l, reason),
+        Source::Unread(l, reason) => sentences::write_unread(page, sentences::BOOK, l, reason),
         Source::Bytes(n) => {
             let six = sentences::sources::six_bytes(claim);
             why_book(page, source, &book[..n], &six, e, d, t)
@@ -89,13 +90,7 @@ pub fn write_why(
 {
     let said = sentences::sources::read_words(Form::Claims, words);
     match said {
-        Words::Wrong(reason) => {
-            let end = sentences::put_unread(page, 0, sentences::CLAIM_WORDS, 0, reason);
-            pages::finish(page.len(), end)
-        }
-        Words::Entry(claim) => {
-            let end = why_source(page, source, claim, e, d, t);
-            pages::finish(page.len(), end)
-        }
+        Words::Wrong(reason) => sentences::write_unread(page, sentences::CLAIM_WORDS, 0, reason),
+        Words::Entry(claim) => why_source(page, source, claim, e, d, t),
     }
 }

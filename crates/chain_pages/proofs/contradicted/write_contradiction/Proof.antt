@@ -17,11 +17,8 @@ read-source-requires c κs = search needs
 enum-known-read : tie.Need-enum-known-read
 enum-known-read c = search needs
 
-put-unread-requires : tie.Need-put-unread-requires
-put-unread-requires c κs = search needs
-
-finish-requires : tie.Need-finish-requires
-finish-requires c κs = search needs
+write-unread-requires : tie.Need-write-unread-requires
+write-unread-requires c κs = search needs
 
 enum-known-read-2 : tie.Need-enum-known-read-2
 enum-known-read-2 c = search needs
@@ -35,20 +32,20 @@ slice-aggregate-clash-book c = sym (length-take-le _ _ (array-share-prefix-book 
 clash-book-requires : tie.Need-clash-book-requires
 clash-book-requires c κs = search needs
 
-finish-requires-2 : tie.Need-finish-requires-2
-finish-requires-2 c κs = search needs
+finish-requires : tie.Need-finish-requires
+finish-requires c κs = search needs
 
 same-length : tie.Need-same-length
 same-length c = search needs
 
 returns : tie.Need-returns
-returns c = clash-unread _ _ (c .finish .ensures) _ _ (took-unread _ _ _ _ _ (c .before .before .before .before .before .before .read .given .1) (c .before .before .before .before .before .before .before .before .before .read-source .ensures)) (c .before .before .before .put-unread .ensures)
+returns c = clash-unread _ _ _ _ (took-unread _ _ _ _ _ (c .before .before .before .before .before .read .given .1) (c .before .before .before .before .before .before .before .before .read-source .ensures)) (c .before .before .write-unread .ensures)
 
 same-length-2 : tie.Need-same-length-2
 same-length-2 c = search needs
 
 returns-2 : tie.Need-returns-2
-returns-2 c = clash-read _ _ (c .finish2 .ensures) _ (took-bytes _ _ _ _ (c .before .before .before .before .before .before .before .before .before .before .before .before .before .read2 .given .1) (c .before .before .before .before .before .before .before .before .before .before .before .before .before .before .before .before .read-source .ensures) .1) (c .before .before .before .clash-book .ensures)
+returns-2 c = clash-read _ _ _ _ (c .finish .ensures) (took-bytes _ _ _ _ (c .before .before .before .before .before .before .before .before .before .before .before .before .before .read2 .given .1) (c .before .before .before .before .before .before .before .before .before .before .before .before .before .before .before .before .read-source .ensures) .1) (c .before .before .before .clash-book .ensures)
 
 pub write-contradiction-spec : {M : Type 1} → statement M
 write-contradiction-spec =
@@ -57,13 +54,12 @@ write-contradiction-spec =
     slice-aggregate-read-source
     read-source-requires
     enum-known-read
-    put-unread-requires
-    finish-requires
+    write-unread-requires
     enum-known-read-2
     array-share-prefix-book
     slice-aggregate-clash-book
     clash-book-requires
-    finish-requires-2
+    finish-requires
     same-length
     returns
     same-length-2

@@ -17,11 +17,8 @@ read-source-requires c κs = search needs
 enum-known-read : tie.Need-enum-known-read
 enum-known-read c = search needs
 
-put-unread-requires : tie.Need-put-unread-requires
-put-unread-requires c κs = search needs
-
-finish-requires : tie.Need-finish-requires
-finish-requires c κs = search needs
+write-unread-requires : tie.Need-write-unread-requires
+write-unread-requires c κs = search needs
 
 enum-known-read-2 : tie.Need-enum-known-read-2
 enum-known-read-2 c = search needs
@@ -38,20 +35,20 @@ verify-requires c κs = search needs
 put-verdict-requires : tie.Need-put-verdict-requires
 put-verdict-requires c κs = search needs
 
-finish-requires-2 : tie.Need-finish-requires-2
-finish-requires-2 c κs = search needs
+finish-requires : tie.Need-finish-requires
+finish-requires c κs = search needs
 
 same-length : tie.Need-same-length
 same-length c = search needs
 
 returns : tie.Need-returns
-returns c = verdict-unread _ _ _ (c .finish .ensures) _ _ (took-unread _ _ _ _ _ (c .before .before .before .before .before .before .read .given .1) (c .before .before .before .before .before .before .before .before .before .read-source .ensures)) (c .before .before .before .put-unread .ensures)
+returns c = verdict-unread _ _ _ _ _ (took-unread _ _ _ _ _ (c .before .before .before .before .before .read .given .1) (c .before .before .before .before .before .before .before .before .read-source .ensures)) (c .before .before .write-unread .ensures)
 
 same-length-2 : tie.Need-same-length-2
 same-length-2 c = search needs
 
 returns-2 : tie.Need-returns-2
-returns-2 c = verdict-read _ _ _ (c .finish2 .ensures) _ _ (took-bytes _ _ _ _ (c .before .before .before .before .before .before .before .before .before .before .before .before .before .before .read2 .given .1) (c .before .before .before .before .before .before .before .before .before .before .before .before .before .before .before .before .before .read-source .ensures) .1) (c .before .before .before .before .before .verify .ensures) (c .before .before .before .put-verdict .ensures)
+returns-2 c = verdict-read _ _ _ _ _ _ (c .finish .ensures) (took-bytes _ _ _ _ (c .before .before .before .before .before .before .before .before .before .before .before .before .before .before .read2 .given .1) (c .before .before .before .before .before .before .before .before .before .before .before .before .before .before .before .before .before .read-source .ensures) .1) (c .before .before .before .before .before .verify .ensures) (c .before .before .before .put-verdict .ensures)
 
 pub write-verdict-spec : {M : Type 1} → statement M
 write-verdict-spec =
@@ -60,14 +57,13 @@ write-verdict-spec =
     slice-aggregate-read-source
     read-source-requires
     enum-known-read
-    put-unread-requires
-    finish-requires
+    write-unread-requires
     enum-known-read-2
     array-share-prefix-book
     slice-aggregate-verify
     verify-requires
     put-verdict-requires
-    finish-requires-2
+    finish-requires
     same-length
     returns
     same-length-2

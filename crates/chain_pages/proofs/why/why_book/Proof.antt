@@ -6,6 +6,7 @@ use mathlib.Core.Path.{_∙_, sym}
 use lib.ListN.{length-replicate}
 use lib.Seq.{length-take-le}
 use Rattle.pages.proofs.Puts.{put-as}
+use Rattle.pages.proofs.Writing.{write-page}
 use Rattle.chain_pages.proofs.Chains.{whole, few, reply-said, steps-behind}
 use Rattle.chain_pages.proofs.Replies.{same-text}
 use Rattle.chain_pages.proofs.why.why_book.Statement.{statement}
@@ -29,14 +30,14 @@ slice-aggregate-put-why c = sym (length-take-le _ _ (array-share-prefix-c (c .be
 put-why-requires : tie.Need-put-why-requires
 put-why-requires c κs = (λ a is. whole _ _ a (sym (reply-said (c .before .before .before .before .write-chain .ensures) (length-replicate {A = ℕ} 164000 0)) ∙ is), omega (arith, slice-aggregate-put-why c, few (c .before .before .before .before .write-chain .ensures)))
 
+finish-requires : tie.Need-finish-requires
+finish-requires c κs = search needs
+
 same-length : tie.Need-same-length
 same-length c = search needs
 
 returns : tie.Need-returns
-returns c = let w = c .before .before .before .before .before .before .before .write-chain .ensures in
-    let room = length-replicate {A = ℕ} 164000 0 in
-    let said-so = same-text _ _ _ _ _ (reply-said w room) in
-    record { chain = _; bytes = c .before .before .put-why .ensures .1 .1; behind = steps-behind w room; put = put-as said-so (c .before .before .put-why .ensures .0); short = rw said-so at (c .before .before .put-why .ensures .1 .0) }
+returns c = record { chain = _; bytes = c .before .before .before .put-why .ensures .1 .1; behind = steps-behind (c .before .before .before .before .before .before .before .before .write-chain .ensures) (length-replicate {A = ℕ} 164000 0); page-is = write-page _ (put-as (same-text _ _ _ _ _ (reply-said (c .before .before .before .before .before .before .before .before .write-chain .ensures) (length-replicate {A = ℕ} 164000 0))) (c .before .before .before .put-why .ensures .0)) (c .finish .ensures); short = rw (same-text _ _ _ _ _ (reply-said (c .before .before .before .before .before .before .before .before .write-chain .ensures) (length-replicate {A = ℕ} 164000 0))) at (c .before .before .before .put-why .ensures .1 .0) }
 
 pub why-book-spec : {M : Type 1} → statement M
 why-book-spec =
@@ -48,5 +49,6 @@ why-book-spec =
     array-share-prefix-c
     slice-aggregate-put-why
     put-why-requires
+    finish-requires
     same-length
     returns)

@@ -17,8 +17,8 @@ read-source-requires c κs = search needs
 enum-known-read : tie.Need-enum-known-read
 enum-known-read c = search needs
 
-put-unread-requires : tie.Need-put-unread-requires
-put-unread-requires c κs = search needs
+write-unread-requires : tie.Need-write-unread-requires
+write-unread-requires c κs = search needs
 
 enum-known-read-2 : tie.Need-enum-known-read-2
 enum-known-read-2 c = search needs
@@ -42,13 +42,13 @@ same-length : tie.Need-same-length
 same-length c = search needs
 
 returns : tie.Need-returns
-returns c = source-unread _ _ _ _ (took-unread _ _ _ _ _ (c .before .before .before .before .before .read .given .1) (c .before .before .before .before .before .before .before .before .read-source .ensures)) (c .before .before .put-unread .ensures)
+returns c = source-unread _ _ _ _ _ (took-unread _ _ _ _ _ (c .before .before .before .before .before .read .given .1) (c .before .before .before .before .before .before .before .before .read-source .ensures)) (c .before .before .write-unread .ensures)
 
 same-length-2 : tie.Need-same-length-2
 same-length-2 c = search needs
 
 returns-2 : tie.Need-returns-2
-returns-2 c = source-read _ _ _ _ (c .before .before .before .before .before .before .before .before .before .six-bytes .ensures) (took-bytes _ _ _ _ (c .before .before .before .before .before .before .before .before .before .before .before .read2 .given .1) (c .before .before .before .before .before .before .before .before .before .before .before .before .before .before .read-source .ensures) .1) (c .before .before .why-book .ensures)
+returns-2 c = source-read _ _ _ _ _ (c .before .before .before .before .before .before .before .before .before .six-bytes .ensures) (took-bytes _ _ _ _ (c .before .before .before .before .before .before .before .before .before .before .before .read2 .given .1) (c .before .before .before .before .before .before .before .before .before .before .before .before .before .before .read-source .ensures) .1) (c .before .before .why-book .ensures)
 
 pub why-source-spec : {M : Type 1} → statement M
 why-source-spec =
@@ -57,7 +57,7 @@ why-source-spec =
     slice-aggregate-read-source
     read-source-requires
     enum-known-read
-    put-unread-requires
+    write-unread-requires
     enum-known-read-2
     six-bytes-requires
     array-share-prefix-book

@@ -11,11 +11,8 @@ read-words-requires c κs = search needs
 enum-known-said : tie.Need-enum-known-said
 enum-known-said c = search needs
 
-put-unread-requires : tie.Need-put-unread-requires
-put-unread-requires c κs = search needs
-
-finish-requires : tie.Need-finish-requires
-finish-requires c κs = search needs
+write-unread-requires : tie.Need-write-unread-requires
+write-unread-requires c κs = search needs
 
 enum-known-said-2 : tie.Need-enum-known-said-2
 enum-known-said-2 c = search needs
@@ -23,20 +20,17 @@ enum-known-said-2 c = search needs
 why-source-requires : tie.Need-why-source-requires
 why-source-requires c κs = search needs
 
-finish-requires-2 : tie.Need-finish-requires-2
-finish-requires-2 c κs = search needs
-
 same-length : tie.Need-same-length
 same-length c = search needs
 
 returns : tie.Need-returns
-returns c = words-wrong _ _ _ (c .before .before .before .before .before .before .before .before .read-words .ensures) _ (c .finish .ensures) _ (c .before .before .before .before .before .before .said .given .1) (c .before .before .before .put-unread .ensures)
+returns c = words-wrong _ _ _ (c .before .before .before .before .before .before .before .read-words .ensures) _ _ (c .before .before .before .before .before .said .given .1) (c .before .before .write-unread .ensures)
 
 same-length-2 : tie.Need-same-length-2
 same-length-2 c = search needs
 
 returns-2 : tie.Need-returns-2
-returns-2 c = words-said _ _ _ (c .before .before .before .before .before .before .before .before .before .before .before .read-words .ensures) _ (c .finish2 .ensures) _ (c .before .before .before .before .before .before .before .before .before .said2 .given .1) (c .before .before .before .why-source .ensures)
+returns-2 c = words-said _ _ _ (c .before .before .before .before .before .before .before .before .before .before .read-words .ensures) _ _ (c .before .before .before .before .before .before .before .before .said2 .given .1) (c .before .before .why-source .ensures)
 
 pub write-why-spec : {M : Type 1} → statement M
 write-why-spec =
@@ -44,11 +38,9 @@ write-why-spec =
     (tie.spec
     read-words-requires
     enum-known-said
-    put-unread-requires
-    finish-requires
+    write-unread-requires
     enum-known-said-2
     why-source-requires
-    finish-requires-2
     same-length
     returns
     same-length-2
