@@ -7,6 +7,7 @@ use native.Mathlib.Omega.{arith}
 use lib.Dec.{eqb}
 use lib.ListN.{length, take}
 use borrow.Author.Tests.{eqb-true}
+use Rattle.lists.proofs.Bools.{Known, is-true, is-false, known}
 use Rattle.records.specs.declared.Record.{Record}
 use Rattle.records.specs.Record.{recordAt}
 use Rattle.records.specs.Check.{bookCheck, claimsCheck}
@@ -24,15 +25,8 @@ use Rattle.chain_writing.specs.Call.{replyOf, reply, shown, Written}
 use Rattle.chain_writing.specs.declared.Reply.{Reply}
 use Rattle.chain_writing.specs.declared.Reply.the-variants.{Answered, Refused}
 use Rattle.chain_writing.specs.declared.Chain.{Chain}
-use Rattle.chain_pages.specs.Why.{said, Whole}
-
-data Known (b : Bool) : Type 0 where
-  is-true : b ≡ true → Known b
-  is-false : b ≡ false → Known b
-
-known : (b : Bool) → Known b
-known true = is-true refl
-known false = is-false refl
+use Rattle.chain_text.specs.Verified.{said}
+use Rattle.chain_pages.specs.Why.{Whole, Behind}
 
 -- a claim that is answered is six bytes
 sized : (claim : Record) (s : List ℕ) (n : ℕ) (e : Refusal) (o : Outcome) (a : Answer) → replyOf claim s (refuseIf (not (eqb n 6)) e o) ≡ Answered a → n ≡ 6
@@ -67,8 +61,9 @@ module _ {s cs c : List ℕ} {r : Chain} {c′ : List ℕ} (w : Written s cs c r
     pub reply-said : r .reply ≡ said s cs
     reply-said = w .reply-is ∙ roomy s cs (length c) room
 
-    pub passing-steps : shown (said s cs) ≡ true → passes s cs (take (10 * r .steps) c′) ≡ true
-    passing-steps h = w .steps-are (ap shown reply-said ∙ h) .written-passes
-
-    pub no-steps : shown (said s cs) ≡ false → take (10 * r .steps) c′ ≡ []
-    no-steps h = rw (w .none (ap shown reply-said ∙ h))
+    pub steps-behind : Behind s cs (take (10 * r .steps) c′)
+    steps-behind =
+        record {
+          passing = λ h. w .steps-are (ap shown reply-said ∙ h) .written-passes;
+          none = λ h. rw (w .none (ap shown reply-said ∙ h));
+        }

@@ -1,6 +1,8 @@
-pub mod Grounds
-pub mod Answers
-pub mod Rooms
 pub mod Chains
 pub mod Replies
-pub mod Roomy
+pub mod Readings
+pub mod Asking
+pub mod Clashes
+pub mod Verdicts
+pub mod WhyVerifies
+pub mod SessionWhy

@@ -1,4 +1,5 @@
-pub mod StepLine
-pub mod AnswerLine
 pub mod WhyText
 pub mod Why
+pub mod Clash
+pub mod Verdict
+pub mod SessionWhy

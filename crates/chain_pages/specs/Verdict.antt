@@ -1,0 +1,29 @@
+-- What the page of `verify` comes to. Assumes nothing.
+use Prim.Native.Nat.{ℕ, _≤_}
+use mathlib.Core.Path.{_≡_}
+use mathlib.Core.Bool.{Bool, true, false}
+use mathlib.Core.List.{List}
+use lib.ListN.{length}
+use Rattle.pages.specs.Text.{ascii}
+use Rattle.pages.specs.Written.{Page}
+use Rattle.pages.specs.declared.Written.{Written}
+use Rattle.text.specs.declared.Form.the-variants.{Records}
+use Rattle.text.specs.Text.{Entries}
+use Rattle.text.specs.Either.{readEither}
+use Rattle.sentences.specs.Sources.{ofBook}
+use Rattle.chain_text.specs.Verified.{Verifies}
+
+unfoldable pub verdictLine : Bool → List ℕ
+verdictLine true = ascii "PASSES\n"
+verdictLine false = ascii "FAILS\n"
+
+abbrev pub verdictPage : (source : List ℕ) → Bool → List ℕ
+verdictPage source passes = ofBook source (λ book. verdictLine passes)
+
+-- PASSES exactly where the chain verifies by the book of the source
+pub record Verdict (source chain page page′ : List ℕ) (r : Written) : Type 0 where
+  pub passes : Bool
+  pub verifies : (book : List ℕ) → readEither Records source ≡ Entries book → Verifies book chain passes
+  pub page-is : Page page (verdictPage source passes) page′ r
+  -- so a page of that many bytes has room
+  pub short : length (verdictPage source passes) ≤ 95

@@ -1,0 +1,89 @@
+// The page of `why` without a claim: the chain behind refusal 14, the line of another refusal, or the counts' line.
+ghost use Rattle.pages.specs.Put.{Put};
+ghost use Rattle.chain_format.specs.Step.{steps};
+ghost use Rattle.chain_text.specs.StepLine.{stepLines};
+ghost use Rattle.chain_text.specs.ChainText.{Bytes};
+ghost use Rattle.chain_pages.specs.Clash.{StepsOf, OfBook, Clash};
+use outcomes::Outcome;
+use pages::Written;
+use sentences::sources::Source;
+use text::Form;
+
+// The lines of steps, which are bytes.
+fn put_lines(page: &mut [u8], at: usize, c: &[u8]) -> usize
+    ensures { λ r. ⌜ Put (now (page .entry)) at (stepLines (now (c .entry)) (steps (now (c .entry)))) (now (page .exit)) r ⌝ }
+    ensures { λ r. ⌜ Bytes (now (c .entry)) ⌝ }
+{
+    chain_text::lines::put_steps(page, at, c)
+}
+
+// The lines of a chain behind the contradiction of a book, where it has one.
+fn put_clash(
+    page: &mut [u8],
+    at: usize,
+    book: &[u8],
+    e: &mut [u64; 65536],
+    d: &mut [u64; 65536],
+    t: &mut [u64; 65536],
+) -> usize
+    ensures { λ r. ⌜ StepsOf (now (book .entry)) (now (page .entry)) at (now (page .exit)) r ⌝ }
+{
+    let mut c = [0u8; crate::CHAIN_BYTES];
+    let written = clash::write_clash(book, &mut c, e, d, t);
+    let n = 10 * written.steps;
+    put_lines(page, at, &c[..n])
+}
+
+// The text of a book that was read from the source.
+fn clash_book(
+    page: &mut [u8],
+    source: &[u8],
+    book: &[u8],
+    e: &mut [u64; 65536],
+    d: &mut [u64; 65536],
+    t: &mut [u64; 65536],
+    u: &mut [u64; 65536],
+    p: &mut [u64; 65536],
+    q: &mut [u64; 65536],
+) -> usize
+    ensures { λ r. ⌜ OfBook (now (source .entry)) (now (book .entry)) (now (page .entry)) (now (page .exit)) r ⌝ }
+{
+    let outcome = answers::judge_run(book, e, d, t, u, p, q);
+    match outcome {
+        Outcome::Accepted(pieces, nodes, shadows) => report::put_counts(
+            page,
+            0,
+            pieces,
+            nodes,
+            shadows,
+        ),
+        Outcome::Refused(refusal, place) => {
+            let at = sentences::put_refused_book(page, 0, refusal, place, source);
+            put_clash(page, at, book, e, d, t)
+        }
+    }
+}
+
+// The page of the book of a source: the refusal, and a chain behind it where it is 14; or the counts.
+pub fn write_contradiction(
+    source: &[u8],
+    page: &mut [u8],
+    e: &mut [u64; 65536],
+    d: &mut [u64; 65536],
+    t: &mut [u64; 65536],
+    u: &mut [u64; 65536],
+    p: &mut [u64; 65536],
+    q: &mut [u64; 65536],
+) -> Written
+    ensures { λ r. ⌜ Clash (now (source .entry)) (now (page .entry)) (now (page .exit)) r ⌝ }
+{
+    let mut book = [0u8; crate::BOOK_BYTES];
+    let read = sentences::sources::read_source(Form::Records, source, &mut book);
+    match read {
+        Source::Unread(l, reason) => sentences::write_unread(page, sentences::BOOK, l, reason),
+        Source::Bytes(n) => {
+            let end = clash_book(page, source, &book[..n], e, d, t, u, p, q);
+            pages::finish(page.len(), end)
+        }
+    }
+}

@@ -1,0 +1,41 @@
+// The page of `verify`: whether a page of `why` passes.
+ghost use Rattle.pages.specs.Put.{Put};
+ghost use Rattle.chain_pages.specs.Verdict.{verdictLine, Verdict};
+use pages::Written;
+use sentences::sources::Source;
+use text::Form;
+
+fn put_verdict(page: &mut [u8], passes: bool) -> usize
+    ensures { λ r. ⌜ Put (now (page .entry)) 0 (verdictLine passes) (now (page .exit)) r ⌝ }
+{
+    if passes {
+        return pages::put(page, 0, b"PASSES\n");
+    }
+    pages::put(page, 0, b"FAILS\n")
+}
+
+// Whether the chain, a page that `why` may have printed about the book of a source, passes the check of R-2.
+pub fn write_verdict(
+    source: &[u8],
+    chain: &[u8],
+    page: &mut [u8],
+    e: &mut [u64; 65536],
+    d: &mut [u64; 65536],
+    t: &mut [u64; 65536],
+    u: &mut [u64; 65536],
+    p: &mut [u64; 65536],
+    q: &mut [u64; 65536],
+) -> Written
+    ensures { λ r. ⌜ Verdict (now (source .entry)) (now (chain .entry)) (now (page .entry)) (now (page .exit)) r ⌝ }
+{
+    let mut book = [0u8; crate::BOOK_BYTES];
+    let read = sentences::sources::read_source(Form::Records, source, &mut book);
+    match read {
+        Source::Unread(l, reason) => sentences::write_unread(page, sentences::BOOK, l, reason),
+        Source::Bytes(n) => {
+            let passes = chain_text::verify(&book[..n], chain, e, d, t, u, p, q);
+            let end = put_verdict(page, passes);
+            pages::finish(page.len(), end)
+        }
+    }
+}

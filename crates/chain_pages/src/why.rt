@@ -1,0 +1,96 @@
+// The page of `why` with a claim: the claim with its answer, and a chain behind it.
+ghost use mathlib.Core.Path.{_≡_};
+ghost use Prim.Native.Nat.{_≤_};
+ghost use lib.ListN.{length};
+ghost use Rattle.pages.specs.Put.{Put};
+ghost use Rattle.chain_text.specs.ChainText.{Bytes};
+ghost use Rattle.chain_pages.specs.WhyText.{whyText};
+ghost use Rattle.chain_pages.specs.Why.{Whole, OfBook, OfSource, Why};
+use chain_writing::Reply;
+use pages::Written;
+use records::Record;
+use sentences::sources::Source;
+use sentences::sources::Words;
+use text::Form;
+
+// The text of a reply and of steps, from the start of the page. Answers where it ends.
+fn put_why(page: &mut [u8], source: &[u8], claim: &[u8], reply: Reply, c: &[u8]) -> usize
+    requires { ⌜ Whole (now claim) reply × (length (now c) ≤ 164000) ⌝ }
+    ensures { λ r. ⌜ Put (now (page .entry)) 0 (whyText (now (source .entry)) (now (claim .entry)) reply (now (c .entry))) (now (page .exit)) r ⌝ }
+    ensures { λ r. ⌜ length (whyText (now (source .entry)) (now (claim .entry)) reply (now (c .entry))) ≤ 852835 ⌝ }
+    ensures { λ r. ⌜ Bytes (now (c .entry)) ⌝ }
+{
+    match reply {
+        Reply::Refused(refusal, place) => sentences::put_refused_book(
+            page,
+            0,
+            refusal,
+            place,
+            source,
+        ),
+        Reply::Answered(answer) => {
+            let r = records::record_at(claim, 0);
+            chain_text::lines::put_chain(page, 0, r, answer, c)
+        }
+    }
+}
+
+// The page of the answer to the one claim about the book, and of a chain behind it. The book was read from the source.
+fn why_book(
+    page: &mut [u8],
+    source: &[u8],
+    book: &[u8],
+    claim: &[u8],
+    e: &mut [u64; 65536],
+    d: &mut [u64; 65536],
+    t: &mut [u64; 65536],
+) -> Written
+    ensures { λ r. ⌜ OfBook (now (source .entry)) (now (book .entry)) (now (claim .entry)) (now (page .entry)) (now (page .exit)) r ⌝ }
+{
+    let mut c = [0u8; crate::CHAIN_BYTES];
+    let written = chain_writing::write_chain(book, claim, &mut c, e, d, t);
+    let reply = written.reply;
+    let n = 10 * written.steps;
+    let end = put_why(page, source, claim, reply, &c[..n]);
+    pages::finish(page.len(), end)
+}
+
+// The same for the book of a source.
+fn why_source(
+    page: &mut [u8],
+    source: &[u8],
+    claim: Record,
+    e: &mut [u64; 65536],
+    d: &mut [u64; 65536],
+    t: &mut [u64; 65536],
+) -> Written
+    ensures { λ r. ⌜ OfSource (now (source .entry)) claim (now (page .entry)) (now (page .exit)) r ⌝ }
+{
+    let mut book = [0u8; crate::BOOK_BYTES];
+    let read = sentences::sources::read_source(Form::Records, source, &mut book);
+    match read {
+        Source::Unread(l, reason) => sentences::write_unread(page, sentences::BOOK, l, reason),
+        Source::Bytes(n) => {
+            let six = sentences::sources::six_bytes(claim);
+            why_book(page, source, &book[..n], &six, e, d, t)
+        }
+    }
+}
+
+// The page of the claim that the words say, about the book of a source: its answer, and a chain behind it.
+pub fn write_why(
+    source: &[u8],
+    words: &[u8],
+    page: &mut [u8],
+    e: &mut [u64; 65536],
+    d: &mut [u64; 65536],
+    t: &mut [u64; 65536],
+) -> Written
+    ensures { λ r. ⌜ Why (now (source .entry)) (now (words .entry)) (now (page .entry)) (now (page .exit)) r ⌝ }
+{
+    let said = sentences::sources::read_words(Form::Claims, words);
+    match said {
+        Words::Wrong(reason) => sentences::write_unread(page, sentences::CLAIM_WORDS, 0, reason),
+        Words::Entry(claim) => why_source(page, source, claim, e, d, t),
+    }
+}

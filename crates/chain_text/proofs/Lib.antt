@@ -1,0 +1,15 @@
+pub mod Rests
+pub mod Answers
+pub mod Rooms
+pub mod Finds
+pub mod Steps
+pub mod Gaps
+pub mod Grounds
+pub mod StepsRead
+pub mod ChainsRead
+pub mod HeadsRead
+pub mod Plains
+pub mod Passes
+pub mod Judges
+pub mod Inverse
+pub mod Verifying

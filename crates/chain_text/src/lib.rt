@@ -1,0 +1,79 @@
+// The text of a chain, written, and read back to be checked. The reader guesses; where the text of what it guessed is not the page, the page does not verify.
+ghost use mathlib.Core.Path.{_≡_};
+ghost use mathlib.Core.Bool.{true};
+ghost use Prim.Native.Nat.{_≤_};
+ghost use lib.ListN.{length};
+ghost use Rattle.records.specs.Record.{recordAt};
+ghost use Rattle.records.specs.Facts.{saying};
+ghost use Rattle.records.specs.Pieces.{stated};
+ghost use Rattle.chain_text.specs.Verified.{tells, Judged, Verifies};
+use verdicts::Answer;
+
+pub mod comparing;
+pub mod lines;
+pub mod reading;
+
+// 16,400 steps.
+const CHAIN_BYTES: usize = 164000;
+
+// Whether the last step shows the claim, or its opposite, as the answer says. The kinds of opposite facts add up to 5.
+fn last_tells(claim: &[u8], answer: Answer, c: &[u8]) -> bool
+    requires { ⌜ (length (now claim) ≡ 6) × (10 ≤ length (now c)) × (stated (recordAt (now claim) 0) ≡ true) ⌝ }
+    ensures { λ r. ⌜ r ≡ tells answer (saying (recordAt (now (claim .entry)) 0)) (now (c .entry)) ⌝ }
+{
+    let f = records::record_at(claim, 0);
+    let s = chain_format::step_at(c, c.len() / 10 - 1);
+    match answer {
+        Answer::Follows => chain_format::shows(s, f.kind, f.a, f.b),
+        Answer::Denied => chain_format::shows(s, 5 - f.kind, f.a, f.b),
+        Answer::Open => false,
+    }
+}
+
+// Whether the page is that of the claim, the answer and the steps, and these pass.
+fn is_page_of(
+    book: &[u8],
+    page: &[u8],
+    claim: &[u8],
+    answer: Answer,
+    c: &[u8],
+    e: &mut [u64; 65536],
+    d: &mut [u64; 65536],
+    t: &mut [u64; 65536],
+    u: &mut [u64; 65536],
+    p: &mut [u64; 65536],
+    q: &mut [u64; 65536],
+) -> bool
+    requires { ⌜ (length (now claim) ≡ 6) × (length (now c) ≤ 164000) ⌝ }
+    ensures { λ r. ⌜ Judged (now (book .entry)) (now (page .entry)) (now (claim .entry)) answer (now (c .entry)) r ⌝ }
+{
+    if comparing::is_text(page, claim, answer, c) {
+        if chain_check::check_chain(book, claim, c, e, d, t, u, p, q) {
+            return last_tells(claim, answer, c);
+        }
+        return false;
+    }
+    false
+}
+
+// Whether a page that `why` may have printed about the book passes the check of R-2.
+pub fn verify(
+    book: &[u8],
+    page: &[u8],
+    e: &mut [u64; 65536],
+    d: &mut [u64; 65536],
+    t: &mut [u64; 65536],
+    u: &mut [u64; 65536],
+    p: &mut [u64; 65536],
+    q: &mut [u64; 65536],
+) -> bool
+    ensures { λ r. ⌜ Verifies (now (book .entry)) (now (page .entry)) r ⌝ }
+{
+    let head = reading::read_head(page);
+    let claim = sentences::sources::six_bytes(head.claim);
+    let answer = head.answer;
+    let mut c = [0u8; CHAIN_BYTES];
+    let n = reading::read_steps(page, head.next, &mut c);
+    let end = 10 * n;
+    is_page_of(book, page, &claim, answer, &c[..end], e, d, t, u, p, q)
+}
