@@ -127,7 +127,7 @@ fn fail_lock(name: &[u8]) {
 }
 
 // Writes the first n bytes to the lock and puts it in the file's place. Where that fails it is told, the lock is taken back, and the file is as it was.
-pub fn keep(file: i32, name: &[u8], bytes: &[u8; 49152], n: usize, mode: u32) -> bool {
+pub fn keep(file: i32, name: &[u8], bytes: &[u8; 49164], n: usize, mode: u32) -> bool {
     let filled = fill(file, bytes, n, mode);
     if filled == false {
         fail_lock(name);
@@ -152,7 +152,7 @@ fn mode_for(name: &[u8]) -> Standing {
 }
 
 // The same, under the name of a file that may be missing, with the mode of the file `from`.
-pub fn keep_from(file: i32, name: &[u8], bytes: &[u8; 49152], n: usize, from: &[u8]) -> bool {
+pub fn keep_from(file: i32, name: &[u8], bytes: &[u8; 49164], n: usize, from: &[u8]) -> bool {
     let standing = look_at(name);
     if let Standing::Other = standing {
         drop_lock(file, name);
