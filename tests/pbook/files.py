@@ -237,7 +237,7 @@ def killed(lab, trace):
 
 def failing(lab, trace):
     """Each system call in turn fails: what matters is told, the book is the old one then, and no lock is left."""
-    names = {0: "read", 1: "write", 3: "close", 74: "fsync", 82: "rename", 257: "openat", 91: "fchmod", 262: "newfstatat", 6: "lstat", 2: "open"}
+    names = {0: "read", 1: "write", 2: "open", 3: "close", 4: "stat", 74: "fsync", 82: "rename", 89: "readlink", 91: "fchmod", 257: "openat", 262: "newfstatat"}
     for command, words in (*CHANGES, ("new", ["n.rec"])):
         room = lab.room()
         (room / "b.rec").write_bytes(BOOK)

@@ -15,11 +15,17 @@ pub fn look_at(name: &[u8]) -> Standing {
         crate::tell(name, b": a link: name the file that it leads to\n");
         return Standing::Other;
     }
+    let why = os::errno();
+    if why == libc::ENOENT {
+        return Standing::Missing;
+    }
+    // what reading a link says of anything else that is there
+    if why != libc::EINVAL {
+        os::fail(name);
+        return Standing::Other;
+    }
     let mode = modes::mode_of(name);
     if mode == 0 {
-        if os::errno() == libc::ENOENT {
-            return Standing::Missing;
-        }
         os::fail(name);
         return Standing::Other;
     }
@@ -47,7 +53,7 @@ pub fn make_empty(name: &[u8]) -> bool {
 }
 
 // The name of a file's lock; of no bytes where the buffer is too short. A buffer of 4,101 bytes has room for one that is longer than a path may be, so that making it tells its name.
-pub fn lock_name(name: &[u8], lock: &mut [u8]) -> usize
+fn lock_name(name: &[u8], lock: &mut [u8]) -> usize
     ensures { λ r. ⌜ Counts r (now (lock .exit)) ⌝ }
 {
     let n = name.len();
@@ -62,25 +68,33 @@ pub fn lock_name(name: &[u8], lock: &mut [u8]) -> usize
     n + 5
 }
 
-// Makes the lock, a new file, and answers its descriptor, or a negative number, told, where the name is taken or cannot be made.
-pub fn make_lock(lock: &[u8]) -> i32 {
-    let file = os::create(lock);
-    if 0 <= file {
-        return file;
-    }
+// Tells that a lock cannot be made, and where it is there what to do.
+fn tell_taken(lock: &[u8]) {
     let taken = os::errno() == libc::EEXIST;
     os::fail(lock);
     if taken {
         crate::tell(b"remove ", lock);
         crate::tell(b" where no other pbook runs", b"\n");
     }
+}
+
+// Makes the lock of a file, a new file itself, and answers its descriptor, or a negative number, told, where that cannot be done.
+pub fn make_lock(name: &[u8]) -> i32 {
+    let mut lock = [0u8; 4101];
+    let n = lock_name(name, &mut lock);
+    let file = os::create(&lock[..n]);
+    if file < 0 {
+        tell_taken(&lock[..n]);
+    }
     file
 }
 
 // Takes back a lock that was made here.
-pub fn drop_lock(file: i32, lock: &[u8]) {
+pub fn drop_lock(file: i32, name: &[u8]) {
     libc::close(file);
-    os::unlink(lock);
+    let mut lock = [0u8; 4101];
+    let n = lock_name(name, &mut lock);
+    os::unlink(&lock[..n]);
 }
 
 // The first n bytes, the mode, and both on the device.
@@ -93,28 +107,61 @@ fn fill(file: i32, bytes: &[u8], n: usize, mode: u32) -> bool {
     false
 }
 
-// Writes the first n bytes to the lock and puts it in the file's place. Where that fails it is told, the lock is taken back, and the file is as it was.
-pub fn keep(file: i32, lock: &[u8], name: &[u8], bytes: &[u8; 49152], n: usize, mode: u32) -> bool {
-    let filled = fill(file, bytes, n, mode);
-    if filled == false {
-        os::fail(lock);
-        drop_lock(file, lock);
-        return false;
-    }
-    libc::close(file);
-    if os::rename(lock, name) == 0 {
+// Puts a lock that is filled and closed in the place of its file.
+fn rename_lock(name: &[u8]) -> bool {
+    let mut lock = [0u8; 4101];
+    let n = lock_name(name, &mut lock);
+    if os::rename(&lock[..n], name) == 0 {
         return true;
     }
     os::fail(name);
-    os::unlink(lock);
+    os::unlink(&lock[..n]);
     false
 }
 
-// The mode of a file that is made from another: the other's, or its owner's alone where that is no plain file.
-pub fn mode_for(name: &[u8]) -> u32 {
-    let mode = modes::mode_of(name);
-    if mode & libc::S_IFMT == libc::S_IFREG {
-        return mode % 4096;
+// Tells of the lock what the system says.
+fn fail_lock(name: &[u8]) {
+    let mut lock = [0u8; 4101];
+    let n = lock_name(name, &mut lock);
+    os::fail(&lock[..n]);
+}
+
+// Writes the first n bytes to the lock and puts it in the file's place. Where that fails it is told, the lock is taken back, and the file is as it was.
+pub fn keep(file: i32, name: &[u8], bytes: &[u8; 49164], n: usize, mode: u32) -> bool {
+    let filled = fill(file, bytes, n, mode);
+    if filled == false {
+        fail_lock(name);
+        drop_lock(file, name);
+        return false;
     }
-    0o600
+    libc::close(file);
+    rename_lock(name)
+}
+
+// The mode of a file that is made from another: the other's, or its owner's alone where that is no plain file.
+fn mode_for(name: &[u8]) -> Standing {
+    let mode = modes::mode_of(name);
+    if mode == 0 {
+        os::fail(name);
+        return Standing::Other;
+    }
+    if mode & libc::S_IFMT == libc::S_IFREG {
+        return Standing::Plain(mode % 4096);
+    }
+    Standing::Plain(0o600)
+}
+
+// The same, under the name of a file that may be missing, with the mode of the file `from`.
+pub fn keep_from(file: i32, name: &[u8], bytes: &[u8; 49164], n: usize, from: &[u8]) -> bool {
+    let standing = look_at(name);
+    if let Standing::Other = standing {
+        drop_lock(file, name);
+        return false;
+    }
+    let read = mode_for(from);
+    let Standing::Plain(mode) = read else {
+        drop_lock(file, name);
+        return false;
+    };
+    keep(file, name, bytes, n, mode)
 }

@@ -1,0 +1,41 @@
+// The program's arguments: a path, and words joined into a line.
+ghost use Rattle.io.specs.Counts.{Counts};
+use files::Got;
+
+// A path, with the reason where there is none, or one that is longer than the buffer.
+pub fn path(i: usize, buf: &mut [u8]) -> Got
+    ensures { λ r. ⌜ Counts (r .n) (now (buf .exit)) ⌝ }
+{
+    let n = os::arg(i, buf);
+    if os::errno() == 0 {
+        return Got { n, failed: false };
+    }
+    os::fail(buf);
+    Got { n, failed: true }
+}
+
+// The arguments from number `first` on with a space between. Where they do not fit, the whole line, which is too long then.
+pub fn words(first: usize, line: &mut [u8]) -> usize
+    ensures { λ r. ⌜ Counts r (now (line .exit)) ⌝ }
+{
+    let count = os::arg_count();
+    let mut i = first;
+    let mut at: usize = 0;
+    while i < count {
+        let n = os::arg(i, &mut line[at..]);
+        if os::errno() != 0 {
+            return line.len();
+        }
+        at += n;
+        if line.len() <= at {
+            return line.len();
+        }
+        line[at] = b' ';
+        at += 1;
+        i += 1;
+    }
+    if at == 0 {
+        return 0;
+    }
+    at - 1
+}

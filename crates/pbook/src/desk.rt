@@ -1,0 +1,144 @@
+// The page of each command, by its family.
+use crate::commands::BookPage;
+use crate::commands::Change;
+use crate::commands::Export;
+use crate::commands::InputPage;
+use crate::commands::WordsPage;
+use change_pages::Changed;
+use pages::Written;
+use text::Form;
+
+pub fn book_page(
+    which: BookPage,
+    source: &[u8],
+    page: &mut [u8],
+    e: &mut [u64; 65536],
+    d: &mut [u64; 65536],
+    t: &mut [u64; 65536],
+    u: &mut [u64; 65536],
+    p: &mut [u64; 65536],
+    q: &mut [u64; 65536],
+) -> Written {
+    match which {
+        BookPage::Check => book_pages::session::write_check(source, page, e, d, t, u, p, q),
+        BookPage::Why => chain_pages::write_contradiction(source, page, e, d, t, u, p, q),
+        BookPage::Grid => book_pages::grid::write_grid(source, page, e, d, t, u, p, q),
+        BookPage::Show => book_pages::show::write_show(source, page),
+    }
+}
+
+pub fn words_page(
+    which: WordsPage,
+    source: &[u8],
+    words: &[u8],
+    page: &mut [u8],
+    e: &mut [u64; 65536],
+    d: &mut [u64; 65536],
+    t: &mut [u64; 65536],
+    u: &mut [u64; 65536],
+    p: &mut [u64; 65536],
+    q: &mut [u64; 65536],
+) -> Written {
+    match which {
+        WordsPage::Ask => book_pages::session::write_ask_words(
+            source,
+            words,
+            page,
+            e,
+            d,
+            t,
+            u,
+            p,
+            q,
+        ),
+        WordsPage::Why => chain_pages::write_why(source, words, page, e, d, t),
+        WordsPage::Inside => book_pages::listing::write_list(source, 1, words, page, e, d, t),
+        WordsPage::Touching => book_pages::listing::write_list(source, 3, words, page, e, d, t),
+        WordsPage::Apart => book_pages::listing::write_list(source, 2, words, page, e, d, t),
+    }
+}
+
+// What the words of a page are.
+pub fn words_form(which: WordsPage) -> Form {
+    match which {
+        WordsPage::Ask => Form::Claims,
+        WordsPage::Why => Form::Claims,
+        WordsPage::Inside => Form::Log,
+        WordsPage::Touching => Form::Log,
+        WordsPage::Apart => Form::Log,
+    }
+}
+
+pub fn input_page(
+    which: InputPage,
+    source: &[u8],
+    input: &[u8],
+    page: &mut [u8],
+    e: &mut [u64; 65536],
+    d: &mut [u64; 65536],
+    t: &mut [u64; 65536],
+    u: &mut [u64; 65536],
+    p: &mut [u64; 65536],
+    q: &mut [u64; 65536],
+) -> Written {
+    match which {
+        InputPage::Ask => book_pages::session::write_ask(source, input, page, e, d, t, u, p, q),
+        InputPage::Replicates => beside_pages::log::write_log(source, input, page, e, d, t, u),
+    }
+}
+
+// What the words of a change are.
+pub fn change_form(which: Change) -> Form {
+    match which {
+        Change::Add => Form::Records,
+        Change::Withdraw => Form::Log,
+    }
+}
+
+pub fn change_page(
+    which: Change,
+    source: &[u8],
+    words: &[u8],
+    out: &mut [u8; 49164],
+    page: &mut [u8],
+    e: &mut [u64; 65536],
+    d: &mut [u64; 65536],
+    t: &mut [u64; 65536],
+    u: &mut [u64; 65536],
+    p: &mut [u64; 65536],
+    q: &mut [u64; 65536],
+) -> Changed {
+    match which {
+        Change::Add => change_pages::write_added(source, words, out, page, e, d, t, u, p, q),
+        Change::Withdraw => change_pages::write_withdrawn(
+            source,
+            words,
+            out,
+            page,
+            e,
+            d,
+            t,
+            u,
+            p,
+            q,
+        ),
+    }
+}
+
+pub fn export_page(
+    which: Export,
+    source: &[u8],
+    out: &mut [u8; 49164],
+    page: &mut [u8],
+    e: &mut [u64; 65536],
+    d: &mut [u64; 65536],
+    t: &mut [u64; 65536],
+    u: &mut [u64; 65536],
+    p: &mut [u64; 65536],
+    q: &mut [u64; 65536],
+) -> Changed {
+    match which {
+        Export::Pack => change_pages::write_packed(source, out, page, e, d, t, u, p, q),
+        Export::Convert => change_pages::write_converted(source, out, page, e, d, t),
+    }
+}

@@ -1,0 +1,74 @@
+// The laboratory's program: a command, a book, and words in the arguments; a page out. The arrays stand here, and each family of commands is lent what it uses.
+mod arguments;
+mod buffers;
+mod changes;
+mod commands;
+mod desk;
+mod reading;
+
+use commands::Command;
+
+// The list of commands.
+fn help() {
+    let text =
+        b"pbook check BOOK\npbook ask BOOK [KIND a b [FACTS]]\npbook why BOOK [KIND a b [FACTS]]\npbook verify BOOK CHAIN\npbook inside BOOK g\npbook touching BOOK g\npbook apart BOOK g\npbook grid BOOK\npbook replicates BOOK\npbook compare BOOK OTHER\npbook show BOOK\npbook new BOOK\npbook pack BOOK OUT\npbook convert OLD OUT\npbook add BOOK KIND a b [ORIGIN]\npbook add BOOK void a [ORIGIN]\npbook withdraw BOOK n\npbook help\n";
+    files::write_page(text, text.len());
+}
+
+fn named() -> Command {
+    let mut word = [0u8; 16];
+    let n = os::arg(1, &mut word);
+    commands::command_of(&word[..n], os::arg_count())
+}
+
+// `long` has room for the longest page, and for the longest chain that `verify` reads; `short` for the page of a command that reads more than that.
+fn run(
+    source: &mut [u8],
+    other: &mut [u8],
+    long: &mut [u8],
+    short: &mut [u8],
+    e: &mut [u64; 65536],
+    d: &mut [u64; 65536],
+    t: &mut [u64; 65536],
+    u: &mut [u64; 65536],
+    p: &mut [u64; 65536],
+    q: &mut [u64; 65536],
+) {
+    let command = named();
+    match command {
+        Command::Book(which) => reading::book(which, source, long, e, d, t, u, p, q),
+        Command::Words(which) => reading::words(which, source, long, e, d, t, u, p, q),
+        Command::Input(which) => reading::input(which, source, other, long, e, d, t, u, p, q),
+        Command::Verify => reading::verify(source, long, short, e, d, t, u, p, q),
+        Command::Compare => reading::compare(source, other, long, short, e, d, t, u, p, q),
+        Command::Edit(which) => changes::change(which, source, short, e, d, t, u, p, q),
+        Command::Write(which) => changes::export(which, source, short, e, d, t, u, p, q),
+        Command::New => changes::new(short),
+        Command::Help => help(),
+    }
+}
+
+fn main() {
+    let mut source = buffers::text();
+    let mut other = buffers::text();
+    let mut long = buffers::long_page();
+    let mut short = buffers::page();
+    let mut e = [0u64; 65536];
+    let mut d = [0u64; 65536];
+    let mut t = [0u64; 65536];
+    let mut u = [0u64; 65536];
+    let mut p = [0u64; 65536];
+    let mut q = [0u64; 65536];
+    run(
+        &mut source,
+        &mut other,
+        &mut long,
+        &mut short,
+        &mut e,
+        &mut d,
+        &mut t,
+        &mut u,
+        &mut p,
+        &mut q,
+    );
+}

@@ -1,0 +1,190 @@
+// The commands that read, and lay out a page: one function for each family.
+ghost use Rattle.io.specs.Counts.{Counts};
+use crate::commands::BookPage;
+use crate::commands::InputPage;
+use crate::commands::WordsPage;
+use files::Got;
+use pages::Written;
+
+// Where a page ends. Each page here has the room that always serves.
+pub fn end_of(written: Written) -> usize {
+    match written {
+        Written::Text(n) => n,
+        Written::NoRoom => 0,
+    }
+}
+
+// Writes a page, or nothing of one that has no room.
+fn print(written: Written, page: &[u8]) {
+    files::write_page(page, end_of(written));
+}
+
+// The file that an argument names.
+fn read_named(i: usize, buf: &mut [u8]) -> Got
+    ensures { λ r. ⌜ Counts (r .n) (now (buf .exit)) ⌝ }
+{
+    let mut path = io::buffer();
+    let given = crate::arguments::path(i, &mut path);
+    if given.failed {
+        return Got { n: 0, failed: true };
+    }
+    let length = given.n;
+    files::read_file(&path[..length], buf)
+}
+
+pub fn book(
+    which: BookPage,
+    source: &mut [u8],
+    page: &mut [u8],
+    e: &mut [u64; 65536],
+    d: &mut [u64; 65536],
+    t: &mut [u64; 65536],
+    u: &mut [u64; 65536],
+    p: &mut [u64; 65536],
+    q: &mut [u64; 65536],
+) {
+    let got = read_named(2, source);
+    if got.failed {
+        return;
+    }
+    let n = got.n;
+    let written = crate::desk::book_page(which, &source[..n], page, e, d, t, u, p, q);
+    print(written, page);
+}
+
+// The words are told first: they are not judged by a file that cannot be read.
+pub fn words(
+    which: WordsPage,
+    source: &mut [u8],
+    page: &mut [u8],
+    e: &mut [u64; 65536],
+    d: &mut [u64; 65536],
+    t: &mut [u64; 65536],
+    u: &mut [u64; 65536],
+    p: &mut [u64; 65536],
+    q: &mut [u64; 65536],
+) {
+    let mut line = io::buffer();
+    let said = crate::arguments::words(3, &mut line);
+    let bad = end_of(book_pages::words::write_words(
+        crate::desk::words_form(which),
+        &line[..said],
+        page,
+    ));
+    if 0 < bad {
+        files::write_page(page, bad);
+        return;
+    }
+    let got = read_named(2, source);
+    if got.failed {
+        return;
+    }
+    let n = got.n;
+    let written = crate::desk::words_page(
+        which,
+        &source[..n],
+        &line[..said],
+        page,
+        e,
+        d,
+        t,
+        u,
+        p,
+        q,
+    );
+    print(written, page);
+}
+
+pub fn input(
+    which: InputPage,
+    source: &mut [u8],
+    input: &mut [u8],
+    page: &mut [u8],
+    e: &mut [u64; 65536],
+    d: &mut [u64; 65536],
+    t: &mut [u64; 65536],
+    u: &mut [u64; 65536],
+    p: &mut [u64; 65536],
+    q: &mut [u64; 65536],
+) {
+    let got = read_named(2, source);
+    if got.failed {
+        return;
+    }
+    let n = got.n;
+    let more = files::read_input(input);
+    if more.failed {
+        return;
+    }
+    let m = more.n;
+    let written = crate::desk::input_page(which, &source[..n], &input[..m], page, e, d, t, u, p, q);
+    print(written, page);
+}
+
+// A chain is a page of `why`: its buffer has a byte more than the longest.
+pub fn verify(
+    source: &mut [u8],
+    chain: &mut [u8],
+    page: &mut [u8],
+    e: &mut [u64; 65536],
+    d: &mut [u64; 65536],
+    t: &mut [u64; 65536],
+    u: &mut [u64; 65536],
+    p: &mut [u64; 65536],
+    q: &mut [u64; 65536],
+) {
+    let got = read_named(2, source);
+    if got.failed {
+        return;
+    }
+    let n = got.n;
+    let more = read_named(3, chain);
+    if more.failed {
+        return;
+    }
+    let m = more.n;
+    let written = chain_pages::write_verdict(&source[..n], &chain[..m], page, e, d, t, u, p, q);
+    print(written, page);
+}
+
+pub fn compare(
+    source: &mut [u8],
+    second: &mut [u8],
+    claims: &mut [u8],
+    page: &mut [u8],
+    e: &mut [u64; 65536],
+    d: &mut [u64; 65536],
+    t: &mut [u64; 65536],
+    u: &mut [u64; 65536],
+    p: &mut [u64; 65536],
+    q: &mut [u64; 65536],
+) {
+    let got = read_named(2, source);
+    if got.failed {
+        return;
+    }
+    let n = got.n;
+    let other = read_named(3, second);
+    if other.failed {
+        return;
+    }
+    let k = other.n;
+    let asked = files::read_input(claims);
+    if asked.failed {
+        return;
+    }
+    let m = asked.n;
+    let written = beside_pages::comparison::write_comparison(
+        &source[..n],
+        &second[..k],
+        &claims[..m],
+        page,
+        e,
+        d,
+        t,
+        u,
+        p,
+        q,
+    );
+    print(written, page);
+}
