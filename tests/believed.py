@@ -29,8 +29,8 @@ def uses(text):
 
 def contract(text, function):
     """What stands between the head of a function and its body."""
-    head = re.search(rf"^pub (?:extern \"C\" )?fn {function}\(", text, re.M)
-    return text[head.start():text.index("\n{", head.start())] if head else ""
+    head = re.search(rf"^pub (?:extern \"C\" )?fn {function}\((?:.|\n)*?(?=\n\{{| \{{\n)", text, re.M)
+    return head[0] if head else ""
 
 
 def public():
