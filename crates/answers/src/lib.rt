@@ -22,10 +22,10 @@ use records::Refusal;
 pub fn clear_index(parens: &mut [u8], marks: &mut [u8], shadows: &mut [u16], places: &mut [u16])
     ensures { λ _. ⌜ Cleared (length (now (parens .entry))) (length (now (marks .entry))) (length (now (shadows .entry))) (length (now (places .entry))) (now (parens .exit)) (now (marks .exit)) (now (shadows .exit)) (now (places .exit)) ⌝ }
 {
-    parentheses::clear(parens);
-    parentheses::clear(marks);
-    index::fill(shadows, 0);
-    index::fill(places, 0);
+    numbers::clear(parens);
+    numbers::clear(marks);
+    numbers::shorts::fill(shadows, 0);
+    numbers::shorts::fill(places, 0);
 }
 
 // The marks of the whole book, then row 14, the index and the answers, for a book and claims that pass the rows before, in lent parts of document 01's lengths.

@@ -6,6 +6,7 @@ ghost use Rattle.lists.specs.Any.{anyBelow};
 ghost use Rattle.areas.specs.Between.{inside, RowsRise};
 ghost use Rattle.areas.specs.Question.{Answers};
 use index::TreeId;
+use numbers::shorts;
 
 // The first of the pairs below `count` whose row is at least `row`; `count` where there is none.
 fn first_row(area: &[u16], count: usize, row: usize) -> usize
@@ -16,7 +17,7 @@ fn first_row(area: &[u16], count: usize, row: usize) -> usize
     let mut high = count;
     while low < high {
         let middle = low + (high - low) / 2;
-        if crate::wide(area[2 * middle]) < row {
+        if shorts::wide(area[2 * middle]) < row {
             low = middle + 1;
         } else {
             high = middle;
@@ -62,11 +63,11 @@ fn in_rows(
 {
     let mut i = first_row(area, count, row_from);
     while i < count {
-        let row = crate::wide(area[2 * i]);
+        let row = shorts::wide(area[2 * i]);
         if row_to < row {
             return false;
         }
-        let column = crate::wide(area[2 * i + 1]);
+        let column = shorts::wide(area[2 * i + 1]);
         if lies_inside(row_from, row_to, column_from, column_to, row, column) {
             return true;
         }

@@ -5,7 +5,6 @@ ghost use Prim.Native.Nat.{_+_, _*_, _≤_};
 ghost use lib.Dec.{eqb};
 ghost use lib.ListN.{length, getD};
 ghost use Rattle.records.specs.declared.Record as of;
-ghost use Rattle.records.specs.Record.{pair};
 ghost use Rattle.chain_format.specs.Step as on;
 ghost use Rattle.chain_format.specs.Step.{stepAt, showing};
 ghost use Rattle.chain_format.specs.Citing as may;
@@ -25,30 +24,16 @@ pub struct Step {
     pub second: usize,
 }
 
-fn wide(x: u8) -> usize
-    ensures { λ r. ⌜ (r ≡ x) × (r ≤ 255) ⌝ }
-{
-    x as usize
-}
-
-// A 16-bit number, low byte first.
-fn number_at(c: &[u8], at: usize) -> usize
-    requires { ⌜ at + 2 ≤ length (now c) ⌝ }
-    ensures { λ r. ⌜ r ≡ pair (getD (now (c .entry)) at 0) (getD (now (c .entry)) (at + 1) 0) ⌝ }
-{
-    wide(c[at]) + 256 * wide(c[at + 1])
-}
-
 // The one reader of steps.
 pub fn step_at(c: &[u8], i: usize) -> Step
     requires { ⌜ 10 * i + 10 ≤ length (now c) ⌝ }
     ensures { λ r. ⌜ r ≡ stepAt (now (c .entry)) i ⌝ }
 {
     let at = crate::STEP_BYTES * i;
-    let a = number_at(c, at + 2);
-    let b = number_at(c, at + 4);
-    let first = number_at(c, at + 6);
-    let second = number_at(c, at + 8);
+    let a = numbers::number_at(c, at + 2);
+    let b = numbers::number_at(c, at + 4);
+    let first = numbers::number_at(c, at + 6);
+    let second = numbers::number_at(c, at + 8);
     Step {
         rule: c[at],
         kind: c[at + 1],

@@ -1,8 +1,7 @@
 // Two books together: their records in one run, and the three bytes of a claim from both answers.
 ghost use mathlib.Core.Path.{_≡_};
-ghost use Prim.Native.Nat.{max, _+_, _*_, _≤_};
+ghost use Prim.Native.Nat.{_*_, _≤_};
 ghost use lib.ListN.{length, getD};
-ghost use lib.Seq.{paste};
 ghost use Rattle.lists.specs.Front.{front};
 ghost use Rattle.compare.specs.Agreement.{agreement, threes};
 ghost use Rattle.compare.specs.Together.{Joins};
@@ -44,19 +43,6 @@ pub fn write_answers(ours: &[u8], theirs: &[u8], out: &mut [u8])
     }
 }
 
-// Copies a run to place `at` on.
-fn copy(s: &[u8], at: usize, run: &mut [u8])
-    requires { ⌜ at + length (now s) ≤ length (now run) ⌝ }
-    ensures { λ _. ⌜ now (run .exit) ≡ paste (now (run .entry)) at (now (s .entry)) (length (now (s .entry))) ⌝ }
-{
-    let n = s.len();
-    let mut i: usize = 0;
-    while i < n {
-        run[at + i] = s[i];
-        i += 1;
-    }
-}
-
 // The second book behind the first, where both are as short as a book is, and how many bytes they have. A shared record stands twice, which says no more
 // than once.
 pub fn join(first: &[u8], second: &[u8], run: &mut [u8; JOINT_BYTES]) -> usize
@@ -69,13 +55,7 @@ pub fn join(first: &[u8], second: &[u8], run: &mut [u8; JOINT_BYTES]) -> usize
         return 0;
     }
     let at = first.len();
-    copy(first, 0, run);
-    copy(second, at, run);
+    numbers::copy_to(first, run, 0);
+    numbers::copy_to(second, run, at);
     at + second.len()
-}
-
-pub fn larger(x: usize, y: usize) -> usize
-    ensures { λ r. ⌜ r ≡ max x y ⌝ }
-{
-    if x < y { y } else { x }
 }

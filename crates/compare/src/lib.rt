@@ -97,7 +97,7 @@ fn judge_both(
     requires { ⌜ Ready (now first) own (now second) count (now run) (now claims) (length (now out)) × (length (now ours) ≡ records (now claims)) × (length (now theirs) ≡ records (now claims)) ⌝ }
     ensures { λ r. ⌜ Judged (now (first .entry)) (now (second .entry)) (now (claims .entry)) (now (out .entry)) r (now (out .exit)) ⌝ }
 {
-    let n = joint::larger(own, count);
+    let n = numbers::larger_of(own, count);
     let one = answer_book(first, n, claims, e, d, t, u, p, q, ours);
     if let Outcome::Refused(refusal, place) = one {
         return Comparison::Refused(1, refusal, place);
@@ -151,7 +151,7 @@ fn check_asked(
     requires { ⌜ Sound (now first) own (now second) count (now run) (now claims) (length (now out)) ⌝ }
     ensures { λ r. ⌜ Judged (now (first .entry)) (now (second .entry)) (now (claims .entry)) (now (out .entry)) r (now (out .exit)) ⌝ }
 {
-    let fit = records::check_claims(claims, joint::larger(own, count));
+    let fit = records::check_claims(claims, numbers::larger_of(own, count));
     match fit {
         ClaimsCheck::Refused(refusal, place) => {
             let rest = after(

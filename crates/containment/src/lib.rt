@@ -10,6 +10,7 @@ ghost use Rattle.parentheses.specs.Subtree.{after};
 ghost use Rattle.parentheses.specs.Bits.{bits};
 use index::DatasetId;
 use index::TreeId;
+use numbers::shorts;
 use parentheses::Found;
 pub use within::contents;
 
@@ -21,7 +22,7 @@ pub fn leader_of(lead: &[u16], g: DatasetId) -> DatasetId
     ensures { λ r. ⌜ r .0 ≡ getD (now (lead .entry)) (g .0) 0 ⌝ }
 {
     let k = g.0;
-    DatasetId(index::wide(lead[k]))
+    DatasetId(shorts::wide(lead[k]))
 }
 
 fn set_piece(turned: &mut [u16], q: TreeId, g: DatasetId)
@@ -29,7 +30,7 @@ fn set_piece(turned: &mut [u16], q: TreeId, g: DatasetId)
     ensures { λ _. ⌜ now (turned .exit) ≡ set (now (turned .entry)) (q .0) (g .0) ⌝ }
 {
     let k = q.0;
-    turned[k] = index::narrow(g.0);
+    turned[k] = shorts::narrow(g.0);
 }
 
 // Of the place of each piece below n, the leader there: the place list turned round.
@@ -58,7 +59,7 @@ pub fn number_shadows(nodes: usize, marks: &[u8], shadows: &[u16], turned: &mut 
             q += 1;
             continue;
         }
-        let t = index::wide(shadows[j]);
+        let t = shorts::wide(shadows[j]);
         turned[q] = turned[t];
         j += 1;
         q += 1;
@@ -106,7 +107,7 @@ fn ends_by(nodes: usize, parens: &[u8], ranks: &[u16], ends: &mut [u16])
         }
         let end = end_of(parens, ranks, TreeId(q), p);
         let k = end.0;
-        ends[q] = index::narrow(k);
+        ends[q] = shorts::narrow(k);
         q += 1;
         p += 1;
     }

@@ -8,6 +8,7 @@ ghost use Rattle.matrices.specs.Led.{Led};
 ghost use Rattle.matrices.specs.Matrix.{IsMatrix};
 use index::DatasetId;
 use index::TreeId;
+use numbers::shorts;
 
 // How many nodes a tree has that is cheaper with short tables.
 const SMALL_TREE: usize = 512;
@@ -21,7 +22,7 @@ fn piece_at(turned: &[u16], q: TreeId) -> DatasetId
     ensures { λ r. ⌜ r .0 ≡ getD (now (turned .entry)) (q .0) 0 ⌝ }
 {
     let k = q.0;
-    DatasetId(index::wide(turned[k]))
+    DatasetId(shorts::wide(turned[k]))
 }
 
 // Fills the row of a leader h, unless it is filled: h itself, and the row of the leader of each part that hangs from its node. The
@@ -53,7 +54,7 @@ fn end_at(ends: &[u16], q: TreeId) -> TreeId
     ensures { λ r. ⌜ r .0 ≡ getD (now (ends .entry)) (q .0) 0 ⌝ }
 {
     let k = q.0;
-    TreeId(index::wide(ends[k]))
+    TreeId(shorts::wide(ends[k]))
 }
 
 // Puts each piece below n that follows another into that one's row, and clears every other bit of the rows below n.

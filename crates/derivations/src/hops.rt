@@ -9,18 +9,11 @@ ghost use Rattle.records.specs.Kept.{picked};
 ghost use Rattle.derivations.specs.Queue.{Queue, Spread, Hopped};
 ghost use Rattle.derivations.specs.Sources.{Sources};
 ghost use Rattle.matrices.specs.Matrix.{IsMatrix};
-use crate::writing::wide;
+use numbers::shorts;
 use records::Record;
 
 // What stands for no record in a list of records.
 pub const NO_RECORD: usize = 65535;
-
-fn narrow(x: usize) -> u16
-    requires { ⌜ x < 65536 ⌝ }
-    ensures { λ r. ⌜ r ≡ x ⌝ }
-{
-    x as u16
-}
 
 // One round: the parts of the piece at place `head` that are not met yet go to the end of the queue, whose new end is returned.
 fn spread(
@@ -34,7 +27,7 @@ fn spread(
     requires { ⌜ (IsMatrix (now e)) × (head < tail) × Queue n (now e) (now hop) (now order) tail ⌝ }
     ensures { λ r. ⌜ Spread n (now (e .entry)) (getD (now (order .entry)) head 0) (now (hop .entry)) (now (order .entry)) tail (now (hop .exit)) (now (order .exit)) r ⌝ }
 {
-    let c = wide(order[head]);
+    let c = shorts::wide(order[head]);
     let mut end = tail;
     let mut p = matrices::next_bit(e, c, 0);
     while p < n {
@@ -42,8 +35,8 @@ fn spread(
             p = matrices::next_bit(e, c, p + 1);
             continue;
         }
-        hop[p] = narrow(c);
-        order[end] = narrow(p);
+        hop[p] = shorts::narrow(c);
+        order[end] = shorts::narrow(p);
         end += 1;
         p = matrices::next_bit(e, c, p + 1);
     }
@@ -55,9 +48,9 @@ pub fn find_hops(k: usize, n: usize, e: &[u64], hop: &mut [u16], order: &mut [u1
     requires { ⌜ (IsMatrix (now e)) × (n ≤ 2048) × (k < n) × (length (now hop) ≡ 2048) × (length (now order) ≡ 2048) ⌝ }
     ensures { λ _. ⌜ Hopped n (now (e .entry)) k (now (hop .exit)) ⌝ }
 {
-    index::fill(hop, index::NONE);
-    hop[k] = narrow(k);
-    order[0] = narrow(k);
+    shorts::fill(hop, index::NONE);
+    hop[k] = shorts::narrow(k);
+    order[0] = shorts::narrow(k);
     let mut head: usize = 0;
     let mut tail: usize = 1;
     while head < tail {
@@ -71,7 +64,7 @@ pub fn find_sources(claim: Record, book: &[u8], hop: &[u16], source: &mut [u16])
     requires { ⌜ (length (now hop) ≡ 2048) × (length (now source) ≡ 2048) × (records (now book) ≤ 8192) × AllWithin 2048 (facts (picked (now book) claim)) ⌝ }
     ensures { λ _. ⌜ Sources claim (now (book .entry)) (now (hop .entry)) (records (now (book .entry))) (now (source .exit)) ⌝ }
 {
-    index::fill(source, 65535);
+    shorts::fill(source, 65535);
     let m = book.len() / records::RECORD_BYTES;
     let mut i: usize = 0;
     while i < m {
@@ -85,11 +78,11 @@ pub fn find_sources(claim: Record, book: &[u8], hop: &[u16], source: &mut [u16])
             continue;
         }
         let a = r.a;
-        if wide(hop[a]) != r.b {
+        if shorts::wide(hop[a]) != r.b {
             i += 1;
             continue;
         }
-        source[a] = narrow(i);
+        source[a] = shorts::narrow(i);
         i += 1;
     }
 }

@@ -225,7 +225,7 @@ fn last_inside(hop: &[u16], d: &[u64], x: usize, a: usize, b: usize) -> usize
         if y == a {
             return last;
         }
-        y = crate::writing::wide(hop[y]);
+        y = numbers::shorts::wide(hop[y]);
         i += 1;
         if matrices::test(d, b, y) {
             last = y;

@@ -9,27 +9,15 @@ ghost use Rattle.derivations.specs.Written.{Numbered, Put};
 ghost use Rattle.derivations.specs.Hops.{Reaches, hopStep};
 ghost use Rattle.derivations.specs.Climbs.{Climbed, Contained};
 use chain_format::Step;
-
-pub fn wide(x: u16) -> usize
-    ensures { λ r. ⌜ (r ≡ x) × (r < 65536) ⌝ }
-{
-    x as usize
-}
-
-fn narrow(x: usize) -> u8
-    requires { ⌜ x < 256 ⌝ }
-    ensures { λ r. ⌜ r ≡ x ⌝ }
-{
-    x as u8
-}
+use numbers::shorts;
 
 // A 16-bit number, low byte first.
 fn put_number(c: &mut [u8], at: usize, x: usize)
     requires { ⌜ (at + 2 ≤ length (now c)) × (x < 65536) ⌝ }
     ensures { λ _. ⌜ Numbered (now (c .entry)) (now (c .exit)) at x ⌝ }
 {
-    c[at] = narrow(x % 256);
-    c[at + 1] = narrow(x / 256);
+    c[at] = numbers::low(x);
+    c[at + 1] = numbers::low(x / 256);
 }
 
 // The one writer of steps.
@@ -86,8 +74,8 @@ fn climb(
     let mut x = from;
     let mut i = at;
     while x != k {
-        let y = wide(hop[x]);
-        let t = wide(source[x]);
+        let y = shorts::wide(hop[x]);
+        let t = shorts::wide(source[x]);
         put_step(c, i, hop_step(x, y, t));
         put_step(
             c,
@@ -127,8 +115,8 @@ pub fn write_part(g: usize, k: usize, hop: &[u16], source: &[u16], c: &mut [u8],
         );
         return at + 1;
     }
-    let y = wide(hop[g]);
-    let t = wide(source[g]);
+    let y = shorts::wide(hop[g]);
+    let t = shorts::wide(source[g]);
     put_step(c, at, hop_step(g, y, t));
     climb(g, k, y, hop, source, c, at + 1)
 }

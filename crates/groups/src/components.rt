@@ -6,6 +6,7 @@ ghost use lib.ListN.{length, getD, set};
 ghost use Rattle.matrices.specs.Matrix.{bitOf};
 ghost use Rattle.groups.specs.Search.{stateOf, WayOf, GoodOf, VisitedOf, Leading, Callable, Cut, Numbered, Inside, Room, Searchable, Searched};
 use matrices::RowNumbers;
+use numbers::shorts;
 
 // How long the path is, how many groups it has, and how many have ended.
 struct Path {
@@ -21,7 +22,7 @@ fn cut(bounds: &RowNumbers, top: usize, p: usize) -> usize
 {
     let mut t = top;
     while 0 < t {
-        if index::wide(bounds[t - 1]) <= p {
+        if shorts::wide(bounds[t - 1]) <= p {
             return t;
         }
         t -= 1;
@@ -36,8 +37,8 @@ fn close(path: &RowNumbers, done: &mut RowNumbers, at: usize, len: usize, count:
 {
     let mut i = at;
     while i < len {
-        let g = index::wide(path[i]);
-        done[g] = index::narrow(count);
+        let g = shorts::wide(path[i]);
+        done[g] = shorts::narrow(count);
         i += 1;
     }
 }
@@ -54,9 +55,9 @@ fn push(
     requires { ⌜ (v < 2048) × (len < 2048) × (top < 2048) ⌝ }
     ensures { λ _. ⌜ (now (pos .exit) ≡ set (now (pos .entry)) v len) × (now (path .exit) ≡ set (now (path .entry)) len v) × (now (bounds .exit) ≡ set (now (bounds .entry)) top len) ⌝ }
 {
-    pos[v] = index::narrow(len);
-    path[len] = index::narrow(v);
-    bounds[top] = index::narrow(len);
+    pos[v] = shorts::narrow(len);
+    path[len] = shorts::narrow(v);
+    bounds[top] = shorts::narrow(len);
 }
 
 // All that v leads to and that is new is put on the path and looked at; a part on the path makes one group of all from its own on; and the group
@@ -82,7 +83,7 @@ fn visit(
     let mut count = s.count;
     let mut w = matrices::next_bit(e, v, 0);
     while w < n {
-        if index::wide(pos[w]) == matrices::ROWS {
+        if shorts::wide(pos[w]) == matrices::ROWS {
             let r = visit(n, e, w, pos, done, path, bounds, Path { len, top, count });
             len = r.len;
             top = r.top;
@@ -90,14 +91,14 @@ fn visit(
             w = matrices::next_bit(e, v, w + 1);
             continue;
         }
-        if index::wide(done[w]) == matrices::ROWS {
-            top = cut(bounds, top, index::wide(pos[w]));
+        if shorts::wide(done[w]) == matrices::ROWS {
+            top = cut(bounds, top, shorts::wide(pos[w]));
             w = matrices::next_bit(e, v, w + 1);
             continue;
         }
         w = matrices::next_bit(e, v, w + 1);
     }
-    if index::wide(bounds[top - 1]) == at {
+    if shorts::wide(bounds[top - 1]) == at {
         close(path, done, at, len, count);
         return Path {
             len: at,

@@ -7,6 +7,7 @@ ghost use Rattle.groups.specs.Grouped.{Edged, Grouped};
 ghost use Rattle.groups.specs.Ranks.{Numerable, Ranked, Arrangeable, Arranged};
 ghost use Rattle.groups.specs.Search.{Searchable};
 use matrices::RowNumbers;
+use numbers::shorts;
 
 pub mod components;
 
@@ -22,22 +23,22 @@ fn number_groups(
     requires { ⌜ Numerable n (now done) (length (now number)) (length (now lead)) (length (now heads)) ⌝ }
     ensures { λ k. ⌜ Ranked n (λ x. getD (now (done .entry)) x 0) (now (number .exit)) (now (lead .exit)) k ⌝ }
 {
-    index::fill(heads, index::NONE);
+    shorts::fill(heads, index::NONE);
     let mut k: usize = 0;
     let mut g: usize = 0;
     while g < n {
-        let f = index::wide(done[g]);
-        let t = index::wide(heads[f]);
+        let f = shorts::wide(done[g]);
+        let t = shorts::wide(heads[f]);
         if t == matrices::ROWS {
-            heads[f] = index::narrow(g);
-            number[g] = index::narrow(k);
-            lead[g] = index::narrow(g);
+            heads[f] = shorts::narrow(g);
+            number[g] = shorts::narrow(k);
+            lead[g] = shorts::narrow(g);
             k += 1;
             g += 1;
             continue;
         }
         number[g] = number[t];
-        lead[g] = index::narrow(t);
+        lead[g] = shorts::narrow(t);
         g += 1;
     }
     k
@@ -52,12 +53,12 @@ fn arrange(n: usize, m: usize, done: &RowNumbers, lead: &[u16], order: &mut [u16
     let mut j: usize = 0;
     let mut g: usize = 0;
     while g < n {
-        if index::wide(lead[g]) == g {
-            order[from + index::wide(done[g])] = index::narrow(g);
+        if shorts::wide(lead[g]) == g {
+            order[from + shorts::wide(done[g])] = shorts::narrow(g);
             g += 1;
             continue;
         }
-        order[j] = index::narrow(g);
+        order[j] = shorts::narrow(g);
         j += 1;
         g += 1;
     }

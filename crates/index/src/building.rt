@@ -10,6 +10,7 @@ ghost use Rattle.matrices.specs.Matrix.{IsMatrix};
 use crate::DatasetId;
 use crate::TreeId;
 use matrices::RowNumbers;
+use numbers::shorts;
 
 pub struct Counts {
     pub nodes: usize,
@@ -56,15 +57,15 @@ fn walk(
         let p = matrices::next_bit(edges, c.0, from);
         if p < n {
             parentheses::put(parens, at);
-            if crate::wide(parent[p]) == c.0 {
-                places[p] = crate::narrow(k.0);
+            if shorts::wide(parent[p]) == c.0 {
+                places[p] = shorts::narrow(k.0);
                 at += 1;
                 k = TreeId(k.0 + 1);
                 c = DatasetId(p);
                 from = 1;
             } else {
                 parentheses::put(marks, k.0);
-                shadows[m] = crate::narrow(p);
+                shadows[m] = shorts::narrow(p);
                 at += 2;
                 k = TreeId(k.0 + 1);
                 m += 1;
@@ -80,7 +81,7 @@ fn walk(
             at += 1;
             let done = c.0;
             from = done + 1;
-            c = DatasetId(crate::wide(parent[done]));
+            c = DatasetId(shorts::wide(parent[done]));
         }
     }
 }
@@ -110,10 +111,10 @@ pub fn build(
     ensures joins { λ _. ⌜ Completed n (now (edges .entry)) (now (edges .exit)) ⌝ }
 {
     let parent = complete(n, edges);
-    parentheses::clear(parens);
-    parentheses::clear(marks);
-    crate::fill(shadows, 0);
-    crate::fill(places, 0);
+    numbers::clear(parens);
+    numbers::clear(marks);
+    shorts::fill(shadows, 0);
+    shorts::fill(places, 0);
     let counts = walk(n, edges, &parent, parens, marks, shadows, places);
     let m = counts.shadows;
     crate::resolve(shadows, places, m);

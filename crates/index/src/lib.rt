@@ -10,6 +10,7 @@ ghost use Rattle.matrices.specs.Matrix.{IsMatrix};
 pub use building::Counts;
 pub use building::build;
 use matrices::RowNumbers;
+use numbers::shorts;
 
 pub mod building;
 
@@ -34,37 +35,13 @@ pub struct DatasetId(pub usize);
 // A node's place in the tree, counted depth first.
 pub struct TreeId(pub usize);
 
-pub fn wide(x: u16) -> usize
-    ensures { λ r. ⌜ r ≡ x ⌝ }
-{
-    x as usize
-}
-
-pub fn narrow(x: usize) -> u16
-    requires { ⌜ x < 65536 ⌝ }
-    ensures { λ r. ⌜ r ≡ x ⌝ }
-{
-    x as u16
-}
-
 // The place list converts a piece's number to its place, and nothing else does.
 pub fn place_of(places: &[u16], g: DatasetId) -> TreeId
     requires { ⌜ g .0 < length (now places) ⌝ }
     ensures { λ r. ⌜ r .0 ≡ getD (now (places .entry)) (g .0) 0 ⌝ }
 {
     let i = g.0;
-    TreeId(wide(places[i]))
-}
-
-// Every number becomes v.
-pub fn fill(list: &mut [u16], v: u16)
-    ensures { λ _. ⌜ now (list .exit) ≡ replicate (length (now (list .entry))) v ⌝ }
-{
-    let mut done: usize = 0;
-    while done < list.len() {
-        list[done] = v;
-        done += 1;
-    }
+    TreeId(shorts::wide(places[i]))
 }
 
 // Marks the parts of c.
@@ -107,8 +84,8 @@ fn spread(
     let mut p = matrices::next_bit(edges, c, 1);
     while p < n {
         if parent[p] == crate::NONE {
-            parent[p] = narrow(c);
-            order[end] = narrow(p);
+            parent[p] = shorts::narrow(c);
+            order[end] = shorts::narrow(p);
             end += 1;
             p = matrices::next_bit(edges, c, p + 1);
             continue;
@@ -128,7 +105,7 @@ pub fn find_parents(n: usize, edges: &[u64]) -> RowNumbers
     let mut head: usize = 0;
     let mut tail: usize = 1;
     while head < tail {
-        let c = wide(order[head]);
+        let c = shorts::wide(order[head]);
         tail = spread(n, c, edges, &mut parent, &mut order, tail);
         head += 1;
     }
@@ -142,9 +119,9 @@ pub fn resolve(shadows: &mut [u16], places: &[u16], m: usize)
 {
     let mut j: usize = 0;
     while j < m {
-        let g = DatasetId(wide(shadows[j]));
+        let g = DatasetId(shorts::wide(shadows[j]));
         let t = place_of(places, g);
-        shadows[j] = narrow(t.0);
+        shadows[j] = shorts::narrow(t.0);
         j += 1;
     }
 }
@@ -154,10 +131,10 @@ pub fn place_members(n: usize, number: &[u16], groups: &[u16], places: &mut [u16
     requires { ⌜ (n ≤ length (now number)) × (n ≤ length (now places)) × ((g : ℕ) → g < n → getD (now number) g 0 < length (now groups)) ⌝ }
     ensures { λ _. ⌜ now (places .exit) ≡ padded 0 (length (now (places .entry))) (tab (λ g. getD (now (groups .entry)) (getD (now (number .entry)) g 0) 0) 0 n) ⌝ }
 {
-    fill(places, 0);
+    shorts::fill(places, 0);
     let mut g: usize = 0;
     while g < n {
-        let k = wide(number[g]);
+        let k = shorts::wide(number[g]);
         places[g] = groups[k];
         g += 1;
     }

@@ -7,6 +7,7 @@ ghost use Rattle.matrices.specs.Flow.{Sorted, Pushed, Reached, Carried, 
 ghost use Rattle.matrices.specs.Led.{Led, Pooled, Shared};
 ghost use Rattle.matrices.specs.Matrix.{bitOf, Gathered, Multiplied, IsMatrix};
 use crate::relation;
+use numbers::shorts;
 
 // Row r of the product of a and b is put into row r of dst.
 pub fn gather(dst: &mut [u64], a: &[u64], r: usize, b: &[u64])
@@ -68,12 +69,6 @@ fn push(e: &[u64], h: usize, m: &mut [u64])
     }
 }
 
-fn wide(x: u16) -> usize
-    ensures { λ r. ⌜ r ≡ x ⌝ }
-{
-    x as usize
-}
-
 // Each row below n becomes the union of the rows that it reaches along the edges. Edges lead to rows that come before in `order`, so
 // each is whole when it is used.
 pub fn join_along(e: &[u64], order: &[u16], n: usize, m: &mut [u64])
@@ -82,7 +77,7 @@ pub fn join_along(e: &[u64], order: &[u16], n: usize, m: &mut [u64])
 {
     let mut i: usize = 0;
     while i < n {
-        let h = wide(order[i]);
+        let h = shorts::wide(order[i]);
         pull(e, h, m);
         i += 1;
     }
@@ -96,7 +91,7 @@ pub fn join_against(e: &[u64], order: &[u16], n: usize, m: &mut [u64])
     let mut i = n;
     while 0 < i {
         i -= 1;
-        let h = wide(order[i]);
+        let h = shorts::wide(order[i]);
         push(e, h, m);
     }
 }
@@ -110,7 +105,7 @@ pub fn pool_rows(lead: &[u16], n: usize, m: &mut [u64])
     while i < n {
         let g = i;
         i += 1;
-        let h = wide(lead[g]);
+        let h = shorts::wide(lead[g]);
         if h == g {
             continue;
         }
@@ -127,7 +122,7 @@ pub fn share_rows(lead: &[u16], n: usize, m: &mut [u64])
     while i < n {
         let g = i;
         i += 1;
-        let h = wide(lead[g]);
+        let h = shorts::wide(lead[g]);
         if h == g {
             continue;
         }

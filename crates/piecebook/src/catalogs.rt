@@ -3,7 +3,6 @@ ghost use Rattle.piecebook.specs.Catalogs.{Counted, Catalogs, Asked};
 ghost use mathlib.Core.Path.{_≡_};
 ghost use Rattle.catalog.specs.Lent.{lent};
 ghost use Rattle.areas.specs.Subtree.{rangeFrom, rangeTo};
-use crate::results::wide;
 use catalog::Listing;
 use index::DatasetId;
 use index::TreeId;
@@ -38,7 +37,7 @@ pub fn counted_of(listing: Listing) -> PiecebookCatalogResult
             notpart: counts.notpart,
         },
         Listing::Refused(refusal, place) => PiecebookCatalogResult {
-            number: crate::results::wide(records::refusal_number(refusal)),
+            number: numbers::wide(records::refusal_number(refusal)),
             place,
             pieces: 0,
             nodes: 0,

@@ -7,7 +7,6 @@ ghost use Rattle.lists.specs.Tally.{num};
 ghost use Rattle.chain_check.specs.Call.{passes};
 ghost use Rattle.clash.specs.Clash as clashing;
 ghost use Rattle.piecebook.specs.Clashes.{Clashed};
-use crate::results::wide;
 use chain_writing::Reply;
 use verdicts::Answer;
 
@@ -41,7 +40,7 @@ pub fn chained(reply: Reply, steps: usize) -> PiecebookChainResult
             steps,
         },
         Reply::Refused(refusal, place) => PiecebookChainResult {
-            number: crate::results::wide(records::refusal_number(refusal)),
+            number: numbers::wide(records::refusal_number(refusal)),
             place,
             answer: 0,
             steps,
@@ -67,7 +66,7 @@ pub fn clashed(reply: clash::Reply, steps: usize) -> PiecebookClashResult
             steps,
         },
         clash::Reply::Refused(refusal, place) => PiecebookClashResult {
-            number: crate::results::wide(records::refusal_number(refusal)),
+            number: numbers::wide(records::refusal_number(refusal)),
             place,
             steps,
         },

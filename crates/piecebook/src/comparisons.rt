@@ -3,7 +3,6 @@ ghost use Rattle.compare.specs.Call.{outcome};
 ghost use Rattle.piecebook.specs.Compares.{Reported, Compares};
 ghost use lib.ListN.{length};
 ghost use Rattle.compare.specs.Demands.{Demanded};
-use crate::results::wide;
 use compare::Comparison;
 
 // A comparison's outcome as include/piecebook.h has it.
@@ -26,7 +25,7 @@ pub fn reported_of(comparison: Comparison) -> PiecebookComparison
             together: consistent as usize,
         },
         Comparison::Refused(book, refusal, place) => PiecebookComparison {
-            number: crate::results::wide(records::refusal_number(refusal)),
+            number: numbers::wide(records::refusal_number(refusal)),
             place,
             book,
             together: 0,

@@ -161,7 +161,7 @@ fn told(outcome: Outcome, answer: usize) -> PiecebookWorkingResult
             answer,
         },
         Outcome::Refused(refusal, place) => PiecebookWorkingResult {
-            number: results::wide(records::refusal_number(refusal)),
+            number: numbers::wide(records::refusal_number(refusal)),
             place,
             answer,
         },
@@ -241,7 +241,7 @@ pub fn ask_of(
 {
     let asked = working::ask_of(state_of(was), area, claim, e, d, t, u, p, q);
     let outcome = asked.outcome;
-    told(outcome, results::wide(asked.answer))
+    told(outcome, numbers::wide(asked.answer))
 }
 
 // The counts are lent as two numbers, which is how C lays them out. A refused start leaves them.

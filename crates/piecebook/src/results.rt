@@ -1,5 +1,4 @@
 // The structs of include/piecebook.h that outcomes become.
-ghost use mathlib.Core.Path.{_≡_};
 ghost use Rattle.piecebook.specs.Exported.{Reported};
 ghost use Rattle.piecebook.specs.Converts.{Told};
 use convert::Conversion;
@@ -15,12 +14,6 @@ pub struct PiecebookResult {
     pub shadows: usize,
 }
 
-pub fn wide(x: u8) -> usize
-    ensures { λ r. ⌜ r ≡ x ⌝ }
-{
-    x as usize
-}
-
 pub fn result_of(outcome: Outcome) -> PiecebookResult
     ensures { λ r. ⌜ Reported outcome r ⌝ }
 {
@@ -33,7 +26,7 @@ pub fn result_of(outcome: Outcome) -> PiecebookResult
             shadows,
         },
         Outcome::Refused(refusal, place) => PiecebookResult {
-            number: wide(records::refusal_number(refusal)),
+            number: numbers::wide(records::refusal_number(refusal)),
             place,
             pieces: 0,
             nodes: 0,
@@ -60,7 +53,7 @@ pub fn converted_of(conversion: Conversion) -> PiecebookConverted
             length,
         },
         Conversion::Refused(refusal, place) => PiecebookConverted {
-            number: wide(records::refusal_number(refusal)),
+            number: numbers::wide(records::refusal_number(refusal)),
             place,
             length: 0,
         },

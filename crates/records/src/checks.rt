@@ -182,7 +182,7 @@ fn check_records_by(
             }
             j += 1;
         }
-        pieces = crate::larger_of(pieces, crate::largest_named(record) + 1);
+        pieces = numbers::larger_of(pieces, crate::largest_named(record) + 1);
         i += 1;
     }
 }

@@ -131,21 +131,14 @@ pub fn refusal_number(r: Refusal) -> u8
     }
 }
 
-// A byte as a number that sums are made of.
-fn wide(x: u8) -> usize
-    ensures { λ r. ⌜ (r ≡ x) × (r < 256) ⌝ }
-{
-    x as usize
-}
-
 // The one reader of records. Claims have the same layout.
 pub fn record_at(s: &[u8], i: usize) -> Record
     requires { ⌜ 6 * i + 6 ≤ length (now s) ⌝ }
     ensures { λ r. ⌜ r ≡ recordAt (now (s .entry)) i ⌝ }
 {
     let at = 6 * i;
-    let a = wide(s[at + 2]) + 256 * wide(s[at + 3]);
-    let b = wide(s[at + 4]) + 256 * wide(s[at + 5]);
+    let a = numbers::number_at(s, at + 2);
+    let b = numbers::number_at(s, at + 4);
     Record {
         kind: s[at],
         origin: s[at + 1],
@@ -177,12 +170,6 @@ pub fn largest_named(r: Record) -> usize
     r.a
 }
 
-pub fn larger_of(x: usize, y: usize) -> usize
-    ensures { λ r. ⌜ r ≡ max x y ⌝ }
-{
-    if x < y { y } else { x }
-}
-
 // One more than the largest number that the records of a run name.
 pub fn piece_count(run: &[u8]) -> usize
     ensures { λ r. ⌜ r ≡ pieceCount (now (run .entry)) ⌝ }
@@ -191,7 +178,7 @@ pub fn piece_count(run: &[u8]) -> usize
     let mut pieces: usize = 1;
     let mut i: usize = 0;
     while i < n {
-        pieces = larger_of(pieces, largest_named(record_at(run, i)) + 1);
+        pieces = numbers::larger_of(pieces, largest_named(record_at(run, i)) + 1);
         i += 1;
     }
     pieces

@@ -57,7 +57,7 @@ fn write_bytes(xs: &[u16], c: usize, a: &[u64], out: &mut [u8])
     let mut q = c;
     while q < xs.len() {
         let seen = windows::look(xs, q, a);
-        start = windows::larger(start, seen.from);
+        start = numbers::larger_of(start, seen.from);
         let at = 2 * (q - c);
         out[at] = seen.apart;
         out[at + 1] = flag(start <= windows::oldest_of(q));
@@ -65,18 +65,12 @@ fn write_bytes(xs: &[u16], c: usize, a: &[u64], out: &mut [u8])
     }
 }
 
-fn wide(x: u8) -> u16
-    ensures { λ r. ⌜ (r ≡ x) × (r < 256) ⌝ }
-{
-    x as u16
-}
-
 // Entry i of a part of the log.
 fn entry_at(log: &[u8], i: usize) -> u16
     requires { ⌜ 2 * i + 2 ≤ length (now log) ⌝ }
     ensures { λ r. ⌜ r ≡ entryAt (now (log .entry)) i ⌝ }
 {
-    wide(log[2 * i]) + 256 * wide(log[2 * i + 1])
+    numbers::shorts::narrow(numbers::number_at(log, 2 * i))
 }
 
 // Row 21 of the window.

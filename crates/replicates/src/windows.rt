@@ -1,7 +1,7 @@
 // The window before an entry of a log: what is read of it, and how far it reaches.
 ghost use mathlib.Core.Path.{_≡_};
 ghost use lib.ListN.{length};
-ghost use Prim.Native.Nat.{max, _+_, _-_, _<_, _≤_};
+ghost use Prim.Native.Nat.{_+_, _-_, _<_, _≤_};
 ghost use Rattle.matrices.specs.Matrix.{bitOf};
 ghost use Rattle.replicates.specs.Before.{oldest};
 ghost use Rattle.replicates.specs.Looking.{Sequence, seeing, Looked, Reach};
@@ -62,16 +62,6 @@ pub fn look(xs: &[u16], q: usize, a: &[u64]) -> Seen
     seen
 }
 
-// The larger of two numbers.
-pub fn larger(x: usize, y: usize) -> usize
-    ensures { λ r. ⌜ r ≡ max x y ⌝ }
-{
-    if x < y {
-        return y;
-    }
-    x
-}
-
 // From where on every two of the first c entries are apart, as far back as anyone looks.
 pub fn reach(xs: &[u16], c: usize, a: &[u64]) -> usize
     requires { ⌜ Sequence (now xs) (now a) × (c ≤ length (now xs)) × (length (now xs) < 100000) ⌝ }
@@ -81,7 +71,7 @@ pub fn reach(xs: &[u16], c: usize, a: &[u64]) -> usize
     let mut q: usize = 0;
     while q < c {
         let seen = look(xs, q, a);
-        start = larger(start, seen.from);
+        start = numbers::larger_of(start, seen.from);
         q += 1;
     }
     start

@@ -5,18 +5,6 @@ ghost use Prim.Native.Nat.{_+_, _≤_};
 ghost use lib.ListN.{length, take, drop};
 ghost use Rattle.parentheses.specs.Padded.{padded};
 
-// Copies a run to as many bytes.
-fn copy(run: &[u8], out: &mut [u8])
-    requires { ⌜ length (now run) ≡ length (now out) ⌝ }
-    ensures { λ _. ⌜ now (out .exit) ≡ now (run .entry) ⌝ }
-{
-    let mut i: usize = 0;
-    while i < run.len() {
-        out[i] = run[i];
-        i += 1;
-    }
-}
-
 // Writes two runs one behind the other, and zeros behind them.
 pub fn write_runs(first: &[u8], second: &[u8], out: &mut [u8])
     requires { ⌜ length (now first) + length (now second) ≤ length (now out) ⌝ }
@@ -24,9 +12,9 @@ pub fn write_runs(first: &[u8], second: &[u8], out: &mut [u8])
 {
     let at = first.len();
     let end = at + second.len();
-    copy(first, &mut out[..at]);
-    copy(second, &mut out[at..end]);
-    parentheses::clear(&mut out[end..]);
+    numbers::copy_to(first, out, 0);
+    numbers::copy_to(second, out, at);
+    numbers::clear(&mut out[end..]);
 }
 
 // Writes the bytes before `at` and those from `at` + 6 up to `end`, and zeros behind them.

@@ -5,8 +5,8 @@ use Rattle.compare.proofs.Judges.{asked-fit, asked-long, asked-ready}
 use Rattle.compare.proofs.check_asked.Statement.{statement}
 use Rattle.compare.proofs.check_asked.Tie as tie
 
-larger-requires : tie.Need-larger-requires
-larger-requires c κs = tt
+larger-of-requires : tie.Need-larger-of-requires
+larger-of-requires c κs = tt
 
 check-claims-requires : tie.Need-check-claims-requires
 check-claims-requires c κs = tt
@@ -36,12 +36,12 @@ slice-aggregate-judge-both-2 : tie.Need-slice-aggregate-judge-both-2
 slice-aggregate-judge-both-2 c = sym (asked-long _ _ (c .before .before .before .before .check-claims .ensures) (c .before .before .enum-told .given .1))
 
 judge-both-requires : tie.Need-judge-both-requires
-judge-both-requires c κs = (asked-ready _ _ (c .before .before .before .before .before .before .before .before .before .before .before .check-claims .ensures) (c .before .before .before .before .before .before .before .before .before .enum-told .given .1) (c .before .before .before .before .before .before .before .before .before .before .before .before .larger .ensures) (c .before .before .before .before .before .before .before .before .before .before .before .before .before .before .before .before .before .before .pre), asked-long _ _ (c .before .before .before .before .before .before .before .before .before .before .before .check-claims .ensures) (c .before .before .before .before .before .before .before .before .before .enum-told .given .1), asked-long _ _ (c .before .before .before .before .before .before .before .before .before .before .before .check-claims .ensures) (c .before .before .before .before .before .before .before .before .before .enum-told .given .1))
+judge-both-requires c κs = (asked-ready _ _ (c .before .before .before .before .before .before .before .before .before .before .before .check-claims .ensures) (c .before .before .before .before .before .before .before .before .before .enum-told .given .1) (c .before .before .before .before .before .before .before .before .before .before .before .before .larger-of .ensures) (c .before .before .before .before .before .before .before .before .before .before .before .before .before .before .before .before .before .before .pre), asked-long _ _ (c .before .before .before .before .before .before .before .before .before .before .before .check-claims .ensures) (c .before .before .before .before .before .before .before .before .before .enum-told .given .1), asked-long _ _ (c .before .before .before .before .before .before .before .before .before .before .before .check-claims .ensures) (c .before .before .before .before .before .before .before .before .before .enum-told .given .1))
 
 returns : tie.Need-returns
 returns c =
     let P = c .before .before .before .before .before .before .before .before .before .before .before .before .before .before .before .before .before .before .before .before .before .before .before .before .pre in
-    asked-refused _ _ _ _ (P .first) (P .second) _ _ (rw (c .before .before .before .before .before .before .before .before .before .before .before .before .before .before .before .before .before .before .larger .ensures) at (sym (c .before .before .before .before .before .before .before .before .before .before .before .before .before .before .before .before .before .check-claims .ensures) ∙ c .before .before .before .before .before .before .before .before .before .before .before .before .before .before .before .fit .given .1)) (c .before .before .before .before .before .before .before .after .ensures) (c .after2 .ensures)
+    asked-refused _ _ _ _ (P .first) (P .second) _ _ (rw (c .before .before .before .before .before .before .before .before .before .before .before .before .before .before .before .before .before .before .larger-of .ensures) at (sym (c .before .before .before .before .before .before .before .before .before .before .before .before .before .before .before .before .before .check-claims .ensures) ∙ c .before .before .before .before .before .before .before .before .before .before .before .before .before .before .before .fit .given .1)) (c .before .before .before .before .before .before .before .after .ensures) (c .after2 .ensures)
 
 same-length : tie.Need-same-length
 same-length c = c .before .before .before .before .judge-both .kept .1 .1 .1 .1 .1 .1 .1 .1 .0
@@ -53,7 +53,7 @@ pub check-asked-spec : {M : Type 1} → statement M
 check-asked-spec =
     tie.close
     (tie.spec
-    larger-requires
+    larger-of-requires
     check-claims-requires
     enum-known-fit
     after-requires

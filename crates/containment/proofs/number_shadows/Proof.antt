@@ -49,7 +49,7 @@ target c =
     let e = c .before .before in
     let L = e .before .before .before .loop in
     let A = e .before .before .before .before .before .before .before in
-    omega (arith, c .wide .ensures, ap (λ (j : ℕ). getD (A .args .shadows .now) j 0) (L .inv .3 .count), A .pre .2 .target (L .q) (omega arith) (marked e))
+    omega (arith, c .wide .ensures .0, ap (λ (j : ℕ). getD (A .args .shadows .now) j 0) (L .inv .3 .count), A .pre .2 .target (L .q) (omega arith) (marked e))
 
 shared-slice-read-wide : tie.Need-shared-slice-read-wide Inv-loop μ-loop
 shared-slice-read-wide c =
@@ -89,7 +89,7 @@ loop-again-2 c =
       search needs,
       search needs,
       simp length-set (omega arith),
-      shadows-more (A .args .nodes) _ _ _ (L .inv .3) (c .before .wide .result) (A .pre .2) (omega arith) (omega arith) (marked e) (c .before .wide .ensures),
+      shadows-more (A .args .nodes) _ _ _ (L .inv .3) (c .before .wide .result) (A .pre .2) (omega arith) (omega arith) (marked e) (c .before .wide .ensures .0),
     )
 
 same-length : tie.Need-same-length Inv-loop μ-loop

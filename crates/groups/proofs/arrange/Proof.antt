@@ -21,8 +21,8 @@ place : (c : tie.After-wide2 Inv-loop μ-loop) → (c .before .before .before .b
 place c =
     let s = c .before .before .before .before .before .before .before .before .before .before in
     let g = c .before .before .before .before .before .before .before .loop .g in
-    let e : getD (s .args .lead .now) g 0 ≡ g = omega (arith, c .before .before .before .before .wide .ensures, c .before .before .before .if1 .taken) in
-    (omega (arith, c .wide2 .ensures, leader-place (s .args .n) (s .args .m) (s .args .done .now) (s .args .lead .now) _ (s .pre) g (c .before .before .before .before .before .before .loop-test .taken) e), e)
+    let e : getD (s .args .lead .now) g 0 ≡ g = omega (arith, c .before .before .before .before .wide .ensures .0, c .before .before .before .if1 .taken) in
+    (omega (arith, c .wide2 .ensures .0, leader-place (s .args .n) (s .args .m) (s .args .done .now) (s .args .lead .now) _ (s .pre) g (c .before .before .before .before .before .before .loop-test .taken) e), e)
 
 sub-from : tie.Need-sub-from Inv-loop μ-loop
 sub-from c = part _ _ _ (c .before .before .pre .counted)
@@ -73,7 +73,7 @@ loop-again c =
     let o = c .before .before .before .before .before .before .before .loop in
     let s = c .before .before .before .before .before .before .before .before .before .before in (
       (s .pre .few, omega arith, omega arith, length-set (o .order) (s .args .n - s .args .m + c .wide2 .result) (c .before .before .narrow .result) ∙ o .inv .0 .3),
-      rw (c .before .before .narrow .ensures, c .wide2 .ensures)
+      rw (c .before .before .narrow .ensures, c .wide2 .ensures .0)
           (arrange-leader (s .args .n) (s .args .m) (s .args .done .now) (s .args .lead .now) _ (s .pre) (o .order) (o .j) (o .g) (o .inv .1) (c .before .before .before .before .before .before .loop-test .taken) (omega (arith, o .inv .0)) (place c .1)),
     )
 
@@ -101,7 +101,7 @@ loop-again-2 c =
     let s = c .before .before .before .before .before .before .before .before in (
       (s .pre .few, omega arith, omega arith, length-set (o .order) (o .j) (c .narrow2 .result) ∙ o .inv .0 .3),
       rw (c .narrow2 .ensures)
-          (arrange-follower (s .args .n) (s .args .m) (s .args .done .now) (s .args .lead .now) _ (s .pre) (o .order) (o .j) (o .g) (o .inv .1) (c .before .before .before .before .loop-test .taken) (omega (arith, o .inv .0)) (λ e. c .before .if1 .left (c .before .before .wide .ensures ∙ e))),
+          (arrange-follower (s .args .n) (s .args .m) (s .args .done .now) (s .args .lead .now) _ (s .pre) (o .order) (o .j) (o .g) (o .inv .1) (c .before .before .before .before .loop-test .taken) (omega (arith, o .inv .0)) (λ e. c .before .if1 .left (c .before .before .wide .ensures .0 ∙ e))),
     )
 
 same-length : tie.Need-same-length Inv-loop μ-loop

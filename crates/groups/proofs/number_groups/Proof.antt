@@ -20,7 +20,7 @@ abbrev μ-loop : tie.MeasureT-loop
 class : (c : tie.After-wide Inv-loop μ-loop) → (c .wide .result < 2048) × (c .wide .result < c .before .before .before .before .before .before .before .before .before .before .before .args .n)
 class c =
     let s = c .before .before .before .before .before .before .before .before .before .before .before in
-    (omega (arith, c .wide .ensures, s .pre .small (c .before .before .before .loop .g) (c .before .before .loop-test .taken), s .pre .few), omega (arith, c .wide .ensures, s .pre .small (c .before .before .before .loop .g) (c .before .before .loop-test .taken)))
+    (omega (arith, c .wide .ensures .0, s .pre .small (c .before .before .before .loop .g) (c .before .before .loop-test .taken), s .pre .few), omega (arith, c .wide .ensures .0, s .pre .small (c .before .before .before .loop .g) (c .before .before .loop-test .taken)))
 
 -- and the leader that it has, where it has one, is lower than g
 old : (c : tie.Else1 Inv-loop μ-loop) → (c .before .wide2 .result ≡ getD (c .before .before .before .before .before .before .loop .heads) (getD (c .before .before .before .before .before .before .before .before .before .before .before .before .before .before .args .done .now) (c .before .before .before .before .before .before .loop .g) 0) 0) × (c .before .wide2 .result < c .before .before .before .before .before .before .loop .g)
@@ -28,7 +28,7 @@ old c =
     let o = c .before .before .before .before .before .before .loop in
     let s = c .before .before .before .before .before .before .before .before .before .before .before .before .before .before in
     let l = c .before .before .before .before .before .loop-test .taken in
-    let e = c .before .wide2 .ensures ∙ ap (λ (j : ℕ). getD (o .heads) j 0) (c .before .before .before .wide .ensures) in
+    let e = c .before .wide2 .ensures .0 ∙ ap (λ (j : ℕ). getD (o .heads) j 0) (c .before .before .before .wide .ensures .0) in
     let h = old-head (s .args .n) (λ x. getD (s .args .done .now) x 0) (o .number) (o .lead) (o .heads) (o .k) (o .g) (o .inv .1) l (s .pre .few) (s .pre .small (o .g) l) (omega (arith, o .inv .0)) (omega (arith, o .inv .0)) (omega (arith, o .inv .0)) (λ q. c .if1 .left (e ∙ q)) in
     (e, omega (arith, e, h .1))
 
@@ -99,8 +99,8 @@ loop-again c =
     let o = c .before .before .before .before .before .before .before .before .before .loop in
     let s = c .before .before .before .before .before .before .before .before .before .before .before .before .before .before .before .before .before in
     let l = c .before .before .before .before .before .before .before .before .loop-test .taken in
-    let f = c .before .before .before .before .before .before .wide .ensures in
-    let e : getD (o .heads) (getD (s .args .done .now) (o .g) 0) 0 ≡ 2048 = omega (arith, c .before .before .before .before .wide2 .ensures, c .before .before .before .if1 .taken, ap (λ (j : ℕ). getD (o .heads) j 0) f) in (
+    let f = c .before .before .before .before .before .before .wide .ensures .0 in
+    let e : getD (o .heads) (getD (s .args .done .now) (o .g) 0) 0 ≡ 2048 = omega (arith, c .before .before .before .before .wide2 .ensures .0, c .before .before .before .if1 .taken, ap (λ (j : ℕ). getD (o .heads) j 0) f) in (
       (s .pre .few, omega arith, omega arith, length-set (o .number) (o .g) (c .before .narrow2 .result) ∙ o .inv .0 .3, length-set (o .lead) (o .g) (c .narrow3 .result) ∙ o .inv .0 .4, length-set (o .heads) (c .before .before .before .before .before .before .wide .result) (c .before .before .narrow .result) ∙ o .inv .0 .5),
       rw (c .narrow3 .ensures, c .before .narrow2 .ensures, c .before .before .narrow .ensures, f)
           (rank-new (s .args .n) (λ x. getD (s .args .done .now) x 0) (o .number) (o .lead) (o .heads) (o .k) (o .g) (o .inv .1) l (s .pre .few) (s .pre .small (o .g) l) (omega (arith, o .inv .0)) (omega (arith, o .inv .0)) (omega (arith, o .inv .0)) e),

@@ -36,7 +36,7 @@ spread-requires c κs =
     let L = c .before .before .before .before .loop in
     let s = c .before .before .before .before .before .before in (
       record { book = s .pre .book; small = s .pre .small; matrix = s .pre .matrix; parRoom = L .inv .2 .parRoom; ordRoom = L .inv .2 .ordRoom },
-      rw (c .before .before .wide .ensures) (head-small _ _ (s .pre .book) (L .parent) (L .order) (L .head) (L .tail) (L .inv .2) (c .before .before .before .loop-test .taken)),
+      rw (c .before .before .wide .ensures .0) (head-small _ _ (s .pre .book) (L .parent) (L .order) (L .head) (L .tail) (L .inv .2) (c .before .before .before .loop-test .taken)),
       room _ _ _ _ (L .inv .2 .count) (L .inv .2 .ordRoom),
       L .inv .1,
     )
@@ -51,7 +51,7 @@ loop-again : tie.Need-loop-again Inv-loop μ-loop
 loop-again c =
     let L = c .before .before .before .before .before .loop in
     let s = c .before .before .before .before .before .before .before in
-    let S = rw (c .before .before .before .wide .ensures) at (c .spread .ensures) in
+    let S = rw (c .before .before .before .wide .ensures .0) at (c .spread .ensures) in
     (S .parLength ∙ L .inv .0, S .ordLength ∙ L .inv .1, round-next _ _ (s .pre .book) (L .parent) (L .order) (L .head) (L .tail) (L .inv .2) (c .before .before .before .before .loop-test .taken) _ _ _ S)
 
 returns : tie.Need-returns Inv-loop μ-loop

@@ -40,7 +40,7 @@ wide-requires c κs = search needs
 in-groups : (c : tie.After-wide Inv-loop μ-loop) → c .wide .result < length (c .before .before .before .before .before .before .before .before .before .before .before .args .groups .now)
 in-groups c =
     let A = c .before .before .before .before .before .before .before .before .before .before .before in
-    omega (arith, c .wide .ensures, A .pre .2 (c .before .before .before .loop .g) (omega arith))
+    omega (arith, c .wide .ensures .0, A .pre .2 (c .before .before .before .loop .g) (omega arith))
 
 mul-places : tie.Need-mul-places Inv-loop μ-loop
 mul-places c = omega (arith, in-groups c)
@@ -68,7 +68,7 @@ loop-again c =
       search needs,
       below-more (λ k. getD (set (L .places) (L .g) _) k 0 ≡ getD (A .args .groups .now) (getD (A .args .number .now) k 0) 0) (L .g)
           (λ k a. getD-set-other (L .places) (L .g) k _ 0 (λ z. omega arith) ∙ L .inv .2 k a)
-          (getD-set-same (L .places) (L .g) _ 0 (omega arith) ∙ ap (λ (k : ℕ). getD (A .args .groups .now) k 0) (c .before .wide .ensures)),
+          (getD-set-same (L .places) (L .g) _ 0 (omega arith) ∙ ap (λ (k : ℕ). getD (A .args .groups .now) k 0) (c .before .wide .ensures .0)),
       λ k a. getD-set-other (L .places) (L .g) k _ 0 (λ z. omega arith) ∙ L .inv .3 k (omega arith),
     )
 

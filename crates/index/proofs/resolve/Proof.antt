@@ -27,12 +27,12 @@ wide-requires : tie.Need-wide-requires Inv-loop μ-loop
 wide-requires c κs = tt
 
 place-of-requires : tie.Need-place-of-requires Inv-loop μ-loop
-place-of-requires c κs = let L = c .before .before .before .loop in omega (arith, c .wide .ensures, L .inv .2 .kept (L .j) (omega arith), L .inv .0 .known (L .j) (omega arith))
+place-of-requires c κs = let L = c .before .before .before .loop in omega (arith, c .wide .ensures .0, L .inv .2 .kept (L .j) (omega arith), L .inv .0 .known (L .j) (omega arith))
 
 narrow-requires : tie.Need-narrow-requires Inv-loop μ-loop
 narrow-requires c κs =
     let j = c .before .before .before .before .loop .j in
-    omega (arith, c .place-of .ensures, c .before .before .before .before .before .shared-slice-known .given (c .before .wide .result), c .before .wide .ensures, c .before .before .slice-known2 .given j)
+    omega (arith, c .place-of .ensures, c .before .before .before .before .before .shared-slice-known .given (c .before .wide .result), c .before .wide .ensures .0, c .before .before .slice-known2 .given j)
 
 mul-shadows : tie.Need-mul-shadows Inv-loop μ-loop
 mul-shadows c = omega arith
@@ -49,7 +49,7 @@ loop-less c = omega arith
 loop-again : tie.Need-loop-again Inv-loop μ-loop
 loop-again c =
     let L = c .before .before .before .before .before .loop in
-    (L .inv .0, omega arith, rw (c .narrow .ensures, c .before .place-of .ensures, c .before .before .wide .ensures) (resolve-more _ _ (L .j) (L .shadows) (L .inv .2) (omega arith)))
+    (L .inv .0, omega arith, rw (c .narrow .ensures, c .before .place-of .ensures, c .before .before .wide .ensures .0) (resolve-more _ _ (L .j) (L .shadows) (L .inv .2) (omega arith)))
 
 same-length : tie.Need-same-length Inv-loop μ-loop
 same-length c = c .before .loop .inv .2 .same

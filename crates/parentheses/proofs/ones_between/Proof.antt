@@ -33,12 +33,12 @@ wide-requires-2 c κs = search needs
 sub-result : tie.Need-sub-result
 sub-result c =
     let S = c .before .before .before .before .before .before .before in
-    ranks-rise (now (S .args .bytes)) (now (S .args .ranks)) (S .pre .3) (S .args .from) (S .args .to) (S .pre .0) (S .pre .1) (omega arith) (c .wide2 .result) (c .before .before .wide .result) (c .wide2 .ensures) (c .before .before .wide .ensures)
+    ranks-rise (now (S .args .bytes)) (now (S .args .ranks)) (S .pre .3) (S .args .from) (S .args .to) (S .pre .0) (S .pre .1) (omega arith) (c .wide2 .result) (c .before .before .wide .result) (c .wide2 .ensures .0) (c .before .before .wide .ensures .0)
 
 returns-2 : tie.Need-returns-2
 returns-2 c =
     let S = c .before .before .before .before .before .before .before in
-    ranks-between (now (S .args .bytes)) (now (S .args .ranks)) (S .pre .3) (S .args .from) (S .args .to) (S .pre .0) (S .pre .1) (omega arith) (c .wide2 .result) (c .before .before .wide .result) (c .wide2 .ensures) (c .before .before .wide .ensures)
+    ranks-between (now (S .args .bytes)) (now (S .args .ranks)) (S .pre .3) (S .args .from) (S .args .to) (S .pre .0) (S .pre .1) (omega arith) (c .wide2 .result) (c .before .before .wide .result) (c .wide2 .ensures .0) (c .before .before .wide .ensures .0)
 
 pub ones-between-spec : {M : Type 1} → statement M
 ones-between-spec =

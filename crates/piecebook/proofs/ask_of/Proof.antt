@@ -18,7 +18,7 @@ told-requires : tie.Need-told-requires
 told-requires c κs = search needs
 
 returns : tie.Need-returns
-returns c = answered _ _ _ _ _ _ _ (c .before .before .before .before .before .before .before .before .before .state-of .ensures) (c .before .wide .ensures) (c .told .ensures) (c .before .before .ask-of .ensures)
+returns c = answered _ _ _ _ _ _ _ (c .before .before .before .before .before .before .before .before .before .state-of .ensures) (c .before .wide .ensures .0) (c .told .ensures) (c .before .before .ask-of .ensures)
 
 pub ask-of-spec : {M : Type 1} → statement M
 ask-of-spec =

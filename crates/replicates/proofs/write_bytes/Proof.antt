@@ -33,8 +33,8 @@ look-requires c κs =
     let p = c .before .before .before .before .before .before .pre in
     (p .0, omega arith, omega (arith, p .2))
 
-larger-requires : tie.Need-larger-requires Inv-loop μ-loop
-larger-requires c κs = search needs
+larger-of-requires : tie.Need-larger-of-requires Inv-loop μ-loop
+larger-of-requires c κs = search needs
 
 sub-at : tie.Need-sub-at Inv-loop μ-loop
 sub-at c = search needs
@@ -72,12 +72,12 @@ loop-again c =
     let at = c .before .before .before .before .before in
     let b = at .before .before .before .before .before in
     let inv = at .loop .inv in
-    let r = reach-more _ _ _ _ _ _ (inv .3) (c .before .before .before .look .ensures) (c .before .before .larger .ensures) in (
+    let r = reach-more _ _ _ _ _ _ (inv .3) (c .before .before .before .look .ensures) (c .before .before .larger-of .ensures) in (
       omega arith,
       omega arith,
       search needs,
       r,
-      bytes-more _ _ _ _ _ _ _ _ _ _ (inv .0) (omega (arith, b .pre .3)) (inv .4) (c .before .before .before .look .ensures) r refl (c .flag .ensures ∙ ap (λ (k : ℕ). num (leb (c .before .before .larger .result) k)) (c .before .oldest-of .ensures)),
+      bytes-more _ _ _ _ _ _ _ _ _ _ (inv .0) (omega (arith, b .pre .3)) (inv .4) (c .before .before .before .look .ensures) r refl (c .flag .ensures ∙ ap (λ (k : ℕ). num (leb (c .before .before .larger-of .result) k)) (c .before .oldest-of .ensures)),
     )
 
 same-length : tie.Need-same-length Inv-loop μ-loop
@@ -97,7 +97,7 @@ write-bytes-spec =
     reach-requires
     loop-holds
     look-requires
-    larger-requires
+    larger-of-requires
     sub-at
     mul-at
     slice-write-out

@@ -41,7 +41,7 @@ shared-slice-read-t12 : tie.Need-shared-slice-read-t12
 shared-slice-read-t12 c = search needs
 
 returns : tie.Need-returns
-returns c = let d = c .before .before in read-step _ _ _ _ _ _ (d .before .before .before .number-at .ensures) (d .before .before .number-at2 .ensures) (d .before .number-at3 .ensures) (d .number-at4 .ensures)
+returns c = let d = c .before .before in read-step _ _ _ _ _ _ (d .before .before .before .number-at .ensures .0) (d .before .before .number-at2 .ensures .0) (d .before .number-at3 .ensures .0) (d .number-at4 .ensures .0)
 
 pub step-at-spec : {M : Type 1} → statement M
 step-at-spec =

@@ -21,7 +21,7 @@ use Rattle.groups.proofs.components.+visit.Lts-visit as visit-lts
 use Rattle.groups.proofs.components.close.Reads as close-reads
 use Rattle.groups.proofs.components.cut.Reads as cut-reads
 use Rattle.groups.proofs.components.push.Reads as push-reads
-use Rattle.index.proofs.wide.Reads as wide-reads
+use Rattle.numbers.proofs.shorts.wide.Reads as wide-reads
 use Rattle.matrices.proofs.relation.next_bit.Reads as next-bit-reads
 use Rattle.groups.proofs.components.+visit.{statement}
 use Rattle.groups.proofs.components.+visit.Tie.{close}
@@ -146,7 +146,7 @@ visit-requires t c κs = let o = c .before .before .before .before .before .befo
         path-room = o .loop .inv .0 .2;
         bounds-room = o .loop .inv .0 .3;
         piece = l;
-        new = sym (c .before .before .before .before .before .wide .ensures) ∙ c .before .before .before .before .if1 .taken;
+        new = sym (c .before .before .before .before .before .wide .ensures .0) ∙ c .before .before .before .before .if1 .taken;
         gray = with (s .args .n) 2048 (few t s) (bitOf (s .args .e .now)) _ (ws (s .args .n) (few t s) (s .args .e .now)) (wj (s .args .n) (few t s) (s .args .e .now)) (we (s .args .n) (few t s) (s .args .e .now)) (s .pre .1 .gray) (s .args .v);
         good = W .good;
         leading = leads-on (s .args .n) (few t s) (s .args .e .now) (S₀ t s) (s .pre .1 .gray) (s .args .v) _ (own t (o .before)) (S t o) (o .loop .w) 0 W l (o .loop .inv .1 .1 (below _ _ l (few t s)));
@@ -170,7 +170,7 @@ loop-again t c = let o = c .before .before .before .before .before .before .befo
       (T .upto, T .hit),
       λ small S₀′ gray E. let W = o .loop .inv .2 small S₀′ gray E in
           let g = o .loop .inv .1 .1 (below _ _ l (few t s)) in
-          let z : getD (o .loop .pos) (o .loop .w) 0 ≡ 2048 = sym (c .before .before .before .before .before .before .before .wide .ensures) ∙ c .before .before .before .before .before .before .if1 .taken in
+          let z : getD (o .loop .pos) (o .loop .w) 0 ≡ 2048 = sym (c .before .before .before .before .before .before .before .wide .ensures .0) ∙ c .before .before .before .before .before .before .if1 .taken in
           call-more (s .args .n) small (s .args .e .now) S₀′ gray (s .args .v) _ E (S t o) (o .loop .w) (c .next-bit2 .result) W l g _ (c .next-bit2 .ensures) z
           (c .before .visit .ensures .1 _ (W .good) (leads-on (s .args .n) small (s .args .e .now) S₀′ gray (s .args .v) _ E (S t o) (o .loop .w) 0 W l g)),
     )
@@ -212,10 +212,10 @@ loop-again-2 t c = let o = c .before .before .before .before .before .before .be
       (T .upto, T .hit),
       λ small S₀′ gray E. let W = o .loop .inv .2 small S₀′ gray E in
           let g = o .loop .inv .1 .1 (below _ _ l (few t s)) in
-          let a = met-small (s .args .n) small (s .args .e .now) (S t o) _ (W .good) (o .loop .w) l (λ q. c .before .before .before .before .before .before .before .before .if1 .left (c .before .before .before .before .before .before .before .before .before .wide .ensures ∙ q)) in
-          let b : getD (o .loop .done) (o .loop .w) 0 ≡ 2048 = sym (c .before .before .before .before .before .before .wide2 .ensures) ∙ c .before .before .before .before .before .if2 .taken in
+          let a = met-small (s .args .n) small (s .args .e .now) (S t o) _ (W .good) (o .loop .w) l (λ q. c .before .before .before .before .before .before .before .before .if1 .left (c .before .before .before .before .before .before .before .before .before .wide .ensures .0 ∙ q)) in
+          let b : getD (o .loop .done) (o .loop .w) 0 ≡ 2048 = sym (c .before .before .before .before .before .before .wide2 .ensures .0) ∙ c .before .before .before .before .before .if2 .taken in
           cut-on (s .args .n) small (s .args .e .now) S₀′ gray (s .args .v) _ E (o .loop .pos) (o .loop .done) (o .loop .path) (o .loop .bounds) (o .loop .len) (o .loop .top) (o .loop .count) (o .loop .w) (c .next-bit3 .result) (c .before .cut .result) W l g (c .next-bit3 .ensures) a b
-          (rw (c .before .before .wide3 .ensures) at (c .before .cut .ensures)),
+          (rw (c .before .before .wide3 .ensures .0) at (c .before .cut .ensures)),
     )
 
 add-next-bit-3 : (t : ℕ) → visit-lts.Need-add-next-bit-3 (calls t) (visit-at t) visit.Post Inv μ
@@ -234,8 +234,8 @@ loop-again-3 t c = let o = c .before .before .before .before .before .before .be
       (T .upto, T .hit),
       λ small S₀′ gray E. let W = o .loop .inv .2 small S₀′ gray E in
           let g = o .loop .inv .1 .1 (below _ _ l (few t s)) in
-          let a = met-small (s .args .n) small (s .args .e .now) (S t o) _ (W .good) (o .loop .w) l (λ q. c .before .before .before .before .if1 .left (c .before .before .before .before .before .wide .ensures ∙ q)) in
-          let b = ended-small (s .args .n) small (s .args .e .now) (S t o) _ (W .good) (o .loop .w) l (λ q. c .before .if2 .left (c .before .before .wide2 .ensures ∙ q)) in
+          let a = met-small (s .args .n) small (s .args .e .now) (S t o) _ (W .good) (o .loop .w) l (λ q. c .before .before .before .before .if1 .left (c .before .before .before .before .before .wide .ensures .0 ∙ q)) in
+          let b = ended-small (s .args .n) small (s .args .e .now) (S t o) _ (W .good) (o .loop .w) l (λ q. c .before .if2 .left (c .before .before .wide2 .ensures .0 ∙ q)) in
           skip-more (s .args .n) small (s .args .e .now) S₀′ gray (s .args .v) _ E (S t o) (o .loop .w) (c .next-bit4 .result) W l g (c .next-bit4 .ensures) a b,
     )
 
@@ -266,14 +266,14 @@ returns t c = let o = c .before .before .before .before .before .before .before 
   record { pos-is = o .loop .inv .0 .0; done-is = c .close .ensures .sized ∙ o .loop .inv .0 .1; path-is = o .loop .inv .0 .2; bounds-is = o .loop .inv .0 .3 },
   λ gray G L. let E = enter t (o .before) gray G L in let W = o .loop .inv .2 (few t s) (S₀ t s) gray E in
       shut (s .args .n) (few t s) (s .args .e .now) (S₀ t s) gray (s .args .v) _ E (o .loop .pos) (o .loop .done) (o .loop .path) (o .loop .bounds) _ (o .loop .len) (o .loop .top) (o .loop .count) (o .loop .w) (s .args .s .len) W (c .before .before .before .before .before .before .loop-test .left) (some-top t o) refl
-      (sym (c .before .before .before .before .wide4 .ensures) ∙ c .before .before .before .if3 .taken) (c .close .ensures),
+      (sym (c .before .before .before .before .wide4 .ensures .0) ∙ c .before .before .before .if3 .taken) (c .close .ensures),
 )
 
 returns-2 : (t : ℕ) → visit-lts.Need-returns-2 (calls t) (visit-at t) visit.Post Inv μ
 returns-2 t c = let o = c .before .before .before .before in let s = start t (o .before) in (
   record { pos-is = o .loop .inv .0 .0; done-is = o .loop .inv .0 .1; path-is = o .loop .inv .0 .2; bounds-is = o .loop .inv .0 .3 },
   λ gray G L. let E = enter t (o .before) gray G L in let W = o .loop .inv .2 (few t s) (S₀ t s) gray E in
-      stay (s .args .n) (few t s) (s .args .e .now) (S₀ t s) gray (s .args .v) _ E (S t o) (o .loop .w) W (c .before .before .before .loop-test .left) (o .loop .top - 1) (pred-is _ (some-top t o)) (λ q. c .if3 .left (c .before .wide4 .ensures ∙ q)),
+      stay (s .args .n) (few t s) (s .args .e .now) (S₀ t s) gray (s .args .v) _ E (S t o) (o .loop .w) W (c .before .before .before .loop-test .left) (o .loop .top - 1) (pred-is _ (some-top t o)) (λ q. c .if3 .left (c .before .wide4 .ensures .0 ∙ q)),
 )
 
 pub +visit-spec : {M : Type 1} → statement M

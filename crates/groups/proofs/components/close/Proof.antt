@@ -33,7 +33,7 @@ in-done : (c : tie.After-narrow Inv-loop μ-loop) → c .before .wide .result < 
 in-done c =
     let L = c .before .before .before .before .loop in
     let A = c .before .before .before .before .before in
-    omega (arith, c .before .wide .ensures, A .pre .4 .pieces (L .i) (omega arith) (omega arith))
+    omega (arith, c .before .wide .ensures .0, A .pre .4 .pieces (L .i) (omega arith) (omega arith))
 
 mul-done : tie.Need-mul-done Inv-loop μ-loop
 mul-done c = omega (arith, in-done c)
@@ -50,8 +50,8 @@ loop-less c = search needs
 loop-again : tie.Need-loop-again Inv-loop μ-loop
 loop-again c =
     let L = c .before .before .before .before .loop in
-    let l : getD (c .before .before .before .before .before .args .path .now) (L .i) 0 < length (L .done) = omega (arith, in-done c, c .before .wide .ensures, L .inv .2 .sized, c .before .before .before .before .before .pre .3) in
-    (omega arith, omega arith, rw (c .narrow .ensures, c .before .wide .ensures) (numbered-more _ _ (L .done) _ (L .i) _ (omega arith) l (L .inv .2)))
+    let l : getD (c .before .before .before .before .before .args .path .now) (L .i) 0 < length (L .done) = omega (arith, in-done c, c .before .wide .ensures .0, L .inv .2 .sized, c .before .before .before .before .before .pre .3) in
+    (omega arith, omega arith, rw (c .narrow .ensures, c .before .wide .ensures .0) (numbered-more _ _ (L .done) _ (L .i) _ (omega arith) l (L .inv .2)))
 
 returns : tie.Need-returns Inv-loop μ-loop
 returns c = let L = c .before .loop in let e : L .i ≡ c .before .before .args .len = omega arith in rw e at (L .inv .2)

@@ -37,7 +37,7 @@ loop-less : tie.Need-loop-less Inv-loop μ-loop
 loop-less c = search needs
 
 loop-again : tie.Need-loop-again Inv-loop μ-loop
-loop-again c = let L = c .before .before .before .before .loop in let A = c .before .before .before .before .before .args in (omega arith, cut-more (A .bounds .now) (A .top) (A .p) (L .t) (L .inv .1) (omega (arith, c .before .wide .ensures)))
+loop-again c = let L = c .before .before .before .before .loop in let A = c .before .before .before .before .before .args in (omega arith, cut-more (A .bounds .now) (A .top) (A .p) (L .t) (L .inv .1) (omega (arith, c .before .wide .ensures .0)))
 
 returns-2 : tie.Need-returns-2 Inv-loop μ-loop
 returns-2 c = search needs

@@ -85,21 +85,21 @@ loop-less c =
     let L = c .before .before .before .before .before .before .before .before .before .before .before .before .loop in
     let R = given (L .inv .0) in
     let N = stepping (L .inv .0) (L .inv .1) (c .before .before .before .before .before .before .before .before .before .before .before .next-bit .ensures) in
-    walk-less R (L .inv .1) N (c .before .before .before .before .before .before .before .before .before .before .if1 .taken) (sym (c .before .before .before .before .wide .ensures) ∙ c .before .before .if2 .taken)
+    walk-less R (L .inv .1) N (c .before .before .before .before .before .before .before .before .before .before .if1 .taken) (sym (c .before .before .before .before .wide .ensures .0) ∙ c .before .before .if2 .taken)
 
 loop-again : tie.Need-loop-again Inv-loop μ-loop
 loop-again c =
     let L = c .before .before .before .before .before .before .before .before .before .before .before .before .loop in
     let R = given (L .inv .0) in
     let N = stepping (L .inv .0) (L .inv .1) (c .before .before .before .before .before .before .before .before .before .before .before .next-bit .ensures) in
-    (L .inv .0, rw (c .before .narrow .ensures) (walk-node R (L .inv .1) N (c .before .before .before .before .before .before .before .before .before .before .if1 .taken) (sym (c .before .before .before .before .wide .ensures) ∙ c .before .before .if2 .taken) (record { same = c .before .before .before .before .before .before .before .before .put2 .kept .0; bit = c .before .before .before .before .before .before .before .before .put2 .ensures })))
+    (L .inv .0, rw (c .before .narrow .ensures) (walk-node R (L .inv .1) N (c .before .before .before .before .before .before .before .before .before .before .if1 .taken) (sym (c .before .before .before .before .wide .ensures .0) ∙ c .before .before .if2 .taken) (record { same = c .before .before .before .before .before .before .before .before .put2 .kept .0; bit = c .before .before .before .before .before .before .before .before .put2 .ensures })))
 
 put-requires-3 : tie.Need-put-requires-3 Inv-loop μ-loop
 put-requires-3 c κs =
     let L = c .before .before .before .before .before .before .before .before .before .before .before .loop in
     let R = given (L .inv .0) in
     let N = stepping (L .inv .0) (L .inv .1) (c .before .before .before .before .before .before .before .before .before .before .next-bit .ensures) in
-    mark-room R (L .inv .1) N (c .before .before .before .before .before .before .before .before .before .if1 .taken) (λ x. c .before .if2 .left (c .before .before .before .wide .ensures ∙ x)) .0
+    mark-room R (L .inv .1) N (c .before .before .before .before .before .before .before .before .before .if1 .taken) (λ x. c .before .if2 .left (c .before .before .before .wide .ensures .0 ∙ x)) .0
 
 narrow-requires-2 : tie.Need-narrow-requires-2 Inv-loop μ-loop
 narrow-requires-2 c κs = inside _ _ 65536 (c .before .before .before .before .before .before .before .before .before .before .before .before .if1 .taken) (small-count _ (c .before .before .before .before .before .before .before .before .before .before .before .before .before .before .loop .inv .0 .small))
@@ -109,14 +109,14 @@ mul-shadows c =
     let L = c .before .before .before .before .before .before .before .before .before .before .before .before .before .before .before .loop in
     let R = given (L .inv .0) in
     let N = stepping (L .inv .0) (L .inv .1) (c .before .before .before .before .before .before .before .before .before .before .before .before .before .before .next-bit .ensures) in
-    fits-twice _ (count-small _ (mark-room R (L .inv .1) N (c .before .before .before .before .before .before .before .before .before .before .before .before .before .if1 .taken) (λ x. c .before .before .before .before .before .if2 .left (c .before .before .before .before .before .before .before .wide .ensures ∙ x)) .2))
+    fits-twice _ (count-small _ (mark-room R (L .inv .1) N (c .before .before .before .before .before .before .before .before .before .before .before .before .before .if1 .taken) (λ x. c .before .before .before .before .before .if2 .left (c .before .before .before .before .before .before .before .wide .ensures .0 ∙ x)) .2))
 
 slice-write-shadows : tie.Need-slice-write-shadows Inv-loop μ-loop
 slice-write-shadows c =
     let L = c .before .before .before .before .before .before .before .before .before .before .before .before .before .before .before .loop in
     let R = given (L .inv .0) in
     let N = stepping (L .inv .0) (L .inv .1) (c .before .before .before .before .before .before .before .before .before .before .before .before .before .before .next-bit .ensures) in
-    mark-room R (L .inv .1) N (c .before .before .before .before .before .before .before .before .before .before .before .before .before .if1 .taken) (λ x. c .before .before .before .before .before .if2 .left (c .before .before .before .before .before .before .before .wide .ensures ∙ x)) .1
+    mark-room R (L .inv .1) N (c .before .before .before .before .before .before .before .before .before .before .before .before .before .if1 .taken) (λ x. c .before .before .before .before .before .if2 .left (c .before .before .before .before .before .before .before .wide .ensures .0 ∙ x)) .1
 
 add-at-2 : tie.Need-add-at-2 Inv-loop μ-loop
 add-at-2 c =
@@ -137,7 +137,7 @@ add-m c =
     let L = c .before .before .before .before .before .before .before .before .before .before .before .before .before .before .before .before .loop in
     let R = given (L .inv .0) in
     let N = stepping (L .inv .0) (L .inv .1) (c .before .before .before .before .before .before .before .before .before .before .before .before .before .before .before .next-bit .ensures) in
-    fits-one _ (count-small _ (mark-room R (L .inv .1) N (c .before .before .before .before .before .before .before .before .before .before .before .before .before .before .if1 .taken) (λ x. c .before .before .before .before .before .before .if2 .left (c .before .before .before .before .before .before .before .before .wide .ensures ∙ x)) .2))
+    fits-one _ (count-small _ (mark-room R (L .inv .1) N (c .before .before .before .before .before .before .before .before .before .before .before .before .before .before .if1 .taken) (λ x. c .before .before .before .before .before .before .if2 .left (c .before .before .before .before .before .before .before .before .wide .ensures .0 ∙ x)) .2))
 
 add-from : tie.Need-add-from Inv-loop μ-loop
 add-from c = fits-one _ (part-small _ _ (c .before .before .before .before .before .before .before .before .before .before .before .before .before .before .if1 .taken) (c .before .before .before .before .before .before .before .before .before .before .before .before .before .before .before .before .loop .inv .0 .small))
@@ -147,14 +147,14 @@ loop-less-2 c =
     let L = c .before .before .before .before .before .before .before .before .before .before .before .before .before .before .before .before .loop in
     let R = given (L .inv .0) in
     let N = stepping (L .inv .0) (L .inv .1) (c .before .before .before .before .before .before .before .before .before .before .before .before .before .before .before .next-bit .ensures) in
-    shadow-less R (L .inv .1) N (c .before .before .before .before .before .before .before .before .before .before .before .before .before .before .if1 .taken) (λ x. c .before .before .before .before .before .before .if2 .left (c .before .before .before .before .before .before .before .before .wide .ensures ∙ x))
+    shadow-less R (L .inv .1) N (c .before .before .before .before .before .before .before .before .before .before .before .before .before .before .if1 .taken) (λ x. c .before .before .before .before .before .before .if2 .left (c .before .before .before .before .before .before .before .before .wide .ensures .0 ∙ x))
 
 loop-again-2 : tie.Need-loop-again-2 Inv-loop μ-loop
 loop-again-2 c =
     let L = c .before .before .before .before .before .before .before .before .before .before .before .before .before .before .before .before .loop in
     let R = given (L .inv .0) in
     let N = stepping (L .inv .0) (L .inv .1) (c .before .before .before .before .before .before .before .before .before .before .before .before .before .before .before .next-bit .ensures) in
-    (L .inv .0, rw (c .before .narrow2 .ensures) (walk-shadow R (L .inv .1) N (c .before .before .before .before .before .before .before .before .before .before .before .before .before .before .if1 .taken) (λ x. c .before .before .before .before .before .before .if2 .left (c .before .before .before .before .before .before .before .before .wide .ensures ∙ x)) (record { same = c .before .before .before .before .before .before .before .before .before .before .before .before .put2 .kept .0; bit = c .before .before .before .before .before .before .before .before .before .before .before .before .put2 .ensures }) (record { same = c .before .before .before .before .put3 .kept .0; bit = c .before .before .before .before .put3 .ensures })))
+    (L .inv .0, rw (c .before .narrow2 .ensures) (walk-shadow R (L .inv .1) N (c .before .before .before .before .before .before .before .before .before .before .before .before .before .before .if1 .taken) (λ x. c .before .before .before .before .before .before .if2 .left (c .before .before .before .before .before .before .before .before .wide .ensures .0 ∙ x)) (record { same = c .before .before .before .before .before .before .before .before .before .before .before .before .put2 .kept .0; bit = c .before .before .before .before .before .before .before .before .before .before .before .before .put2 .ensures }) (record { same = c .before .before .before .before .put3 .kept .0; bit = c .before .before .before .before .put3 .ensures })))
 
 same-length : tie.Need-same-length Inv-loop μ-loop
 same-length c = c .before .before .before .before .loop .inv .1 .lenParens ∙ c .before .before .before .before .before .before .before .put .kept .0
@@ -199,14 +199,14 @@ loop-less-3 c =
     let L = c .before .before .before .before .before .before .loop in
     let R = given (L .inv .0) in
     let N = stepping (L .inv .0) (L .inv .1) (c .before .before .before .before .before .next-bit .ensures) in
-    rw (c .wide2 .ensures) (leave-less R (L .inv .1) N (c .before .before .before .before .if1 .left) (c .before .before .if3 .left))
+    rw (c .wide2 .ensures .0) (leave-less R (L .inv .1) N (c .before .before .before .before .if1 .left) (c .before .before .if3 .left))
 
 loop-again-3 : tie.Need-loop-again-3 Inv-loop μ-loop
 loop-again-3 c =
     let L = c .before .before .before .before .before .before .loop in
     let R = given (L .inv .0) in
     let N = stepping (L .inv .0) (L .inv .1) (c .before .before .before .before .before .next-bit .ensures) in
-    (L .inv .0, rw (c .wide2 .ensures) (walk-leave R (L .inv .1) N (c .before .before .before .before .if1 .left) (c .before .before .if3 .left)))
+    (L .inv .0, rw (c .wide2 .ensures .0) (walk-leave R (L .inv .1) N (c .before .before .before .before .if1 .left) (c .before .before .if3 .left)))
 
 pub walk-spec : {M : Type 1} → statement M
 walk-spec =

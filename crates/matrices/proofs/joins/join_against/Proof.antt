@@ -10,7 +10,6 @@ use Rattle.matrices.proofs.joins.join_against.Tie as tie
 use Rattle.matrices.proofs.joins.join_against.Reads as reads
 use Rattle.matrices.proofs.joins.join_against.Lts as lts
 use Rattle.matrices.proofs.joins.push.Reads as push-reads
-use Rattle.matrices.proofs.joins.wide.Reads as wide-reads
 
 abbrev Inv-loop : tie.InvT-loop
 Inv-loop e order n m₀ i₀ m i = (i ≤ n) × (length m ≡ length m₀) × ((R : Sorted e n order) → Sent e n (R .at) m₀ m i)
@@ -40,7 +39,7 @@ loop-less : tie.Need-loop-less Inv-loop μ-loop
 loop-less c = omega arith
 
 loop-again : tie.Need-loop-again Inv-loop μ-loop
-loop-again c = let s = c .before .before .before .before .before .before .before .before .before .before .before in let L = c .before .before .before .before .before .before .before .loop in let k : L .i - 1 < s .args .n = omega arith in let z : L .i ≡ L .i - 1 + 1 = omega arith in (omega arith, c .before .before .push .kept .1 .1 .0 ∙ L .inv .1, λ R. against-more (s .args .e .now) (s .args .n) (s .args .order .now) (s .args .m .now) (L .m) (c .before .before .before .before .wide .result) (L .i - 1) R (s .pre .2) k (c .before .before .before .before .wide .ensures) (subst (λ (j : ℕ). Sent (s .args .e .now) (s .args .n) (R .at) (s .args .m .now) (L .m) j) z (L .inv .2 R)) _ (c .before .before .push .ensures))
+loop-again c = let s = c .before .before .before .before .before .before .before .before .before .before .before in let L = c .before .before .before .before .before .before .before .loop in let k : L .i - 1 < s .args .n = omega arith in let z : L .i ≡ L .i - 1 + 1 = omega arith in (omega arith, c .before .before .push .kept .1 .1 .0 ∙ L .inv .1, λ R. against-more (s .args .e .now) (s .args .n) (s .args .order .now) (s .args .m .now) (L .m) (c .before .before .before .before .wide .result) (L .i - 1) R (s .pre .2) k (c .before .before .before .before .wide .ensures .0) (subst (λ (j : ℕ). Sent (s .args .e .now) (s .args .n) (R .at) (s .args .m .now) (L .m) j) z (L .inv .2 R)) _ (c .before .before .push .ensures))
 
 same-length : tie.Need-same-length Inv-loop μ-loop
 same-length c = c .before .loop .inv .1

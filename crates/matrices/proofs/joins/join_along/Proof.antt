@@ -10,7 +10,6 @@ use Rattle.matrices.proofs.joins.join_along.Tie as tie
 use Rattle.matrices.proofs.joins.join_along.Reads as reads
 use Rattle.matrices.proofs.joins.join_along.Lts as lts
 use Rattle.matrices.proofs.joins.pull.Reads as pull-reads
-use Rattle.matrices.proofs.joins.wide.Reads as wide-reads
 
 abbrev Inv-loop : tie.InvT-loop
 Inv-loop e order n m₀ i₀ m i = (i ≤ n) × (length m ≡ length m₀) × ((R : Sorted e n order) → DoneTo e n (R .at) m₀ m i)
@@ -40,7 +39,7 @@ loop-less : tie.Need-loop-less Inv-loop μ-loop
 loop-less c = omega arith
 
 loop-again : tie.Need-loop-again Inv-loop μ-loop
-loop-again c = let s = c .before .before .before .before .before .before .before .before .before .before .before in let L = c .before .before .before .before .before .before .before .loop in (omega arith, c .before .before .pull .kept .1 .1 .0 ∙ L .inv .1, λ R. along-more (s .args .e .now) (s .args .n) (s .args .order .now) (s .args .m .now) (L .m) _ (c .before .before .before .before .wide .result) (L .i) R (s .pre .2) (omega arith) (c .before .before .before .before .wide .ensures) (L .inv .2 R) (c .before .before .pull .ensures))
+loop-again c = let s = c .before .before .before .before .before .before .before .before .before .before .before in let L = c .before .before .before .before .before .before .before .loop in (omega arith, c .before .before .pull .kept .1 .1 .0 ∙ L .inv .1, λ R. along-more (s .args .e .now) (s .args .n) (s .args .order .now) (s .args .m .now) (L .m) _ (c .before .before .before .before .wide .result) (L .i) R (s .pre .2) (omega arith) (c .before .before .before .before .wide .ensures .0) (L .inv .2 R) (c .before .before .pull .ensures))
 
 same-length : tie.Need-same-length Inv-loop μ-loop
 same-length c = c .before .loop .inv .1

@@ -20,7 +20,7 @@ returns : tie.Need-returns
 returns c = counted-written _ _ (c .before .listing .given .1)
 
 returns-2 : tie.Need-returns-2
-returns-2 c = counted-refused _ _ _ _ (c .before .before .before .listing2 .given .1) (c .wide .ensures ∙ c .before .refusal-number .ensures)
+returns-2 c = counted-refused _ _ _ _ (c .before .before .before .listing2 .given .1) (c .wide .ensures .0 ∙ c .before .refusal-number .ensures)
 
 pub counted-of-spec : {M : Type 1} → statement M
 counted-of-spec =

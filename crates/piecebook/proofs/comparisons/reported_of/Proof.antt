@@ -24,7 +24,7 @@ returns : tie.Need-returns
 returns c = search needs
 
 returns-2 : tie.Need-returns-2
-returns-2 c = reported-refused _ _ _ _ _ (c .before .before .before .comparison2 .given .1) (c .wide .ensures ∙ c .before .refusal-number .ensures)
+returns-2 c = reported-refused _ _ _ _ _ (c .before .before .before .comparison2 .given .1) (c .wide .ensures .0 ∙ c .before .refusal-number .ensures)
 
 pub reported-of-spec : {M : Type 1} → statement M
 reported-of-spec =

@@ -20,8 +20,8 @@ loop-holds c = (search needs, reach-none _ _)
 look-requires : tie.Need-look-requires Inv-loop μ-loop
 look-requires c κs = let b = c .before .before .before .before in (b .pre .0, omega (arith, b .pre .1), omega (arith, b .pre .1, b .pre .2))
 
-larger-requires : tie.Need-larger-requires Inv-loop μ-loop
-larger-requires c κs = search needs
+larger-of-requires : tie.Need-larger-of-requires Inv-loop μ-loop
+larger-of-requires c κs = search needs
 
 add-q : tie.Need-add-q Inv-loop μ-loop
 add-q c = search needs
@@ -30,7 +30,7 @@ loop-less : tie.Need-loop-less Inv-loop μ-loop
 loop-less c = search needs
 
 loop-again : tie.Need-loop-again Inv-loop μ-loop
-loop-again c = (search needs, reach-more _ _ _ _ _ _ (c .before .before .before .loop .inv .1) (c .before .look .ensures) (c .larger .ensures))
+loop-again c = (search needs, reach-more _ _ _ _ _ _ (c .before .before .before .loop .inv .1) (c .before .look .ensures) (c .larger-of .ensures))
 
 returns : tie.Need-returns Inv-loop μ-loop
 returns c =
@@ -45,7 +45,7 @@ reach-spec =
     μ-loop
     loop-holds
     look-requires
-    larger-requires
+    larger-of-requires
     add-q
     loop-less
     loop-again

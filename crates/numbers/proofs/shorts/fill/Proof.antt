@@ -1,4 +1,4 @@
--- `index::fill` meets its contract: what is before `done` is v, and the rest is as it was.
+-- `shorts::fill` meets its contract: what is before `done` is v, and the rest is as it was.
 -- Assumes nothing.
 use mathlib.Core.Path.{_≡_, refl, _∙_}
 use mathlib.Core.List.{_++_, append-nil}
@@ -9,8 +9,8 @@ use denote.Ref.{now}
 use lib.ListN.{length, drop, replicate, length-set}
 use lib.Seq.{drop-length}
 use borrow.Author.Needs.{needs}
-use Rattle.index.proofs.fill.Statement.{statement}
-use Rattle.index.proofs.fill.Tie as tie
+use Rattle.numbers.proofs.shorts.fill.Statement.{statement}
+use Rattle.numbers.proofs.shorts.fill.Tie as tie
 
 abbrev Inv-loop : tie.InvT-loop
 Inv-loop list₀ v done₀ list done = (done ≤ length list) × (length list ≡ length list₀) × (list ≡ replicate done v ++ drop done list₀)
