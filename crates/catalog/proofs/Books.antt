@@ -32,9 +32,8 @@ use Rattle.contradiction.proofs.SettlingLaws.{settleable, settled-room}
 use Rattle.outcomes.specs.Call.{pairsOf}
 use Rattle.lists.specs.Passing.{passing}
 use Rattle.areas.specs.Area.{pairs, filled}
-use Rattle.catalog.specs.Call.{listOf, placesOf, areaOf, countsOf}
+use Rattle.catalog.specs.Call.{listOf, placesOf, areaOf}
 use Rattle.catalog.specs.Filling.{Filled}
-use Rattle.catalog.specs.declared.Counts.{Counts}
 
 module _ (s : List ℕ) (n : ℕ) (sound : bookCheck s ≡ book.Accepted n) where
   pub book-bounded : Bounded n (facts s)
@@ -70,19 +69,22 @@ module _ (s : List ℕ) (n : ℕ) (sound : bookCheck s ≡ book.Accepted n) wher
   unfolding placesOf
   places-are I l = I .places-are ∙ ap (λ (k : ℕ). padded 0 k (bookPlaces n (pairsOf s))) l
 
--- the list, the areas and the counts
+-- the list, the areas and their lengths
 pub filled-all :
-    (s : List ℕ) (k g n nodes shadows : ℕ) (places : List ℕ) → places ≡ placesOf s n → (void : ℕ → Bool) → void ≡ marked s
+    (s : List ℕ) (k g n : ℕ) (places : List ℕ) → places ≡ placesOf s n → (void : ℕ → Bool) → void ≡ marked s
     → (list list′ meets meets′ apart apart′ notpart notpart′ : List ℕ) (a b c d : ℕ)
     → (list′ ≡ front (passing (λ x. follows void n (facts s) (factOf k x g)) n) list) × (a ≡ length (passing (λ x. follows void n (facts s) (factOf k x g)) n))
     → (meets′ ≡ filled (pairs (facts s) 3 places) meets) × (b ≡ length (pairs (facts s) 3 places))
     → (apart′ ≡ filled (pairs (facts s) 2 places) apart) × (c ≡ length (pairs (facts s) 2 places))
     → (notpart′ ≡ filled (pairs (facts s) 4 places) notpart) × (d ≡ length (pairs (facts s) 4 places))
-    → Filled s k g n nodes shadows list meets apart notpart (record { pieces = n; nodes = nodes; shadows = shadows; listed = a; meets = b; apart = c; notpart = d }) list′ meets′ apart′ notpart′
-unfolding listOf areaOf countsOf
-filled-all s k g n nodes shadows places e void v list list′ meets meets′ apart apart′ notpart notpart′ a b c d L M A N =
+    → Filled s k g n list meets apart notpart (record { listed = a; meets = b; apart = c; notpart = d }) list′ meets′ apart′ notpart′
+unfolding listOf areaOf
+filled-all s k g n places e void v list list′ meets meets′ apart apart′ notpart notpart′ a b c d L M A N =
     record {
-      counts-are = rw (L .1, M .1, A .1, N .1, e, v);
+      listed-are = rw v at (L .1);
+      in-meets = rw e at (M .1);
+      in-apart = rw e at (A .1);
+      in-notpart = rw e at (N .1);
       list-is = rw v at (L .0);
       meets-are = rw e at (M .0);
       apart-are = rw e at (A .0);

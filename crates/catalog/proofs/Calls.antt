@@ -33,6 +33,7 @@ use Rattle.catalog.specs.Lent.{Lent, lent, shortCatalog}
 use Rattle.catalog.specs.Call.{countsOf, refuseIf, byIndex, byAsked, byBook, outcome, left, Determined}
 use Rattle.catalog.specs.Filling.{refusedIf, asked, Roomy, Asked, Filled, Ready, Judged}
 use Rattle.catalog.specs.declared.Counts.{Counts}
+use Rattle.catalog.specs.declared.Lengths.{Lengths}
 use Rattle.catalog.specs.declared.Listing.{Listing}
 use Rattle.catalog.specs.declared.Listing.the-variants as listing
 
@@ -48,6 +49,9 @@ no-claims n = refl
 
 -- ---- row 14
 
+abbrev pub counted : ℕ → ℕ → ℕ → Lengths → Counts
+counted n nodes shadows c = record { pieces = n; nodes = nodes; shadows = shadows; listed = c .listed; meets = c .meets; apart = c .apart; notpart = c .notpart }
+
 module _ (s : List ℕ) (k g n : ℕ) (l : Lent) where
   -- a contradictory book
   pub judged-refused :
@@ -57,15 +61,22 @@ module _ (s : List ℕ) (k g n : ℕ) (l : Lent) where
   judged-refused J = record { outcome-is = ap (byIndex s k g) (J .outcome-is); left-is = same (J .left-is) refl refl refl refl }
 
   -- any other
+  counts-are : {nodes shadows : ℕ} {list list′ meets meets′ apart apart′ notpart notpart′ : List ℕ} {c : Lengths} → Filled s k g n list meets apart notpart c list′ meets′ apart′ notpart′ → counted n nodes shadows c ≡ countsOf s k g n nodes shadows
+  unfolding countsOf
+  counts-are F = rw (F .listed-are, F .in-meets, F .in-apart, F .in-notpart)
+
   pub judged-written :
-      {nodes shadows : ℕ} {i : lending.Lent} {list meets apart notpart : List ℕ} {c : Counts} → judging.Judged s n [] (l .index) (Accepted n nodes shadows) i
-      → Filled s k g n nodes shadows (l .list) (l .meets) (l .apart) (l .notpart) c list meets apart notpart
-      → Judged s k g n l (listing.Written c) (record { index = i; list = list; meets = meets; apart = apart; notpart = notpart })
+      {nodes shadows : ℕ} {i : lending.Lent} {list meets apart notpart : List ℕ} {c : Lengths} → judging.Judged s n [] (l .index) (Accepted n nodes shadows) i
+      → Filled s k g n (l .list) (l .meets) (l .apart) (l .notpart) c list meets apart notpart
+      → Judged s k g n l (listing.Written (counted n nodes shadows c)) (record { index = i; list = list; meets = meets; apart = apart; notpart = notpart })
   unfolding byIndex left countsOf
-  judged-written J F =
+  judged-written {nodes} {shadows} {i} {list} {meets} {apart} {notpart} {c} J F =
+      let e : counted n nodes shadows c ≡ countsOf s k g n nodes shadows = counts-are F in
       record {
-        outcome-is = ap listing.Written (F .counts-are) ∙ ap (byIndex s k g) (J .outcome-is);
-        left-is = rw (F .counts-are) (same (J .left-is) (F .list-is) (F .meets-are) (F .apart-are) (F .notpart-are));
+        outcome-is = ap listing.Written e ∙ ap (byIndex s k g) (J .outcome-is);
+        left-is =
+            subst (λ z. _≡_ {A = Lent} (record { index = i; list = list; meets = meets; apart = apart; notpart = notpart }) (left s k g l (listing.Written z))) (sym e)
+            (same (J .left-is) (F .list-is) (F .meets-are) (F .apart-are) (F .notpart-are));
       }
 
   -- ---- rows that leave everything

@@ -20,8 +20,8 @@ use Rattle.closure.specs.Counted.{MarksOf}
 use Rattle.answers.specs.Judging.{Exact}
 use Rattle.areas.specs.Area.{filled}
 use Rattle.catalog.specs.Lent.{Lent}
-use Rattle.catalog.specs.Call.{listOf, placesOf, areaOf, countsOf, byIndex, left}
-use Rattle.catalog.specs.declared.Counts.{Counts}
+use Rattle.catalog.specs.Call.{listOf, placesOf, areaOf, byIndex, left}
+use Rattle.catalog.specs.declared.Lengths.{Lengths}
 use Rattle.catalog.specs.declared.Listing.{Listing}
 
 -- the book's rows, then 12 and 13 for the kind and the piece: the piece count, or the first refusal
@@ -55,9 +55,12 @@ pub record Settled (s : List ℕ) (n : ℕ) (voids d t places : List ℕ) : Type
   pub toward : Holds n t (towardBit (voidOf voids) n (facts s))
   pub placed : places ≡ placesOf s n
 
--- the list, the areas and the counts of a book
-pub record Filled (s : List ℕ) (k g n nodes shadows : ℕ) (list meets apart notpart : List ℕ) (c : Counts) (list′ meets′ apart′ notpart′ : List ℕ) : Type 0 where
-  pub counts-are : c ≡ countsOf s k g n nodes shadows
+-- the list and the areas of a book, and how long they are
+pub record Filled (s : List ℕ) (k g n : ℕ) (list meets apart notpart : List ℕ) (c : Lengths) (list′ meets′ apart′ notpart′ : List ℕ) : Type 0 where
+  pub listed-are : c .listed ≡ length (listOf s n k g)
+  pub in-meets : c .meets ≡ length (areaOf s n 3)
+  pub in-apart : c .apart ≡ length (areaOf s n 2)
+  pub in-notpart : c .notpart ≡ length (areaOf s n 4)
   pub list-is : list′ ≡ front (listOf s n k g) list
   pub meets-are : meets′ ≡ filled (areaOf s n 3) meets
   pub apart-are : apart′ ≡ filled (areaOf s n 2) apart

@@ -8,7 +8,14 @@ ghost use lib.ListN.{length};
 ghost use Rattle.records.specs.Check.{bookCheck};
 ghost use Rattle.catalog.specs.Lent.{lent};
 ghost use Rattle.catalog.specs.Call.{Determined};
-ghost use Rattle.catalog.specs.Filling.{asked, Roomy, Asked, Settled, Filled, Ready, Judged};
+ghost use Rattle.records.specs.declared.BookCheck.the-variants as on;
+ghost use Rattle.closure.specs.Void.{voidOf};
+ghost use Rattle.closure.specs.Counted.{MarksOf};
+ghost use Rattle.contradiction.specs.Settleable.{Settleable};
+ghost use Rattle.contradiction.specs.Settled.{Settles, Indexes};
+ghost use Rattle.catalog.specs.Filling as filling;
+ghost use Rattle.catalog.specs.Filling.{asked, Roomy, Asked, Filled, Ready, Judged};
+use contradiction::Settled;
 use matrices::Matrix;
 use records::BookCheck;
 use records::Refusal;
@@ -20,6 +27,14 @@ pub struct Counts {
     pub pieces: usize,
     pub nodes: usize,
     pub shadows: usize,
+    pub listed: usize,
+    pub meets: usize,
+    pub apart: usize,
+    pub notpart: usize,
+}
+
+// The counts of listed pieces, and of the pairs of each area.
+pub struct Lengths {
     pub listed: usize,
     pub meets: usize,
     pub apart: usize,
@@ -38,8 +53,6 @@ fn fill(
     n: usize,
     kind: usize,
     g: usize,
-    nodes: usize,
-    shadowed: usize,
     voids: &[u64],
     m: &mut Matrix,
     d: &Matrix,
@@ -49,18 +62,15 @@ fn fill(
     meets: &mut [u16],
     apart: &mut [u16],
     notpart: &mut [u16],
-) -> Counts
-    requires { ⌜ Asked n kind g × Settled (now book) n (now voids) (now d) (now t) (now places) × Roomy (length (now list)) (length (now meets)) (length (now apart)) (length (now notpart)) ⌝ }
-    ensures { λ r. ⌜ Filled (now (book .entry)) kind g n nodes shadowed (now (list .entry)) (now (meets .entry)) (now (apart .entry)) (now (notpart .entry)) r (now (list .exit)) (now (meets .exit)) (now (apart .exit)) (now (notpart .exit)) ⌝ }
+) -> Lengths
+    requires { ⌜ Asked n kind g × filling.Settled (now book) n (now voids) (now d) (now t) (now places) × Roomy (length (now list)) (length (now meets)) (length (now apart)) (length (now notpart)) ⌝ }
+    ensures { λ r. ⌜ Filled (now (book .entry)) kind g n (now (list .entry)) (now (meets .entry)) (now (apart .entry)) (now (notpart .entry)) r (now (list .exit)) (now (meets .exit)) (now (apart .exit)) (now (notpart .exit)) ⌝ }
 {
     let listed = certain::list_pieces(book, n, kind, g, voids, d, t, m, list);
     let in_meets = areas::fill_area(book, n, 3, places, m, meets);
     let in_apart = areas::fill_area(book, n, 2, places, m, apart);
     let in_notpart = areas::fill_area(book, n, 4, places, m, notpart);
-    Counts {
-        pieces: n,
-        nodes,
-        shadows: shadowed,
+    Lengths {
         listed,
         meets: in_meets,
         apart: in_apart,
@@ -68,7 +78,42 @@ fn fill(
     }
 }
 
-// The marks of the book, then row 14, the index, the list and the areas.
+// The marks of the book, then row 14 and the index.
+fn settle(
+    book: &[u8],
+    n: usize,
+    voids: &mut [u64],
+    e: &mut Matrix,
+    d: &mut Matrix,
+    t: &mut Matrix,
+    parens: &mut [u8],
+    marks: &mut [u8],
+    shadows: &mut [u16],
+    places: &mut [u16],
+) -> Settled
+    requires { ⌜ (bookCheck (now book) ≡ on.Accepted n) × Settleable n (now book) (length (now parens)) (length (now marks)) (length (now shadows)) (length (now places)) × (length (now voids) ≡ 32) ⌝ }
+    ensures { λ r. ⌜ MarksOf (now (book .entry)) (now (voids .exit)) × Settles (voidOf (now (voids .exit))) n (now (book .entry)) (now (d .exit)) (now (t .exit)) r × Indexes n (now (book .entry)) (now (parens .exit)) (now (marks .exit)) (now (shadows .exit)) (now (places .exit)) r ⌝ }
+{
+    closure::marking::mark_voids(book, voids);
+    let mut order = [0u16; matrices::ROWS];
+    let mut lead = [0u16; matrices::ROWS];
+    contradiction::settle(
+        book,
+        n,
+        voids,
+        e,
+        &mut order,
+        &mut lead,
+        d,
+        t,
+        parens,
+        marks,
+        shadows,
+        places,
+    )
+}
+
+// Row 14 and the index, then the list and the areas.
 fn judge(
     book: &[u8],
     n: usize,
@@ -90,36 +135,18 @@ fn judge(
     ensures { λ r. ⌜ Judged (now (book .entry)) kind g n (lent (now (parens .entry)) (now (marks .entry)) (now (shadows .entry)) (now (places .entry)) (now (list .entry)) (now (meets .entry)) (now (apart .entry)) (now (notpart .entry))) r (lent (now (parens .exit)) (now (marks .exit)) (now (shadows .exit)) (now (places .exit)) (now (list .exit)) (now (meets .exit)) (now (apart .exit)) (now (notpart .exit))) ⌝ }
 {
     let mut voids = [0u64; 32];
-    closure::marking::mark_voids(book, &mut voids);
-    let mut order = [0u16; matrices::ROWS];
-    let mut lead = [0u16; matrices::ROWS];
-    let settled = contradiction::settle(
-        book,
-        n,
-        &voids,
-        e,
-        &mut order,
-        &mut lead,
-        d,
-        t,
-        parens,
-        marks,
-        shadows,
-        places,
-    );
+    let settled = settle(book, n, &mut voids, e, d, t, parens, marks, shadows, places);
     match settled {
-        contradiction::Settled::Clash(place) => {
+        Settled::Clash(place) => {
             answers::clear_index(parens, marks, shadows, places);
             Listing::Refused(Refusal::Contradiction, place)
         }
-        contradiction::Settled::Free(nodes, shadowed) => {
-            let counts = fill(
+        Settled::Free(nodes, shadowed) => {
+            let written = fill(
                 book,
                 n,
                 kind,
                 g,
-                nodes,
-                shadowed,
                 &voids,
                 e,
                 d,
@@ -130,7 +157,15 @@ fn judge(
                 apart,
                 notpart,
             );
-            Listing::Written(counts)
+            Listing::Written(Counts {
+                pieces: n,
+                nodes,
+                shadows: shadowed,
+                listed: written.listed,
+                meets: written.meets,
+                apart: written.apart,
+                notpart: written.notpart,
+            })
         }
     }
 }

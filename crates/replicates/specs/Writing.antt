@@ -12,6 +12,7 @@ use Rattle.records.specs.declared.BookCheck.the-variants as book
 use Rattle.closure.specs.Void.{voidOf, Voids}
 use Rattle.closure.specs.Stepped.{Stepped}
 use Rattle.closure.specs.Closed.{Holds, partBit}
+use Rattle.closure.specs.Apart.{Aparts}
 use Rattle.outcomes.specs.Call.{byRuns}
 use Rattle.replicates.specs.declared.Window.{Window}
 use Rattle.replicates.specs.declared.Replicated.{Replicated}
@@ -25,13 +26,18 @@ pub record Fits (n : ℕ) (w : Window) (log : List ℕ) : Type 0 where
   pub window : (j : ℕ) → j < w .count → getD (w .pieces) j 0 < n
   pub entries : (i : ℕ) → i < entryCount log → entryAt log i < n
 
--- the marks, steps and D of a book that is not contradictory, a window and a part that fit, and room for the bytes
-pub record Writable (s : List ℕ) (n : ℕ) (voids e order lead d : List ℕ) (w : Window) (log : List ℕ) (room : ℕ) : Type 0 where
+-- a book that is not contradictory: its marks, steps and D
+pub record Free (s : List ℕ) (n : ℕ) (voids e order lead d : List ℕ) : Type 0 where
   pub sound : bookCheck s ≡ book.Accepted n
   pub void : Voids voids × (voidOf voids ≡ marked s)
   pub free : false ≡ clash (voidOf voids) n (facts s)
   pub steps : Stepped n (facts s) e order lead
   pub parts : Holds n d (partBit n (facts s))
+
+-- the rows of what is APART in a book, a window and a part that fit, and room for the bytes
+pub record Writable (s : List ℕ) (n : ℕ) (a : List ℕ) (w : Window) (log : List ℕ) (room : ℕ) : Type 0 where
+  pub sound : bookCheck s ≡ book.Accepted n
+  pub aparts : Aparts (marked s) n (facts s) a
   pub fits : Fits n w log
   pub wide : 2 * entryCount log ≤ room
 

@@ -13,7 +13,10 @@ ghost use Rattle.records.specs.declared.BookCheck.the-variants as on;
 ghost use Rattle.outcomes.specs.declared.Outcome.the-variants.{Accepted, Refused};
 ghost use Rattle.replicates.specs.Log.{entryCount, entryAt, sequence, windowOf};
 ghost use Rattle.replicates.specs.Call.{badWindow, entryFinding, byPart, bytesIn, Determined};
-ghost use Rattle.replicates.specs.Writing.{Writable, Begun, Followed, Judged};
+ghost use Rattle.records.specs.Marked.{marked};
+ghost use Rattle.records.specs.Facts.{facts};
+ghost use Rattle.closure.specs.Apart.{Aparts};
+ghost use Rattle.replicates.specs.Writing.{Free, Writable, Begun, Followed, Judged};
 use contradiction::Settled;
 use matrices::Matrix;
 use matrices::RowNumbers;
@@ -165,8 +168,8 @@ fn last_window(xs: &[u16]) -> Window
     Window { pieces, count }
 }
 
-// The bytes of a part that fits, and the window behind it. t is scratch.
-fn write_part(
+// The rows of what is APART. t is scratch.
+fn find_aparts(
     book: &[u8],
     n: usize,
     voids: &[u64],
@@ -176,14 +179,25 @@ fn write_part(
     d: &Matrix,
     t: &mut Matrix,
     a: &mut Matrix,
+)
+    requires { ⌜ Free (now book) n (now voids) (now e) (now order) (now lead) (now d) ⌝ }
+    ensures { λ _. ⌜ Aparts (marked (now (book .entry))) n (facts (now (book .entry))) (now (a .exit)) ⌝ }
+{
+    closure::apart::apart_rows(book, n, voids, e, order, lead, d, t, a);
+}
+
+// The bytes of a part that fits, and the window behind it, from these rows.
+fn write_part(
+    book: &[u8],
+    n: usize,
+    a: &Matrix,
     window: Window,
     log: &[u8],
     out: &mut [u8],
 ) -> Window
-    requires { ⌜ Writable (now book) n (now voids) (now e) (now order) (now lead) (now d) window (now log) (length (now out)) ⌝ }
+    requires { ⌜ Writable (now book) n (now a) window (now log) (length (now out)) ⌝ }
     ensures { λ r. ⌜ (r ≡ windowOf (sequence window (now (log .entry)))) × (now (out .exit) ≡ front (bytesIn (now (book .entry)) n window (now (log .entry))) (now (out .entry))) ⌝ }
 {
-    closure::apart::apart_rows(book, n, voids, e, order, lead, d, t, a);
     let mut xs = [0u16; LOG_ENTRIES + windows::WINDOW];
     let count = window.count;
     put_window(window, &mut xs);
@@ -230,23 +244,13 @@ fn judge(
             let fit = check_part(n, nodes, shadowed, window, log);
             match fit {
                 Outcome::Refused(refusal, place) => refuse(refusal, place, window),
-                Outcome::Accepted(pieces, all, hidden) => Replicated {
-                    outcome: Outcome::Accepted(pieces, all, hidden),
-                    window: write_part(
-                        book,
-                        n,
-                        &voids,
-                        e,
-                        &order,
-                        &lead,
-                        d,
-                        t,
-                        a,
-                        window,
-                        log,
-                        out,
-                    ),
-                },
+                Outcome::Accepted(pieces, all, hidden) => {
+                    find_aparts(book, n, &voids, e, &order, &lead, d, t, a);
+                    Replicated {
+                        outcome: Outcome::Accepted(pieces, all, hidden),
+                        window: write_part(book, n, a, window, log, out),
+                    }
+                }
             }
         }
     }

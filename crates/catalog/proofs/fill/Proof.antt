@@ -49,7 +49,7 @@ same-length-4 c = c .before .before .fill-area3 .kept .1 .1 .1 .1 .1 .0
 returns : tie.Need-returns
 returns c =
     let P = c .before .before .before .before .before .before .before .before .before .before .before .before .before .before .before .before .before .before .before .before .before .before .before .before .before .before .before .before .before .pre in
-    filled-all _ _ _ _ _ _ _ (P .1 .placed) _ (P .1 .void .1) _ _ _ _ _ _ _ _ _ _ _ _ (c .before .before .before .before .before .before .before .before .before .before .before .before .before .before .before .before .before .list-pieces .ensures) (c .before .before .before .before .before .before .before .before .before .before .before .before .fill-area .ensures) (c .before .before .before .before .before .before .before .fill-area2 .ensures) (c .before .before .fill-area3 .ensures)
+    filled-all _ _ _ _ _ (P .1 .placed) _ (P .1 .void .1) _ _ _ _ _ _ _ _ _ _ _ _ (c .before .before .before .before .before .before .before .before .before .before .before .before .before .before .before .before .before .list-pieces .ensures) (c .before .before .before .before .before .before .before .before .before .before .before .before .fill-area .ensures) (c .before .before .before .before .before .before .before .fill-area2 .ensures) (c .before .before .fill-area3 .ensures)
 
 pub fill-spec : {M : Type 1} → statement M
 fill-spec =

@@ -41,22 +41,22 @@ refuse-requires-2 c κs = tt
 enum-known-fit-2 : tie.Need-enum-known-fit-2
 enum-known-fit-2 c = c .match2 .keys2
 
-slice-aggregate-write-part : tie.Need-slice-aggregate-write-part
-slice-aggregate-write-part c = sym (c .before .before .before .before .before .before .before .before .before .before .before .before .before .before .before .before .mark-voids .kept .1 .0)
+slice-aggregate-find-aparts : tie.Need-slice-aggregate-find-aparts
+slice-aggregate-find-aparts c = sym (c .before .before .before .before .before .before .before .before .before .before .before .before .before .before .before .before .mark-voids .kept .1 .0)
+
+find-aparts-requires : tie.Need-find-aparts-requires
+find-aparts-requires c κs =
+    let O = c .before .before .before .before .before .before .before .before .before .before .before .before .before .before .settle-alone .ensures .0 .free _ _ (c .before .before .before .before .before .before .before .before .before .before .before .before .settled2 .given .1) in
+    let W = c .before .before .before .before .before .before .before .before .before .before .before .before .before .before .settle-alone .ensures .1 .free _ _ (c .before .before .before .before .before .before .before .before .before .before .before .before .settled2 .given .1) in
+    record { sound = c .before .before .before .before .before .before .before .before .before .before .before .before .before .before .before .before .before .before .before .before .before .before .before .before .before .before .before .pre .0; void = c .before .before .before .before .before .before .before .before .before .before .before .before .before .before .before .before .before .before .before .before .before .before .mark-voids .ensures; free = O .is; steps = W; parts = O .parts }
 
 write-part-requires : tie.Need-write-part-requires
 write-part-requires c κs =
-    let A = c .before .before .before .before .before .before .before .before .before .before .before .before .before .before .before .before .before .before .before .before .before .before .before .before .before .before .before .before .args in
-    let O = c .before .before .before .before .before .before .before .before .before .before .before .before .before .before .before .settle-alone .ensures .0 .free _ _ (c .before .before .before .before .before .before .before .before .before .before .before .before .before .settled2 .given .1) in
-    let W = c .before .before .before .before .before .before .before .before .before .before .before .before .before .before .before .settle-alone .ensures .1 .free _ _ (c .before .before .before .before .before .before .before .before .before .before .before .before .before .settled2 .given .1) in
     record {
-      sound = c .before .before .before .before .before .before .before .before .before .before .before .before .before .before .before .before .before .before .before .before .before .before .before .before .before .before .before .before .pre .0;
-      void = c .before .before .before .before .before .before .before .before .before .before .before .before .before .before .before .before .before .before .before .before .before .before .before .mark-voids .ensures;
-      free = O .is;
-      steps = W;
-      parts = O .parts;
-      fits = passes (A .n) _ _ (A .log .now) (A .window) (sym (c .before .before .before .before .before .before .before .before .before .before .before .check-part .ensures) ∙ c .before .before .before .before .before .before .before .before .before .fit2 .given .1) .0;
-      wide = c .before .before .before .before .before .before .before .before .before .before .before .before .before .before .before .before .before .before .before .before .before .before .before .before .before .before .before .before .pre .1;
+      sound = c .before .before .before .before .before .before .before .before .before .before .before .before .before .before .before .before .before .before .before .before .before .before .before .before .before .before .before .before .before .before .pre .0;
+      aparts = c .before .before .find-aparts .ensures;
+      fits = passes (c .before .before .before .before .before .before .before .before .before .before .before .before .before .before .before .before .before .before .before .before .before .before .before .before .before .before .before .before .before .before .args .n) _ _ (c .before .before .before .before .before .before .before .before .before .before .before .before .before .before .before .before .before .before .before .before .before .before .before .before .before .before .before .before .before .before .args .log .now) (c .before .before .before .before .before .before .before .before .before .before .before .before .before .before .before .before .before .before .before .before .before .before .before .before .before .before .before .before .before .before .args .window) (sym (c .before .before .before .before .before .before .before .before .before .before .before .before .before .check-part .ensures) ∙ c .before .before .before .before .before .before .before .before .before .before .before .fit2 .given .1) .0;
+      wide = c .before .before .before .before .before .before .before .before .before .before .before .before .before .before .before .before .before .before .before .before .before .before .before .before .before .before .before .before .before .before .pre .1;
     }
 
 returns : tie.Need-returns
@@ -73,14 +73,14 @@ returns-2 c =
     (sym (c .before .before .fit .given .1) ∙ c .before .before .before .before .check-part .ensures)
 
 same-length : tie.Need-same-length
-same-length c = c .before .before .write-part .kept .1 .1 .1 .1 .1 .1 .1 .1 .1 .1 .1 .0
+same-length c = c .before .before .write-part .kept .1 .1 .1 .1 .1 .0
 
 returns-3 : tie.Need-returns-3
 returns-3 c =
-    let A = c .before .before .before .before .before .before .before .before .before .before .before .before .before .before .before .before .before .before .before .before .before .before .before .before .before .before .before .before .before .before .before .args in
-    part-written (A .book .now) (A .n) (c .before .before .before .before .before .before .before .before .before .before .before .before .before .before .before .before .before .before .before .before .before .before .before .before .before .before .before .before .before .before .before .pre .0) (A .window) (A .log .now) (A .out .now)
-    (rw (c .before .before .before .before .before .before .before .before .before .before .before .before .before .before .before .before .before .before .before .before .before .before .before .before .before .before .mark-voids .ensures .1) at (c .before .before .before .before .before .before .before .before .before .before .before .before .before .before .before .before .before .before .settle-alone .ensures .0 .free _ _ (c .before .before .before .before .before .before .before .before .before .before .before .before .before .before .before .before .settled2 .given .1) .is)) (c .before .before .before .before .before .before .before .before .before .before .before .before .before .before .before .before .before .before .settle-alone .ensures .2 .free _ _ (c .before .before .before .before .before .before .before .before .before .before .before .before .before .before .before .before .settled2 .given .1)) _ _ _ _ _
-    (sym (c .before .before .before .before .before .before .before .before .before .before .before .before .fit2 .given .1) ∙ c .before .before .before .before .before .before .before .before .before .before .before .before .before .before .check-part .ensures) (c .before .before .write-part .ensures .0) (c .before .before .write-part .ensures .1)
+    let A = c .before .before .before .before .before .before .before .before .before .before .before .before .before .before .before .before .before .before .before .before .before .before .before .before .before .before .before .before .before .before .before .before .before .args in
+    part-written (A .book .now) (A .n) (c .before .before .before .before .before .before .before .before .before .before .before .before .before .before .before .before .before .before .before .before .before .before .before .before .before .before .before .before .before .before .before .before .before .pre .0) (A .window) (A .log .now) (A .out .now)
+    (rw (c .before .before .before .before .before .before .before .before .before .before .before .before .before .before .before .before .before .before .before .before .before .before .before .before .before .before .before .before .mark-voids .ensures .1) at (c .before .before .before .before .before .before .before .before .before .before .before .before .before .before .before .before .before .before .before .before .settle-alone .ensures .0 .free _ _ (c .before .before .before .before .before .before .before .before .before .before .before .before .before .before .before .before .before .before .settled2 .given .1) .is)) (c .before .before .before .before .before .before .before .before .before .before .before .before .before .before .before .before .before .before .before .before .settle-alone .ensures .2 .free _ _ (c .before .before .before .before .before .before .before .before .before .before .before .before .before .before .before .before .before .before .settled2 .given .1)) _ _ _ _ _
+    (sym (c .before .before .before .before .before .before .before .before .before .before .before .before .before .before .fit2 .given .1) ∙ c .before .before .before .before .before .before .before .before .before .before .before .before .before .before .before .before .check-part .ensures) (c .before .before .write-part .ensures .0) (c .before .before .write-part .ensures .1)
 
 pub judge-spec : {M : Type 1} → statement M
 judge-spec =
@@ -97,7 +97,8 @@ judge-spec =
     enum-known-fit
     refuse-requires-2
     enum-known-fit-2
-    slice-aggregate-write-part
+    slice-aggregate-find-aparts
+    find-aparts-requires
     write-part-requires
     returns
     returns-2

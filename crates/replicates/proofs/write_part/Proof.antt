@@ -27,49 +27,43 @@ end-fits p q = omega arith
 all-there : {a m : ℕ} → m ≡ 31 → a ≤ 31 → a ≤ m
 all-there e p = omega arith
 
-apart-rows-requires : tie.Need-apart-rows-requires
-apart-rows-requires c κs =
-    let P = c .before .before .before .before .before .before .before .before .before .before .pre in
-    let S = settleable _ _ (P .sound) in
-    (S .bounded, P .void .0, P .steps, P .parts, search needs, search needs, sym (P .free))
-
 slice-aggregate-put-window : tie.Need-slice-aggregate-put-window
 slice-aggregate-put-window c = sym (length-replicate {A = ℕ} 32799 0)
 
 put-window-requires : tie.Need-put-window-requires
-put-window-requires c κs = (c .before .before .before .before .before .before .before .before .before .before .before .before .pre .fits .short, wide-enough (length-replicate {A = ℕ} 32799 0))
+put-window-requires c κs = (c .before .before .before .before .pre .fits .short, wide-enough (length-replicate {A = ℕ} 32799 0))
 
 slice-aggregate-put-entries : tie.Need-slice-aggregate-put-entries
 slice-aggregate-put-entries c = sym (c .before .before .put-window .kept .1 .0 ∙ length-replicate {A = ℕ} 32799 0)
 
 put-entries-requires : tie.Need-put-entries-requires
-put-entries-requires c κs = let P = c .before .before .before .before .before .before .before .before .before .before .before .before .before .before .before .pre in (all-fit (P .fits .short) (P .fits .few) (sym (slice-aggregate-put-entries c)), P .fits .short)
+put-entries-requires c κs = let P = c .before .before .before .before .before .before .before .pre in (all-fit (P .fits .short) (P .fits .few) (sym (slice-aggregate-put-entries c)), P .fits .short)
 
 add-end : tie.Need-add-end
-add-end c = let P = c .before .before .before .before .before .before .before .before .before .before .before .before .before .before .before .before .before .pre in end-fits (P .fits .short) (P .fits .few)
+add-end c = let P = c .before .before .before .before .before .before .before .before .before .pre in end-fits (P .fits .short) (P .fits .few)
 
 array-share-prefix-xs : tie.Need-array-share-prefix-xs
-array-share-prefix-xs c = let P = c .before .before .before .before .before .before .before .before .before .before .before .before .before .before .before .before .before .pre in all-fit (P .fits .short) (P .fits .few) (c .before .put-entries .kept .1 .1 .0 ∙ sym (slice-aggregate-put-entries (c .before .before)))
+array-share-prefix-xs c = let P = c .before .before .before .before .before .before .before .before .before .pre in all-fit (P .fits .short) (P .fits .few) (c .before .put-entries .kept .1 .1 .0 ∙ sym (slice-aggregate-put-entries (c .before .before)))
 
 slice-aggregate-seq : tie.Need-slice-aggregate-seq
 slice-aggregate-seq c =
-    let P = c .before .before .before .before .before .before .before .before .before .before .before .before .before .before .before .before .before .before .pre in
-    let A = c .before .before .before .before .before .before .before .before .before .before .before .before .before .before .before .before .before .before .args in
+    let P = c .before .before .before .before .before .before .before .before .before .before .pre in
+    let A = c .before .before .before .before .before .before .before .before .before .before .args in
     let xs = c .before .before .put-entries .last .1 .1 .0 in
     let long : length xs ≡ 32799 = c .before .before .put-entries .kept .1 .1 .0 ∙ sym (slice-aggregate-put-entries (c .before .before .before)) in
     sym (length-take-le (A .window .count + entryCount (A .log .now)) xs (all-fit (P .fits .short) (P .fits .few) long))
 
 write-bytes-requires : tie.Need-write-bytes-requires
 write-bytes-requires c κs =
-    let P = c .before .before .before .before .before .before .before .before .before .before .before .before .before .before .before .before .before .before .before .before .before .pre in
-    let A = c .before .before .before .before .before .before .before .before .before .before .before .before .before .before .before .before .before .before .before .before .before .args in
-    let xs = c .before .before .before .before .before .put-entries .last .1 .1 .0 in
-    let long : length xs ≡ 32799 = c .before .before .before .before .before .put-entries .kept .1 .1 .0 ∙ sym (slice-aggregate-put-entries (c .before .before .before .before .before .before)) in
-    let few : A .window .count ≤ length (A .window .pieces) = all-there (c .before .before .before .before .before .before .before .before .put-window .ensures .all) (P .fits .short) in
+    let P = c .before .before .before .before .before .before .before .before .before .before .before .before .pre in
+    let A = c .before .before .before .before .before .before .before .before .before .before .before .before .args in
+    let xs = c .before .before .before .before .put-entries .last .1 .1 .0 in
+    let long : length xs ≡ 32799 = c .before .before .before .before .put-entries .kept .1 .1 .0 ∙ sym (slice-aggregate-put-entries (c .before .before .before .before .before)) in
+    let few : A .window .count ≤ length (A .window .pieces) = all-there (c .before .before .before .before .before .before .before .put-window .ensures .all) (P .fits .short) in
     asks (A .book .now) (A .n) (A .window) (A .log .now) few (settleable _ _ (P .sound) .bounded .fits) (P .fits)
     (take (A .window .count + entryCount (A .log .now)) xs) _ _
-    (filled (A .window) (A .log .now) few _ xs (all-fit (P .fits .short) (P .fits .few) long) (c .before .before .before .before .before .before .before .before .put-window .ensures) (c .before .before .before .before .before .put-entries .ensures))
-    (c .before .before .before .before .before .before .before .before .before .before .apart-rows .ensures .sized) (P .wide)
+    (filled (A .window) (A .log .now) few _ xs (all-fit (P .fits .short) (P .fits .few) long) (c .before .before .before .before .before .before .before .put-window .ensures) (c .before .before .before .before .put-entries .ensures))
+    (P .aparts .sized) (P .wide)
 
 last-window-requires : tie.Need-last-window-requires
 last-window-requires c κs = tt
@@ -79,23 +73,22 @@ same-length c = c .before .before .before .write-bytes .kept .1 .1 .1 .0
 
 returns : tie.Need-returns
 returns c =
-    let P = c .before .before .before .before .before .before .before .before .before .before .before .before .before .before .before .before .before .before .before .before .before .before .before .before .before .pre in
-    let A = c .before .before .before .before .before .before .before .before .before .before .before .before .before .before .before .before .before .before .before .before .before .before .before .before .before .args in
-    let xs = c .before .before .before .before .before .before .before .before .before .put-entries .last .1 .1 .0 in
-    let long : length xs ≡ 32799 = c .before .before .before .before .before .before .before .before .before .put-entries .kept .1 .1 .0 ∙ sym (slice-aggregate-put-entries (c .before .before .before .before .before .before .before .before .before .before)) in
-    let few : A .window .count ≤ length (A .window .pieces) = all-there (c .before .before .before .before .before .before .before .before .before .before .before .before .put-window .ensures .all) (P .fits .short) in
+    let P = c .before .before .before .before .before .before .before .before .before .before .before .before .before .before .before .before .pre in
+    let A = c .before .before .before .before .before .before .before .before .before .before .before .before .before .before .before .before .args in
+    let xs = c .before .before .before .before .before .before .before .before .put-entries .last .1 .1 .0 in
+    let long : length xs ≡ 32799 = c .before .before .before .before .before .before .before .before .put-entries .kept .1 .1 .0 ∙ sym (slice-aggregate-put-entries (c .before .before .before .before .before .before .before .before .before)) in
+    let few : A .window .count ≤ length (A .window .pieces) = all-there (c .before .before .before .before .before .before .before .before .before .before .before .put-window .ensures .all) (P .fits .short) in
     let e : take (A .window .count + entryCount (A .log .now)) xs ≡ sequence (A .window) (A .log .now)
-    = filled (A .window) (A .log .now) few _ xs (all-fit (P .fits .short) (P .fits .few) long) (c .before .before .before .before .before .before .before .before .before .before .before .before .put-window .ensures) (c .before .before .before .before .before .before .before .before .before .put-entries .ensures) in (
+    = filled (A .window) (A .log .now) few _ xs (all-fit (P .fits .short) (P .fits .few) long) (c .before .before .before .before .before .before .before .before .before .before .before .put-window .ensures) (c .before .before .before .before .before .before .before .before .put-entries .ensures) in (
       c .last-window .ensures ∙ ap windowOf e,
       writes (A .book .now) (A .n) (A .window) (A .log .now) few (settleable _ _ (P .sound) .bounded .fits) (P .fits) _ _ _ _ e
-          (rw (P .void .1) at (c .before .before .before .before .before .before .before .before .before .before .before .before .before .before .apart-rows .ensures)) (c .before .before .before .write-bytes .ensures),
+          (P .aparts) (c .before .before .before .write-bytes .ensures),
     )
 
 pub write-part-spec : {M : Type 1} → statement M
 write-part-spec =
     tie.close
     (tie.spec
-    apart-rows-requires
     slice-aggregate-put-window
     put-window-requires
     slice-aggregate-put-entries
