@@ -1,0 +1,2 @@
+pub mod LogTexts
+pub mod ComparisonTexts

@@ -1,0 +1,64 @@
+-- `beside_pages::write_answers` meets its contract. Assumes nothing.
+use native.Mathlib.Omega.{arith}
+use borrow.Author.Needs.{needs}
+use mathlib.Core.Path.{sym, _∙_}
+use Prim.Native.Nat.{ℕ}
+use lib.ListN.{length-replicate}
+use lib.Seq.{length-take-le}
+use Rattle.sentences.proofs.Tellings.{took-bytes, took-unread, page-read, page-unread}
+use Rattle.beside_pages.proofs.ComparisonTexts.{claims-fit}
+use Rattle.beside_pages.proofs.comparison.write_answers.Statement.{statement}
+use Rattle.beside_pages.proofs.comparison.write_answers.Tie as tie
+
+slice-aggregate-read-source : tie.Need-slice-aggregate-read-source
+slice-aggregate-read-source c = search needs
+
+read-source-requires : tie.Need-read-source-requires
+read-source-requires c κs = search needs
+
+enum-known-read : tie.Need-enum-known-read
+enum-known-read c = search needs
+
+write-unread-requires : tie.Need-write-unread-requires
+write-unread-requires c κs = search needs
+
+enum-known-read-2 : tie.Need-enum-known-read-2
+enum-known-read-2 c = search needs
+
+array-share-prefix-asked : tie.Need-array-share-prefix-asked
+array-share-prefix-asked c = took-bytes _ _ _ _ (c .before .read2 .given .1) (c .before .before .before .before .read-source .ensures) .0
+
+slice-aggregate-write-both : tie.Need-slice-aggregate-write-both
+slice-aggregate-write-both c = sym (length-take-le _ _ (took-bytes _ _ _ _ (c .before .before .read2 .given .1) (c .before .before .before .before .before .read-source .ensures) .0))
+
+write-both-requires : tie.Need-write-both-requires
+write-both-requires c κs = claims-fit _ _ (took-bytes _ _ _ _ (c .before .before .before .before .before .before .before .before .before .read2 .given .1) (c .before .before .before .before .before .before .before .before .before .before .before .before .read-source .ensures) .0) (c .before .before .before .before .before .before .before .before .before .before .before .before .read-source .kept .1 .1 .0 ∙ length-replicate {A = ℕ} 24582 0)
+
+same-length : tie.Need-same-length
+same-length c = search needs
+
+returns : tie.Need-returns
+returns c = page-unread _ _ _ (c .before .before .write-unread .result) _ _ _ _ (omega arith) (took-unread _ _ _ _ _ (c .before .before .before .before .before .read .given .1) (c .before .before .before .before .before .before .before .before .read-source .ensures)) (c .before .before .write-unread .ensures)
+
+same-length-2 : tie.Need-same-length-2
+same-length-2 c = search needs
+
+returns-2 : tie.Need-returns-2
+returns-2 c = page-read _ _ _ (c .before .before .write-both .result) _ _ _ _ (took-bytes _ _ _ _ (c .before .before .before .before .before .before .before .before .before .before .before .before .read2 .given .1) (c .before .before .before .before .before .before .before .before .before .before .before .before .before .before .before .read-source .ensures) .1) (c .before .before .write-both .ensures)
+
+pub write-answers-spec : {M : Type 1} → statement M
+write-answers-spec =
+    tie.close
+    (tie.spec
+    slice-aggregate-read-source
+    read-source-requires
+    enum-known-read
+    write-unread-requires
+    enum-known-read-2
+    array-share-prefix-asked
+    slice-aggregate-write-both
+    write-both-requires
+    same-length
+    returns
+    same-length-2
+    returns-2)

@@ -1,0 +1,139 @@
+// The page of `replicates`: a line for each entry of the log.
+ghost use Prim.Native.Nat.{_*_, _≤_};
+ghost use lib.ListN.{length};
+ghost use Rattle.replicates.specs.Log.{entryCount};
+ghost use Rattle.pages.specs.Put.{Put};
+ghost use Rattle.pages.specs.Written.{Page};
+ghost use Rattle.beside_pages.specs.LogText.{entryLine, entryLines, measuredText, logText};
+use outcomes::Outcome;
+use pages::Written;
+use replicates::Window;
+use sentences::sources::Source;
+use text::Form;
+
+// The line of entry i.
+fn put_entry(page: &mut [u8], at: usize, i: usize, piece: usize, apart: u8, flag: u8) -> usize
+    ensures { λ r. ⌜ Put (now (page .entry)) at (entryLine i piece apart flag) (now (page .exit)) r ⌝ }
+{
+    let at = pages::put_number(page, at, i, b' ');
+    let at = pages::put_number(page, at, piece, b' ');
+    let at = pages::put_number(page, at, numbers::wide(apart), b' ');
+    pages::put_entry(page, at, b"NO\nYES\n", numbers::wide(flag), b'\n')
+}
+
+// The lines of all entries, from the start of the page, where the bytes have two of each.
+fn put_entries(page: &mut [u8], log: &[u8], bytes: &[u8]) -> usize
+    requires { ⌜ (2 * entryCount (now log) ≤ length (now bytes)) × (length (now log) ≤ 65538) ⌝ }
+    ensures { λ r. ⌜ Put (now (page .entry)) 0 (entryLines (now (log .entry)) (now (bytes .entry)) (entryCount (now (log .entry)))) (now (page .exit)) r ⌝ }
+    ensures { λ r. ⌜ length (entryLines (now (log .entry)) (now (bytes .entry)) (entryCount (now (log .entry)))) ≤ 655380 ⌝ }
+{
+    let n = log.len() / 2;
+    let mut end: usize = 0;
+    let mut i: usize = 0;
+    while i < n {
+        let low = 2 * i;
+        let high = low + 1;
+        let piece = numbers::wide(log[low]) + 256 * numbers::wide(log[high]);
+        end = put_entry(page, end, i, piece, bytes[low], bytes[high]);
+        i += 1;
+    }
+    end
+}
+
+// The text of the call's outcome, from the start of the page. Answers where it ends.
+fn put_log(
+    book: &[u8],
+    log: &[u8],
+    source: &[u8],
+    other: &[u8],
+    page: &mut [u8],
+    e: &mut [u64; 65536],
+    d: &mut [u64; 65536],
+    t: &mut [u64; 65536],
+    u: &mut [u64; 65536],
+) -> usize
+    requires { ⌜ length (now log) ≤ 65538 ⌝ }
+    ensures { λ r. ⌜ Put (now (page .entry)) 0 (measuredText (now (book .entry)) (now (log .entry)) (now (source .entry)) (now (other .entry))) (now (page .exit)) r ⌝ }
+    ensures { λ r. ⌜ length (measuredText (now (book .entry)) (now (log .entry)) (now (source .entry)) (now (other .entry))) ≤ 655380 ⌝ }
+{
+    let mut bytes = [0u8; 65538];
+    let none = Window {
+        pieces: [0u16; 31],
+        count: 0,
+    };
+    let made = replicates::replicates(book, none, log, &mut bytes, e, d, t, u);
+    let outcome = made.outcome;
+    match outcome {
+        Outcome::Refused(refusal, place) => sentences::put_refused(
+            page,
+            0,
+            refusal,
+            place,
+            source,
+            other,
+        ),
+        Outcome::Accepted(_, _, _) => put_entries(page, log, &bytes),
+    }
+}
+
+fn write_entries(
+    book: &[u8],
+    log: &[u8],
+    source: &[u8],
+    other: &[u8],
+    page: &mut [u8],
+    e: &mut [u64; 65536],
+    d: &mut [u64; 65536],
+    t: &mut [u64; 65536],
+    u: &mut [u64; 65536],
+) -> Written
+    requires { ⌜ length (now log) ≤ 65538 ⌝ }
+    ensures { λ r. ⌜ Page (now (page .entry)) (measuredText (now (book .entry)) (now (log .entry)) (now (source .entry)) (now (other .entry))) (now (page .exit)) r ⌝ }
+    ensures { λ r. ⌜ length (measuredText (now (book .entry)) (now (log .entry)) (now (source .entry)) (now (other .entry))) ≤ 655380 ⌝ }
+{
+    let end = put_log(book, log, source, other, page, e, d, t, u);
+    pages::finish(page.len(), end)
+}
+
+// The replicates in a log: 655,380 bytes always serve.
+pub fn write_log(
+    source: &[u8],
+    other: &[u8],
+    page: &mut [u8],
+    e: &mut [u64; 65536],
+    d: &mut [u64; 65536],
+    t: &mut [u64; 65536],
+    u: &mut [u64; 65536],
+) -> Written
+    ensures { λ r. ⌜ Page (now (page .entry)) (logText (now (source .entry)) (now (other .entry))) (now (page .exit)) r ⌝ }
+    ensures { λ r. ⌜ length (logText (now (source .entry)) (now (other .entry))) ≤ 655380 ⌝ }
+{
+    let mut book = [0u8; 49158];
+    let mut log = [0u8; 65538];
+    let read = sentences::sources::read_source(Form::Records, source, &mut book);
+    match read {
+        Source::Unread(bad, reason) => sentences::write_unread(page, sentences::BOOK, bad, reason),
+        Source::Bytes(n) => {
+            let seen = sentences::sources::read_source(Form::Log, other, &mut log);
+            match seen {
+                Source::Unread(bad, reason) => sentences::write_unread(
+                    page,
+                    sentences::LOG,
+                    bad,
+                    reason,
+                ),
+                Source::Bytes(m) => write_entries(
+                    &book[..n],
+                    &log[..m],
+                    source,
+                    other,
+                    page,
+                    e,
+                    d,
+                    t,
+                    u,
+                ),
+            }
+        }
+    }
+}
