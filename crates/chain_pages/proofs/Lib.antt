@@ -6,3 +6,4 @@ pub mod Clashes
 pub mod Verdicts
 pub mod WhyVerifies
 pub mod SessionWhy
+pub mod SessionClash
