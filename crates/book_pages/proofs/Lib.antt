@@ -3,3 +3,4 @@ pub mod ListTexts
 pub mod Signs
 pub mod Rooms
 pub mod GridTexts
+pub mod ShowTexts

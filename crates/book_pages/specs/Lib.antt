@@ -2,3 +2,5 @@ pub mod AskText
 pub mod ListText
 pub mod Sign
 pub mod GridText
+pub mod ShowText
+pub mod WordsText
