@@ -1,7 +1,7 @@
 """The deepest books, the longest text, chain and page, with 7,168 KiB of stack."""
 import reference as ref
 from lab import stack
-from reference import APART, MEETS, NOTPART, PART, packed, shown, six
+from reference import APART, MEETS, NOTPART, PART, packed, shown
 
 KIB = 7168
 LAST = 2047

@@ -7,7 +7,7 @@ import threading
 import reference as ref
 from lab import held, nobody, small_files
 from pages import BAD, SESSION, TEXTS
-from reference import APART, MEETS, PART, packed
+from reference import MEETS, packed
 
 HERE = pathlib.Path(__file__).resolve().parent
 BOOK = packed(SESSION)

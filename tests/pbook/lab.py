@@ -1,6 +1,7 @@
 """Runs the program as a user does, in a folder of its own, and counts what is as it should be."""
 import os
 import pathlib
+import re
 import resource
 import shutil
 import signal
@@ -16,6 +17,7 @@ class Lab:
         self.passed = self.failed = 0
         self.folder = pathlib.Path(tempfile.mkdtemp(prefix="pbook-"))
         self.made = 0
+        self.lines = set()  # the first words of the pages that were as they should be
 
     def close(self):
         shutil.rmtree(self.folder)
@@ -52,6 +54,9 @@ class Lab:
         out, err, status = self.run(room, *words, given=given, prepare=prepare)
         text = out.decode("latin-1")
         good = page(text) if callable(page) else text == page
+        if good:
+            line = re.sub(r"UNREAD line [0-9]+", "UNREAD", text.split("\n", 1)[0])
+            self.lines.add(re.sub(r"(REFUSED [0-9]+) [0-9]+( line [0-9]+)?", r"\1", line))
         self.count(name, good and err == b"" and status == 0, (words, text[:200], err, status, None if callable(page) else page[:200]))
         return text
 

@@ -2,7 +2,7 @@
 import random
 
 import reference as ref
-from reference import APART, CLAIMS, LOG, MEETS, NOTPART, PART, RECORDS, TRAY, VOID, packed, shown, six
+from reference import APART, MEETS, NOTPART, PART, RECORDS, TRAY, VOID, packed, shown, six
 
 SESSION = [(PART, 0, 1, 0), (PART, 0, 2, 0), (PART, 0, 3, 1), (PART, 0, 4, 1), (PART, 0, 4, 2), (PART, 0, 5, 4), (APART, 0, 3, 4), (MEETS, 0, 3, 2), (NOTPART, 0, 2, 1)]
 GOOD = {
@@ -53,6 +53,7 @@ TEXTS = {
     "reason 2 before 3 and 4": b"PART 1 0x scan x\n",
     "7, up to 65535": b"PART 00065535 1",
 }
+CLAIM_RUNS = [six(7, 0, 0, 0), six(PART, 2, 0, 0), six(PART, 0, 0, 0)[:5], six(MEETS, 0, 0, 0) + six(PART, 1, 99, 0)]
 CLAIM_TEXTS = [b"part 5 2\nNOTPART 0 1 sheets # x\n\nmeets 2 3 all", b"PART 1 2 sheet\n", b"void 1\n", b"PART 1\n", b"PART 1 2 all all\n", b"\n# none\n", b"PART 9999 0\n", b"#\nPART 1 0\n# \nAPART 1 70\n"]
 LOG_TEXTS = [b"3\n4\n\n5 # late\n3\n", b"", b"#\n", b"3 4\n", b"x\n", b"65536\n", b"3\n# x\n77\n", b"1\r\n2"]
 WORDS = [[b"PART", b"5", b"2"], [b"part 5", b"2 sheets"], [b"Meets", b"2", b"3", b"ALL"], [b"NOTPART", b"0", b"0"], [b"apart", b"1", b"99"], [b"apart", b"1", b"65536"], [b"void", b"1"], [b""], [b"# x"],
@@ -83,7 +84,7 @@ def reads(lab, name, data, full=True):
     for words in WORDS if full else WORDS[:4]:
         lab.page(f"{name}: ask {words}", ref.ask_words(data, words), room, "ask", "book", *words)
         lab.page(f"{name}: why {words}", lambda page, words=words: ref.why_is(data, words, page), room, "why", "book", *words)
-    for given in CLAIM_TEXTS if full else CLAIM_TEXTS[:1]:
+    for given in (*CLAIM_TEXTS, *CLAIM_RUNS) if full else CLAIM_TEXTS[:1]:
         lab.page(f"{name}: ask {given}", ref.ask(data, given), room, "ask", "book", given=given)
     for given in LOG_TEXTS if full else LOG_TEXTS[:1]:
         lab.page(f"{name}: replicates {given}", ref.replicates(data, given), room, "replicates", "book", given=given)
@@ -263,7 +264,6 @@ def long_things(lab):
         lab.run(room, "pack", "text", "out")
         lab.count(f"pack of {length} bytes", (room / "out").exists() == (length == 524288))
         (room / "out").unlink(missing_ok=True)
-    lab.page("an endless text", "UNREAD line 0 longer than 524288 bytes\n", room, "check", "yes") if (room / "yes").exists() else None
     pairs = [(MEETS, 0, a, b) for a in range(91) for b in range(91)]
     for count in (8192, 8193, 8194):
         data = shown(pairs[:count]).encode()
@@ -326,20 +326,28 @@ def grids(lab):
         lab.page(word, "".join(line + "\n" for line in lines), room, "grid", "book")
 
 
-def all_pages(lab):
+def good_books(lab):
     for name, records in GOOD.items():
         full = name in ("the session", "empty")
         reads(lab, name, packed(records), full)
         reads(lab, f"{name}, text", dressed(random.Random(1), records), full)
         writes(lab, name, packed(records), full)
         writes(lab, f"{name}, text", shown(records).encode(), full)
-    lab.group("good books")
+
+
+def bad_books(lab):
     for name, data in BAD.items():
         reads(lab, f"number {name}", data, full=name == "14")
         writes(lab, f"number {name}", data, full=False)
     for name, data in TEXTS.items():
         reads(lab, f"text: {name}", data, full=name == "reason 3")
         writes(lab, f"text: {name}", data, full=False)
+
+
+def all_pages(lab):
+    good_books(lab)
+    lab.group("good books")
+    bad_books(lab)
     lab.group("bad books")
     compares(lab)
     converts(lab)

@@ -17,6 +17,17 @@ from files import all_files  # noqa: E402
 from lab import Lab  # noqa: E402
 from manual import all_manual  # noqa: E402
 from pages import all_pages  # noqa: E402
+from reference import table  # noqa: E402
+
+
+def every_line(lab):
+    """Each refusal and each reason of the manual was printed, each prefix with some."""
+    for number, sentence in table("| number |").items():
+        lab.count(f"number {number} was printed", f"REFUSED {number} {sentence}" in lab.lines)
+    for reason, sentence in table("| reason |").items():
+        lab.count(f"reason {reason} was printed", any(line.endswith(f"UNREAD {sentence}") for line in lab.lines))
+    for prefix in ("REFUSED ", "UNREAD ", "SECOND REFUSED ", "SECOND UNREAD ", "CLAIMS UNREAD ", "LOG UNREAD ", "WORDS UNREAD "):
+        lab.count(f"{prefix}was printed", any(line.startswith(prefix) for line in lab.lines))
 
 
 def main():
@@ -27,6 +38,7 @@ def main():
     try:
         for part in (all_manual, all_pages, all_files, all_deep):
             part(lab)
+        every_line(lab)
     finally:
         lab.close()
     print(f"{lab.passed} passed, {lab.failed} failed")
