@@ -2,7 +2,7 @@
 use Prim.Native.Nat.{ℕ}
 use mathlib.Core.Path.{_≡_, refl, sym, ap, ap₂, _∙_}
 use mathlib.Core.Bool.{true}
-use mathlib.Core.List.{List, [], _∷_, _++_}
+use mathlib.Core.List.{List, [], _++_}
 use Rattle.lists.specs.Tab.{tab}
 use Rattle.lists.specs.Any.{any, anyBelow}
 use Rattle.lists.specs.First.{first}
@@ -75,8 +75,9 @@ all-pass = ap (λ (o : Outcome). passing clashBook clashSteps o) book-refused �
 
 pub session-clash : SessionClash
 unfolding clashPage clashText
-session-clash =
-    (sym (of-read 0 Records clashSource (λ (book : List ℕ). clashText clashSource (freshCall book []) clashSteps) clashBook source-read)
-    ∙ ap (λ (o : Outcome). clashText clashSource o clashSteps) book-refused
-    ∙ ap₂ _++_ refusal-told steps-told,
-     all-pass)
+session-clash = (
+  sym (of-read 0 Records clashSource (λ (book : List ℕ). clashText clashSource (freshCall book []) clashSteps) clashBook source-read)
+      ∙ ap (λ (o : Outcome). clashText clashSource o clashSteps) book-refused
+      ∙ ap₂ _++_ refusal-told steps-told,
+  all-pass,
+)
