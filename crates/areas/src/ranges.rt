@@ -9,15 +9,15 @@ use index::TreeId;
 use numbers::shorts;
 
 // The first of the pairs below `count` whose row is at least `row`; `count` where there is none.
-fn first_row(area: &[u16], count: usize, row: usize) -> usize
+fn first_row(area: &[u16], count: usize, row: TreeId) -> usize
     requires { ⌜ 2 * count ≤ length (now area) ⌝ }
-    ensures { λ r. ⌜ (r ≤ count) × (RowsRise (now (area .entry)) count → (i : ℕ) → i < r → getD (now (area .entry)) (2 * i) 0 < row) ⌝ }
+    ensures { λ r. ⌜ (r ≤ count) × (RowsRise (now (area .entry)) count → (i : ℕ) → i < r → getD (now (area .entry)) (2 * i) 0 < row .0) ⌝ }
 {
     let mut low: usize = 0;
     let mut high = count;
     while low < high {
         let middle = low + (high - low) / 2;
-        if shorts::wide(area[2 * middle]) < row {
+        if shorts::wide(area[2 * middle]) < row.0 {
             low = middle + 1;
         } else {
             high = middle;
@@ -28,46 +28,46 @@ fn first_row(area: &[u16], count: usize, row: usize) -> usize
 
 // Whether a row and a column lie in these ranges.
 fn lies_inside(
-    row_from: usize,
-    row_to: usize,
-    column_from: usize,
-    column_to: usize,
-    row: usize,
-    column: usize,
+    row_from: TreeId,
+    row_to: TreeId,
+    column_from: TreeId,
+    column_to: TreeId,
+    row: TreeId,
+    column: TreeId,
 ) -> bool
-    ensures { λ t. ⌜ t ≡ inside «row_from» «row_to» «column_from» «column_to» row column ⌝ }
+    ensures { λ t. ⌜ t ≡ inside («row_from» .0) («row_to» .0) («column_from» .0) («column_to» .0) (row .0) (column .0) ⌝ }
 {
-    if row < row_from {
+    if row.0 < row_from.0 {
         return false;
     }
-    if row_to < row {
+    if row_to.0 < row.0 {
         return false;
     }
-    if column < column_from {
+    if column.0 < column_from.0 {
         return false;
     }
-    column <= column_to
+    column.0 <= column_to.0
 }
 
 // Whether one of the pairs below `count` lies in these rows and columns.
 fn in_rows(
     area: &[u16],
     count: usize,
-    row_from: usize,
-    row_to: usize,
-    column_from: usize,
-    column_to: usize,
+    row_from: TreeId,
+    row_to: TreeId,
+    column_from: TreeId,
+    column_to: TreeId,
 ) -> bool
     requires { ⌜ 2 * count ≤ length (now area) ⌝ }
-    ensures { λ t. ⌜ (RowsRise (now (area .entry)) count → t ≡ anyBelow (λ i. inside «row_from» «row_to» «column_from» «column_to» (getD (now (area .entry)) (2 * i) 0) (getD (now (area .entry)) (2 * i + 1) 0)) count) ⌝ }
+    ensures { λ t. ⌜ (RowsRise (now (area .entry)) count → t ≡ anyBelow (λ i. inside («row_from» .0) («row_to» .0) («column_from» .0) («column_to» .0) (getD (now (area .entry)) (2 * i) 0) (getD (now (area .entry)) (2 * i + 1) 0)) count) ⌝ }
 {
     let mut i = first_row(area, count, row_from);
     while i < count {
-        let row = shorts::wide(area[2 * i]);
-        if row_to < row {
+        let row = TreeId(shorts::wide(area[2 * i]));
+        if row_to.0 < row.0 {
             return false;
         }
-        let column = shorts::wide(area[2 * i + 1]);
+        let column = TreeId(shorts::wide(area[2 * i + 1]));
         if lies_inside(row_from, row_to, column_from, column_to, row, column) {
             return true;
         }
@@ -91,25 +91,11 @@ pub fn fact_between(
     if area.len() / 2 < count {
         return false;
     }
-    if in_rows(
-        area,
-        count,
-        row_from.0,
-        row_to.0,
-        column_from.0,
-        column_to.0,
-    ) {
+    if in_rows(area, count, row_from, row_to, column_from, column_to) {
         return true;
     }
     if !unordered {
         return false;
     }
-    in_rows(
-        area,
-        count,
-        column_from.0,
-        column_to.0,
-        row_from.0,
-        row_to.0,
-    )
+    in_rows(area, count, column_from, column_to, row_from, row_to)
 }

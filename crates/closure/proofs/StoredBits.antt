@@ -39,14 +39,6 @@ module _ (fs : List Fact) where
   straight-hit k x y swaps q m =
       storing-hit fs k _ (factOf k x y) m q (left-or _ (same k x y))
 
-  -- in the other
-  pub swapped-find : (k : ℕ) (x y : ℕ) → storedBit fs k false true x y ≡ true → List·Memᴰ (factOf k y x) fs
-  unfolding storedBit
-  swapped-find k x y e =
-      let s = storing-find fs k _ e in
-      let h = and-both (eqb (s .0) y) (eqb (s .1) x) (s .3) in
-      rw (eqb-true (s .0) y (h .0), eqb-true (s .1) x (h .1)) at (s .2)
-
   -- in either order
   pub either-find : (k : ℕ) (x y : ℕ) → storedBit fs k true true x y ≡ true → Either fs (factOf k) x y
   unfolding storedBit

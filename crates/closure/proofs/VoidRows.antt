@@ -1,13 +1,13 @@
 -- The bits of the pieces that records mark, record by record. Assumes nothing.
 use Prim.Native.Nat.{ℕ, _+_, _*_, _/_, _≤_, _<_}
-use mathlib.Core.Path.{_≡_, refl, sym, ap, _∙_, fun-ext}
-use mathlib.Core.Bool.{Bool, true, false, false≢true, _||_}
+use mathlib.Core.Path.{_≡_, sym, ap, _∙_, fun-ext}
+use mathlib.Core.Bool.{Bool, false, false≢true, _||_}
 use mathlib.Core.List.{List}
 use native.Mathlib.Omega.{arith}
 use native.Mathlib.Decide.{ℕ-discrete, decLt}
-use lib.ListN.{length, getD, replicate, length-replicate, List·getD-eq-default}
+use lib.ListN.{length, replicate, length-replicate, List·getD-eq-default}
 use Rattle.lists.proofs.Bools.{not-true}
-use Rattle.matrices.specs.Matrix.{bit, bitOf, Inserted}
+use Rattle.matrices.specs.Matrix.{bitOf, Inserted}
 use Rattle.matrices.proofs.Laws.{bit-zero}
 use Rattle.matrices.proofs.Cleared.{cleared}
 use Rattle.records.specs.declared.Record.{Record}

@@ -1,9 +1,7 @@
 // The closure of a run: the stored facts joined along containment, as bit matrices from which every claim is answered.
-ghost use mathlib.Core.Path.{_≡_};
 ghost use mathlib.Core.Bool.{true};
 ghost use mathlib.Core.List.{List};
 ghost use Prim.Native.Nat.{_≤_};
-ghost use lib.ListN.{length};
 ghost use Rattle.rules.specs.Fact.{Fact};
 ghost use Rattle.rules.specs.Follows.{storing};
 ghost use Rattle.records.specs.Facts.{facts};

@@ -2,7 +2,7 @@
 use mathlib.Core.Path.{_≡_, ap, _∙_}
 use mathlib.Core.Bool.{Bool, true, false}
 use mathlib.Core.List.{List, [], _∷_, _++_, append-assoc}
-use Prim.Native.Nat.{ℕ, suc, _+_, _≤_, _<_}
+use Prim.Native.Nat.{ℕ, suc, _+_, _<_}
 use native.Mathlib.Omega.{arith}
 use lib.ListN.{length, getD, length-append}
 use lib.Seq.{getD-at}
@@ -28,9 +28,6 @@ pub record Stands (bs : List Bool) (vs : List Visit) (q : ℕ) (f : Forest) : Ty
   pub at-place : length earlier ≡ q
 
 module _ {bs : List Bool} {vs : List Visit} {q : ℕ} where
-  pub up-to-visits : {f : Forest} → Stands bs vs q f → q + length (visits f) ≤ length vs
-  up-to-visits {f} S = omega (arith, ap length (S .visits-are), length-append (S .earlier) (visits f ++ S .later), length-append (visits f) (S .later), S .at-place)
-
   module _ {v : Visit} {f g : Forest} (S : Stands bs vs q (tree v f g)) where
     split : bs ≡ S .front ++ (true ∷ (parens f ++ (false ∷ (parens g ++ (false ∷ S .back)))))
     unfolding parens shape enc

@@ -7,7 +7,7 @@ use borrow.Author.Tests.{eq-eqb}
 use Rattle.lists.proofs.Bools.{and-both, both-and}
 use Rattle.lists.proofs.Firsts.{Hit, hits}
 use Rattle.groups.specs.Groups.{lies, same, lowest, first-of}
-use Rattle.groups.proofs.Lying.{Pairs, lies-refl, lies-trans, lies-whole}
+use Rattle.groups.proofs.Lying.{Pairs, lies-refl, lies-trans}
 
 module _ (n : ℕ) (fact : ℕ → ℕ → Bool) (P : Pairs n fact) where
   pub same-both : (g h : ℕ) → same n fact g h ≡ true → (lies n fact g h ≡ true) × (lies n fact h g ≡ true)
@@ -69,15 +69,8 @@ module _ (n : ℕ) (fact : ℕ → ℕ → Bool) (P : Pairs n fact) where
       let b = lowest-below h k in
       same-trans g (lowest n fact h) h l b k (rw e at (lowest-member g l)) (same-turn h (lowest n fact h) (lowest-member h k))
 
-  pub lowest-same : (g h : ℕ) → g < n → h < n → lies n fact g h ≡ true → lies n fact h g ≡ true → lowest n fact g ≡ lowest n fact h
-  lowest-same g h l k a b = same-lowest g h l k (both-same g h a b)
-
   pub lowest-own : (g : ℕ) → g < n → lowest n fact (lowest n fact g) ≡ lowest n fact g
   lowest-own g l = sym (same-lowest g (lowest n fact g) l (lowest-below g l) (lowest-member g l))
-
-  -- the group of 0: what contains 0
-  pub lowest-zero : (g : ℕ) → g < n → lies n fact 0 g ≡ true → lowest n fact g ≡ 0
-  lowest-zero g l e = omega (arith, lowest-le g 0 l (P .some) (both-same g 0 (lies-whole n fact P g l) e))
 
   pub lowest-first : (g : ℕ) → g < n → first-of n fact (lowest n fact g) ≡ true
   unfolding first-of

@@ -54,10 +54,6 @@ module _ (n : ℕ) (fact : ℕ → ℕ → Bool) (P : Pairs n fact) where
   unfolding number
   number-same g h l k = (λ e. same-lowest n fact P g h l k (number-to-same g h l k e), ap (tally (first-of n fact)))
 
-  pub number-at-most : (g : ℕ) → g < n → number n fact g ≤ g
-  unfolding number
-  number-at-most g l = omega (arith, tally-le (first-of n fact) (lowest n fact g), lowest-at-most n fact P g l)
-
   pub groups-few : groups n fact ≤ n
   unfolding groups
   groups-few = tally-le (first-of n fact) n

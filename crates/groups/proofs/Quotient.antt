@@ -12,7 +12,7 @@ use Rattle.lists.proofs.Bools.{and-both, both-and, or-either, left-or, right-or
 use Rattle.lists.proofs.Anys.{below-find, below-hit}
 use Rattle.index.specs.Pairs.{joined, Book, Within, self, step}
 use Rattle.index.proofs.Below.{within-trans}
-use Rattle.groups.specs.Groups.{lies, same, number, groups, pair}
+use Rattle.groups.specs.Groups.{lies, number, groups, pair}
 use Rattle.groups.specs.Index.{edges}
 use Rattle.groups.proofs.Lying.{Pairs, leads, leads-split, leads-in, lies-fact, lies-trans, lies-whole, lies-within}
 use Rattle.groups.proofs.Grouping.{both-same, same-both}

@@ -6,10 +6,9 @@ use mathlib.Core.List.{List, [], _∷_, _++_, append-assoc, append-nil, List·Me
 use Prim.Native.Nat.{ℕ, zero, suc, _+_, _-_, _≤_, _<_}
 use native.Mathlib.Omega.{arith}
 use native.Mathlib.Numerals.{add-one}
-use lib.ListN.{length, getD, take, drop, set, length-take, drop-of-length-le}
-use native.Mathlib.Decide.{ℕ-discrete}
+use lib.ListN.{length, getD, take, drop, length-take, drop-of-length-le}
 use borrow.Author.Tests.{eq-eqb}
-use lib.Seq.{getD-set-same, getD-set-other, take-suc, drop-cons, getD-take, take-take, take-append-le, drop-append-le, length-take-le}
+use lib.Seq.{take-suc, drop-cons, getD-take, take-take, take-append-le, drop-append-le, length-take-le}
 use Rattle.lists.specs.Numbers.{range, keep, find}
 use Rattle.index.specs.Breadth.{breadth, order, parent}
 use Rattle.lists.proofs.Numbers.{_∈_, which, keep-yes, keep-lengths, find-mem, range-mem, range-length, keep-mem}

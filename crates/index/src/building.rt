@@ -1,5 +1,4 @@
-// The index of a matrix of steps: the walk of the tree that writes its parentheses, marks and shadows.
-ghost use mathlib.Core.Path.{_≡_};
+// The index of a matrix of steps between groups: the walk of the tree that writes its parentheses, marks and shadows.
 ghost use Prim.Native.Nat.{_+_, _-_, _<_, _≤_};
 ghost use lib.ListN.{length};
 ghost use Rattle.index.specs.Pairs.{joined};
@@ -7,7 +6,7 @@ ghost use Rattle.index.specs.Index.{Indexed};
 ghost use Rattle.index.specs.Matrix.{pairOf, Buildable, Completed};
 ghost use Rattle.index.specs.Steps.{Held, Joinable, Parented, Zero, Walkable, Walked};
 ghost use Rattle.matrices.specs.Matrix.{IsMatrix};
-use crate::DatasetId;
+use crate::GroupId;
 use crate::TreeId;
 use matrices::RowNumbers;
 use numbers::shorts;
@@ -17,7 +16,7 @@ pub struct Counts {
     pub shadows: usize,
 }
 
-// Joins each piece but 0 that is nobody's part to 0.
+// Joins each group but 0 that is nobody's part to 0.
 fn join(n: usize, edges: &mut [u64], held: &RowNumbers)
     requires { ⌜ (n ≤ 2048) × (0 < n) × (IsMatrix (now edges)) × Held n (now edges) (now held) ⌝ }
     ensures { λ _. ⌜ Completed n (now (edges .entry)) (now (edges .exit)) ⌝ }
@@ -33,8 +32,8 @@ fn join(n: usize, edges: &mut [u64], held: &RowNumbers)
     }
 }
 
-// The four parts, into parts that are zero, depth first. The shadow list has the number of each shadow's piece yet, as the piece's node
-// may come later. Piece 0 has place 0 already.
+// The four parts, into parts that are zero, depth first. The shadow list has the number of each shadow's group yet, as the group's node
+// may come later. Group 0 has place 0 already.
 fn walk(
     n: usize,
     edges: &[u64],
@@ -48,7 +47,7 @@ fn walk(
     ensures { λ r. ⌜ Walked n (pairOf n (now (edges .entry))) (now (parens .exit)) (now (marks .exit)) (now (shadows .exit)) (now (places .exit)) (r .nodes) (r .shadows) ⌝ }
 {
     parentheses::put(parens, 0);
-    let mut c = DatasetId(0);
+    let mut c = GroupId(0);
     let mut from: usize = 1;
     let mut at: usize = 1;
     let mut k = TreeId(1);
@@ -61,7 +60,7 @@ fn walk(
                 places[p] = shorts::narrow(k.0);
                 at += 1;
                 k = TreeId(k.0 + 1);
-                c = DatasetId(p);
+                c = GroupId(p);
                 from = 1;
             } else {
                 parentheses::put(marks, k.0);
@@ -81,7 +80,7 @@ fn walk(
             at += 1;
             let done = c.0;
             from = done + 1;
-            c = DatasetId(shorts::wide(parent[done]));
+            c = GroupId(shorts::wide(parent[done]));
         }
     }
 }
@@ -97,7 +96,7 @@ fn complete(n: usize, edges: &mut [u64]) -> RowNumbers
     crate::find_parents(n, edges)
 }
 
-// Writes the index of the book whose pairs are in `edges` into the four lent parts, and the joins into `edges`.
+// Writes the index of the n groups whose pairs are in `edges` into the four lent parts, and the joins into `edges`.
 pub fn build(
     n: usize,
     edges: &mut [u64],

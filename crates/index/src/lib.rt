@@ -1,7 +1,7 @@
 // The index of a book: pieces and places, the parent of each piece, and the places of pieces from those of their groups.
 ghost use mathlib.Core.Path.{_≡_};
 ghost use Prim.Native.Nat.{ℕ, _+_, _-_, _<_, _≤_};
-ghost use lib.ListN.{length, getD, replicate};
+ghost use lib.ListN.{length, getD};
 ghost use Rattle.lists.specs.Tab.{tab};
 ghost use Rattle.parentheses.specs.Padded.{padded};
 ghost use Rattle.index.specs.Matrix.{pairOf};
@@ -32,6 +32,9 @@ pub const NONE: u16 = 2048;
 // A piece's number.
 pub struct DatasetId(pub usize);
 
+// The number of a group of pieces that are one, in the order of the groups' lowest members.
+pub struct GroupId(pub usize);
+
 // A node's place in the tree, counted depth first.
 pub struct TreeId(pub usize);
 
@@ -42,6 +45,24 @@ pub fn place_of(places: &[u16], g: DatasetId) -> TreeId
 {
     let i = g.0;
     TreeId(shorts::wide(places[i]))
+}
+
+// The numbering of groups converts a piece's number to that of its group, and nothing else does.
+fn group_of(number: &[u16], g: DatasetId) -> GroupId
+    requires { ⌜ g .0 < length (now number) ⌝ }
+    ensures { λ r. ⌜ r .0 ≡ getD (now (number .entry)) (g .0) 0 ⌝ }
+{
+    let i = g.0;
+    GroupId(shorts::wide(number[i]))
+}
+
+// The place of a group, by the list that the walk writes.
+fn place_of_group(groups: &[u16], k: GroupId) -> TreeId
+    requires { ⌜ k .0 < length (now groups) ⌝ }
+    ensures { λ r. ⌜ (r .0 ≡ getD (now (groups .entry)) (k .0) 0) × (r .0 < 65536) ⌝ }
+{
+    let i = k.0;
+    TreeId(shorts::wide(groups[i]))
 }
 
 // Marks the parts of c.
@@ -112,15 +133,15 @@ pub fn find_parents(n: usize, edges: &[u64]) -> RowNumbers
     parent
 }
 
-// Each shadow's piece gives way to its place.
-pub fn resolve(shadows: &mut [u16], places: &[u16], m: usize)
-    requires { ⌜ Resolvable (now shadows) (now places) m ⌝ }
-    ensures { λ _. ⌜ Resolved (now (shadows .entry)) (now (places .entry)) m (now (shadows .exit)) ⌝ }
+// Each shadow's group gives way to its place.
+pub fn resolve(shadows: &mut [u16], groups: &[u16], m: usize)
+    requires { ⌜ Resolvable (now shadows) (now groups) m ⌝ }
+    ensures { λ _. ⌜ Resolved (now (shadows .entry)) (now (groups .entry)) m (now (shadows .exit)) ⌝ }
 {
     let mut j: usize = 0;
     while j < m {
-        let g = DatasetId(shorts::wide(shadows[j]));
-        let t = place_of(places, g);
+        let k = GroupId(shorts::wide(shadows[j]));
+        let t = place_of_group(groups, k);
         shadows[j] = shorts::narrow(t.0);
         j += 1;
     }
@@ -134,8 +155,9 @@ pub fn place_members(n: usize, number: &[u16], groups: &[u16], places: &mut [u16
     shorts::fill(places, 0);
     let mut g: usize = 0;
     while g < n {
-        let k = shorts::wide(number[g]);
-        places[g] = groups[k];
+        let k = group_of(number, DatasetId(g));
+        let t = place_of_group(groups, k);
+        places[g] = shorts::narrow(t.0);
         g += 1;
     }
 }

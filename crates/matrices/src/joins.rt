@@ -1,7 +1,6 @@
 // Products of bit matrices, and rows joined along and against edges in the order of a list.
 ghost use mathlib.Core.Path.{_≡_};
 ghost use Prim.Native.Nat.{ℕ, _+_, _-_, _<_, _≤_};
-ghost use lib.ListN.{length};
 ghost use mathlib.Core.Bool.{Bool, false};
 ghost use Rattle.matrices.specs.Flow.{Sorted, Pushed, Reached, Carried, along, against};
 ghost use Rattle.matrices.specs.Led.{Led, Pooled, Shared};

@@ -1,13 +1,13 @@
 -- A run of bits is balanced where the excess is the same before and after it.
 -- Assumes nothing.
 use mathlib.Core.Path.{_≡_, ap}
-use mathlib.Core.Bool.{Bool, true, false}
+use mathlib.Core.Bool.{Bool, true}
 use mathlib.Core.List.{List}
 use Prim.Native.Nat.{ℕ, suc, _+_, _-_, _*_, _≤_, _<_}
 use native.Mathlib.Omega.{arith}
 use borrow.Author.Tests.{eq-eqb, eqb-true, lt-ltb, le-ltb, ltb-true, ltb-false}
 use lib.Dec.{ltb}
-use lib.IntN.{ℤ, pos, negsuc, subℕ}
+use lib.IntN.{pos, negsuc, subℕ}
 use Rattle.lists.proofs.Bools.{Known, is-true, is-false, known}
 use Rattle.parentheses.specs.Rank.{rank}
 use Rattle.parentheses.specs.Close.{excess, balanced}

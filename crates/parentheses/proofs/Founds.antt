@@ -6,7 +6,6 @@ use native.Mathlib.Omega.{arith}
 use borrow.Author.Tests.{lt-ltb, le-ltb, ltb-true, ltb-false}
 use lib.Dec.{ltb}
 use Rattle.lists.proofs.Bools.{Known, is-true, is-false, known}
-use Rattle.parentheses.specs.declared.Found.{Found}
 use Rattle.parentheses.specs.declared.Found.the-variants.{At, Nothing}
 use Rattle.parentheses.specs.Found.{foundBelow}
 

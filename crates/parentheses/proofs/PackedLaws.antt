@@ -1,16 +1,15 @@
 -- Bits in bytes: how many there are, which stands where, and what a store of one does.
 -- Assumes nothing.
-use mathlib.Core.Path.{_≡_, sym, ap, _∙_}
+use mathlib.Core.Path.{_≡_, _∙_}
 use mathlib.Core.Bool.{true, false}
 use mathlib.Core.List.{List}
 use Prim.Native.Nat.{ℕ, _*_, _/_, _%_, _^_, _<_}
 use native.Mathlib.Decide.{ℕ-discrete}
 use native.Mathlib.Omega.{arith}
 use lib.Bits.{bitOr}
-use lib.Dec.{eqb}
 use lib.ListN.{getD, length, set, length-set}
 use lib.Seq.{ext-getD, getD-set-same, getD-set-other}
-use Rattle.parentheses.specs.Bits.{bits, bitOf, digit}
+use Rattle.parentheses.specs.Bits.{bits, bitOf}
 use Rattle.lists.proofs.Tabs.{tab-at, tab-length}
 use Rattle.parentheses.proofs.Masks.{set-same, set-other}
 

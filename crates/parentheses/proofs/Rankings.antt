@@ -1,6 +1,6 @@
 -- A table of ranks, filled entry by entry and read. Assumes nothing.
 use Prim.Native.Nat.{ℕ, zero, suc, _+_, _-_, _*_, _≤_, _<_}
-use mathlib.Core.Path.{_≡_, refl, sym, ap, _∙_}
+use mathlib.Core.Path.{_≡_, sym, ap, _∙_}
 use mathlib.Core.Bool.{Bool, false}
 use mathlib.Core.List.{List}
 use native.Mathlib.Nat.{add-zero}
@@ -39,10 +39,6 @@ module _ (bytes ranks : List ℕ) where
 
   pub counted-all : Counted bytes ranks (length bytes) → Ranked bytes ranks
   counted-all C = record { are = λ i l h. C i h }
-
-  -- no table at all
-  pub unranked : length ranks ≡ 0 → Ranked bytes ranks
-  unranked e = record { are = λ i l h. absurd (omega arith) }
 
   -- the ones between two bytes by the table
   module _ (R : Ranked bytes ranks) (from to : ℕ) (f : from ≤ to) (t : to ≤ length bytes) (l : to < length ranks) (x y : ℕ) (low : x ≡ getD ranks from 0) (high : y ≡ getD ranks to 0) where

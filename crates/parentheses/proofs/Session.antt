@@ -3,7 +3,6 @@
 use mathlib.Core.Path.{_≡_, refl}
 use mathlib.Core.Bool.{Bool, true, false}
 use mathlib.Core.List.{List, [], _∷_}
-use Prim.Native.Nat.{ℕ, _+_}
 use lib.IntN.{pos, negsuc}
 use Rattle.lists.specs.Tab.{tab}
 use Rattle.lists.specs.First.{first}

@@ -12,7 +12,7 @@ use Rattle.lists.proofs.Bools.{Known, is-true, is-false, known}
 use Rattle.parentheses.specs.Rank.{rank, select}
 use Rattle.parentheses.specs.Close.{balanced, close}
 use Rattle.parentheses.specs.Subtree.{after}
-use Rattle.parentheses.proofs.Ranks.{rank-one, rank-mono, rank-stays}
+use Rattle.parentheses.proofs.Ranks.{rank-mono, rank-stays}
 use Rattle.parentheses.proofs.Selects.{select-none, select-found}
 
 -- a search does not go back
@@ -55,17 +55,6 @@ module _ (bs : List Bool) (p : ℕ) where
   pub after-closed : (o q : ℕ) → select bs p ≡ o → close bs o ≡ q → rank bs q ≡ after bs p
   unfolding after
   after-closed o q e g = sym (ap (λ (x : ℕ). rank bs (close bs x)) e ∙ ap (rank bs) g)
-
-  -- a node's places start at its own and end within those of the nodes
-  pub after-above : select bs p < length bs → p < after bs p
-  unfolding after
-  after-above h =
-      let s = select bs p in
-      elim (decLt p (rank bs (length bs))) [
-        | yes l ↦ let f = select-found bs p (length bs) (omega arith) l in
-            omega (arith, f .counted, rank-one bs s (f .one), rank-mono bs (s + 1) (close bs s) (omega (arith, close-later bs s)))
-        | no l ↦ absurd (omega (arith, select-none bs p (omega arith)))
-      ]
 
   pub after-le : after bs p ≤ rank bs (length bs)
   unfolding after

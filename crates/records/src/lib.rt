@@ -1,6 +1,6 @@
 // The six-byte format: records read from bytes, what rows 3 to 13 can say of them, and the run of the cutting sheets.
 ghost use mathlib.Core.Path.{_≡_};
-ghost use Prim.Native.Nat.{max, _+_, _*_, _≤_, _<_};
+ghost use Prim.Native.Nat.{_+_, _*_, _≤_, _<_};
 ghost use lib.ListN.{length};
 ghost use Rattle.lists.specs.Front.{front, placed};
 ghost use Rattle.records.specs.Record.{recordAt};

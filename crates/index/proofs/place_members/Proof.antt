@@ -27,29 +27,20 @@ fill-requires c κs = search needs
 loop-holds : tie.Need-loop-holds Inv-loop μ-loop
 loop-holds c = (search needs, refl, below-none _, λ k l. cleared (length (c .before .before .before .before .before .before .before .args .places .now)) (c .before .before .fill .ensures) .zeros k)
 
-mul-wide : tie.Need-mul-wide Inv-loop μ-loop
-mul-wide c = search needs
-
-shared-slice-read-wide : tie.Need-shared-slice-read-wide Inv-loop μ-loop
-shared-slice-read-wide c = search needs
-
-wide-requires : tie.Need-wide-requires Inv-loop μ-loop
-wide-requires c κs = search needs
+group-of-requires : tie.Need-group-of-requires Inv-loop μ-loop
+group-of-requires c κs = search needs
 
 -- the group of a piece has a place
-in-groups : (c : tie.After-wide Inv-loop μ-loop) → c .wide .result < length (c .before .before .before .before .before .before .before .before .before .before .before .args .groups .now)
-in-groups c =
-    let A = c .before .before .before .before .before .before .before .before .before .before .before in
-    omega (arith, c .wide .ensures .0, A .pre .2 (c .before .before .before .loop .g) (omega arith))
+place-of-group-requires : tie.Need-place-of-group-requires Inv-loop μ-loop
+place-of-group-requires c κs =
+    let A = c .before .before .before .before .before .before .before .before .before .before in
+    omega (arith, c .group-of .ensures, A .pre .2 (c .before .before .loop .g) (omega arith))
+
+narrow-requires : tie.Need-narrow-requires Inv-loop μ-loop
+narrow-requires c κs = c .place-of-group .ensures .1
 
 mul-places : tie.Need-mul-places Inv-loop μ-loop
-mul-places c = omega (arith, in-groups c)
-
-shared-slice-read-places : tie.Need-shared-slice-read-places Inv-loop μ-loop
-shared-slice-read-places c = in-groups (c .before)
-
-mul-places-2 : tie.Need-mul-places-2 Inv-loop μ-loop
-mul-places-2 c = search needs
+mul-places c = search needs
 
 slice-write-places : tie.Need-slice-write-places Inv-loop μ-loop
 slice-write-places c = search needs
@@ -68,7 +59,7 @@ loop-again c =
       search needs,
       below-more (λ k. getD (set (L .places) (L .g) _) k 0 ≡ getD (A .args .groups .now) (getD (A .args .number .now) k 0) 0) (L .g)
           (λ k a. getD-set-other (L .places) (L .g) k _ 0 (λ z. omega arith) ∙ L .inv .2 k a)
-          (getD-set-same (L .places) (L .g) _ 0 (omega arith) ∙ ap (λ (k : ℕ). getD (A .args .groups .now) k 0) (c .before .wide .ensures .0)),
+          (getD-set-same (L .places) (L .g) _ 0 (omega arith) ∙ c .narrow .ensures ∙ c .before .place-of-group .ensures .0 ∙ ap (λ (k : ℕ). getD (A .args .groups .now) k 0) (c .before .before .group-of .ensures)),
       λ k a. getD-set-other (L .places) (L .g) k _ 0 (λ z. omega arith) ∙ L .inv .3 k (omega arith),
     )
 
@@ -92,12 +83,10 @@ place-members-spec =
     μ-loop
     fill-requires
     loop-holds
-    mul-wide
-    shared-slice-read-wide
-    wide-requires
+    group-of-requires
+    place-of-group-requires
+    narrow-requires
     mul-places
-    shared-slice-read-places
-    mul-places-2
     slice-write-places
     add-g
     loop-less

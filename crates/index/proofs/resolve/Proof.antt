@@ -9,10 +9,10 @@ use Rattle.index.proofs.resolve.Statement.{statement}
 use Rattle.index.proofs.resolve.Tie as tie
 
 abbrev Inv-loop : tie.InvT-loop
-Inv-loop shadows₀ places m j₀ shadows j = Resolvable shadows₀ places m × (j ≤ m) × Resolved shadows₀ places j shadows
+Inv-loop shadows₀ groups m j₀ shadows j = Resolvable shadows₀ groups m × (j ≤ m) × Resolved shadows₀ groups j shadows
 
 abbrev μ-loop : tie.MeasureT-loop
-μ-loop shadows₀ places m j₀ shadows j = m - j
+μ-loop shadows₀ groups m j₀ shadows j = m - j
 
 loop-holds : tie.Need-loop-holds Inv-loop μ-loop
 loop-holds c = (c .before .before .pre, omega arith, resolve-start _ _)
@@ -26,13 +26,11 @@ slice-read-wide c = omega arith
 wide-requires : tie.Need-wide-requires Inv-loop μ-loop
 wide-requires c κs = tt
 
-place-of-requires : tie.Need-place-of-requires Inv-loop μ-loop
-place-of-requires c κs = let L = c .before .before .before .loop in omega (arith, c .wide .ensures .0, L .inv .2 .kept (L .j) (omega arith), L .inv .0 .known (L .j) (omega arith))
+place-of-group-requires : tie.Need-place-of-group-requires Inv-loop μ-loop
+place-of-group-requires c κs = let L = c .before .before .before .loop in omega (arith, c .wide .ensures .0, L .inv .2 .kept (L .j) (omega arith), L .inv .0 .known (L .j) (omega arith))
 
 narrow-requires : tie.Need-narrow-requires Inv-loop μ-loop
-narrow-requires c κs =
-    let j = c .before .before .before .before .loop .j in
-    omega (arith, c .place-of .ensures, c .before .before .before .before .before .shared-slice-known .given (c .before .wide .result), c .before .wide .ensures .0, c .before .before .slice-known2 .given j)
+narrow-requires c κs = c .place-of-group .ensures .1
 
 mul-shadows : tie.Need-mul-shadows Inv-loop μ-loop
 mul-shadows c = omega arith
@@ -49,7 +47,7 @@ loop-less c = omega arith
 loop-again : tie.Need-loop-again Inv-loop μ-loop
 loop-again c =
     let L = c .before .before .before .before .before .loop in
-    (L .inv .0, omega arith, rw (c .narrow .ensures, c .before .place-of .ensures, c .before .before .wide .ensures .0) (resolve-more _ _ (L .j) (L .shadows) (L .inv .2) (omega arith)))
+    (L .inv .0, omega arith, rw (c .narrow .ensures, c .before .place-of-group .ensures .0, c .before .before .wide .ensures .0) (resolve-more _ _ (L .j) (L .shadows) (L .inv .2) (omega arith)))
 
 same-length : tie.Need-same-length Inv-loop μ-loop
 same-length c = c .before .loop .inv .2 .same
@@ -67,7 +65,7 @@ resolve-spec =
     mul-wide
     slice-read-wide
     wide-requires
-    place-of-requires
+    place-of-group-requires
     narrow-requires
     mul-shadows
     slice-write-shadows

@@ -1,10 +1,10 @@
 -- `parentheses::rank_bytes` meets its contract: as many entries are right as bytes were counted. Assumes nothing.
 use borrow.Author.Needs.{needs}
-use mathlib.Core.Path.{_≡_, refl, sym, ap, _∙_}
-use Prim.Native.Nat.{ℕ, _+_, _-_, _*_, _≤_, _<_}
+use mathlib.Core.Path.{_≡_, refl, sym, _∙_}
+use Prim.Native.Nat.{_+_, _-_, _*_, _≤_, _<_}
 use native.Mathlib.Omega.{arith}
 use denote.Ref.{now}
-use lib.ListN.{length, length-set, getD}
+use lib.ListN.{length, length-set}
 use Rattle.parentheses.specs.Bits.{bits}
 use Rattle.parentheses.specs.Rank.{rank}
 use Rattle.parentheses.proofs.Ranks.{rank-zero, rank-le}

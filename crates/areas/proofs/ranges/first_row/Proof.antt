@@ -9,7 +9,7 @@ use Rattle.areas.proofs.ranges.first_row.Statement.{statement}
 use Rattle.areas.proofs.ranges.first_row.Tie as tie
 
 abbrev Inv-loop : tie.InvT-loop
-Inv-loop area count row low₀ high₀ low high = (low ≤ high) × (high ≤ count) × (RowsRise area count → (i : ℕ) → i < low → getD area (2 * i) 0 < row)
+Inv-loop area count row low₀ high₀ low high = (low ≤ high) × (high ≤ count) × (RowsRise area count → (i : ℕ) → i < low → getD area (2 * i) 0 < row .0)
 
 abbrev μ-loop : tie.MeasureT-loop
 μ-loop area count row low₀ high₀ low high = high - low
@@ -42,7 +42,7 @@ loop-less : tie.Need-loop-less Inv-loop μ-loop
 loop-less c = search needs
 
 loop-again : tie.Need-loop-again Inv-loop μ-loop
-loop-again c = (omega arith, omega arith, lower-half _ _ _ _ (omega arith) (omega (arith, c .before .wide .ensures)))
+loop-again c = (omega arith, omega arith, lower-half _ _ _ _ (omega arith) (omega (arith, c .before .before .wide .ensures)))
 
 loop-less-2 : tie.Need-loop-less-2 Inv-loop μ-loop
 loop-less-2 c = search needs

@@ -12,7 +12,7 @@ use Rattle.areas.proofs.ranges.in_rows.Statement.{statement}
 use Rattle.areas.proofs.ranges.in_rows.Tie as tie
 
 abbrev Inv-loop : tie.InvT-loop
-Inv-loop area count row-from row-to column-from column-to i₀ i = (i ≤ count) × (RowsRise area count → (j : ℕ) → j < i → inside row-from row-to column-from column-to (getD area (2 * j) 0) (getD area (2 * j + 1) 0) ≡ false)
+Inv-loop area count row-from row-to column-from column-to i₀ i = (i ≤ count) × (RowsRise area count → (j : ℕ) → j < i → inside (row-from .0) (row-to .0) (column-from .0) (column-to .0) (getD area (2 * j) 0) (getD area (2 * j + 1) 0) ≡ false)
 
 abbrev μ-loop : tie.MeasureT-loop
 μ-loop area count row-from row-to column-from column-to i₀ i = count - i
@@ -37,9 +37,9 @@ wide-requires c κs = search needs
 
 returns : tie.Need-returns Inv-loop μ-loop
 returns c =
-    let A = c .before .before .before .before .before .before .before .args in
-    let L = c .before .before .before .before .loop in
-    none-above (A .area .now) (A .count) (A .row-from) (A .row-to) (A .column-from) (A .column-to) (L .i) (omega arith) (omega (arith, c .before .wide .ensures)) (L .inv .1)
+    let A = c .before .before .before .before .before .before .before .before .before .args in
+    let L = c .before .before .before .before .before .before .loop in
+    none-above (A .area .now) (A .count) (A .row-from .0) (A .row-to .0) (A .column-from .0) (A .column-to .0) (L .i) (omega arith) (omega (arith, c .before .before .before .wide .ensures)) (L .inv .1)
 
 mul-wide-3 : tie.Need-mul-wide-3 Inv-loop μ-loop
 mul-wide-3 c = search needs
@@ -61,11 +61,11 @@ lies-inside-requires c κs = search needs
 
 returns-2 : tie.Need-returns-2 Inv-loop μ-loop
 returns-2 c =
-    let A = c .before .before .before .before .before .before .before .before .before .before .before .args in
-    let L = c .before .before .before .before .before .before .before .before .loop in
-    let row = c .before .before .before .before .before .wide .ensures .0 in
+    let A = c .before .before .before .before .before .before .before .before .before .before .before .before .before .args in
+    let L = c .before .before .before .before .before .before .before .before .before .before .loop in
+    let row = c .before .before .before .before .before .before .before .wide .ensures .0 in
     let column = c .before .before .wide2 .ensures .0 in
-    λ R. sym (below-hit (λ j. inside (A .row-from) (A .row-to) (A .column-from) (A .column-to) (getD (A .area .now) (2 * j) 0) (getD (A .area .now) (2 * j + 1) 0)) (A .count) (L .i) (omega arith) (sym (ap₂ (inside (A .row-from) (A .row-to) (A .column-from) (A .column-to)) row column) ∙ sym (c .before .lies-inside .ensures) ∙ c .if2 .taken))
+    λ R. sym (below-hit (λ j. inside (A .row-from .0) (A .row-to .0) (A .column-from .0) (A .column-to .0) (getD (A .area .now) (2 * j) 0) (getD (A .area .now) (2 * j + 1) 0)) (A .count) (L .i) (omega arith) (sym (ap₂ (inside (A .row-from .0) (A .row-to .0) (A .column-from .0) (A .column-to .0)) row column) ∙ sym (c .before .lies-inside .ensures) ∙ c .if2 .taken))
 
 add-i : tie.Need-add-i Inv-loop μ-loop
 add-i c = search needs
@@ -75,17 +75,17 @@ loop-less c = search needs
 
 loop-again : tie.Need-loop-again Inv-loop μ-loop
 loop-again c =
-    let A = c .before .before .before .before .before .before .before .before .before .before .before .args in
-    let L = c .before .before .before .before .before .before .before .before .loop in
-    let row = c .before .before .before .before .before .wide .ensures .0 in
+    let A = c .before .before .before .before .before .before .before .before .before .before .before .before .before .args in
+    let L = c .before .before .before .before .before .before .before .before .before .before .loop in
+    let row = c .before .before .before .before .before .before .before .wide .ensures .0 in
     let column = c .before .before .wide2 .ensures .0 in
-    (search needs, λ R. none-more (λ j. inside (A .row-from) (A .row-to) (A .column-from) (A .column-to) (getD (A .area .now) (2 * j) 0) (getD (A .area .now) (2 * j + 1) 0)) (L .i) (sym (ap₂ (inside (A .row-from) (A .row-to) (A .column-from) (A .column-to)) row column) ∙ sym (c .before .lies-inside .ensures) ∙ c .if2 .left) (L .inv .1 R))
+    (search needs, λ R. none-more (λ j. inside (A .row-from .0) (A .row-to .0) (A .column-from .0) (A .column-to .0) (getD (A .area .now) (2 * j) 0) (getD (A .area .now) (2 * j + 1) 0)) (L .i) (sym (ap₂ (inside (A .row-from .0) (A .row-to .0) (A .column-from .0) (A .column-to .0)) row column) ∙ sym (c .before .lies-inside .ensures) ∙ c .if2 .left) (L .inv .1 R))
 
 returns-3 : tie.Need-returns-3 Inv-loop μ-loop
 returns-3 c =
     let A = c .before .before .before .before .args in
     let L = c .before .loop in
-    λ R. none-passes (λ j. inside (A .row-from) (A .row-to) (A .column-from) (A .column-to) (getD (A .area .now) (2 * j) 0) (getD (A .area .now) (2 * j + 1) 0)) (A .count) (λ j l. L .inv .1 R j (omega arith))
+    λ R. none-passes (λ j. inside (A .row-from .0) (A .row-to .0) (A .column-from .0) (A .column-to .0) (getD (A .area .now) (2 * j) 0) (getD (A .area .now) (2 * j + 1) 0)) (A .count) (λ j l. L .inv .1 R j (omega arith))
 
 pub in-rows-spec : {M : Type 1} → statement M
 in-rows-spec =

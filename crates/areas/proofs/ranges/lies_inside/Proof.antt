@@ -14,7 +14,7 @@ returns-3 : tie.Need-returns-3
 returns-3 c = sym (column-below _ _ _ _ _ _ (c .if3 .taken))
 
 returns-4 : tie.Need-returns-4
-returns-4 c = all-but-one _ _ _ _ _ _ (c .before .before .if1 .left) (c .before .if2 .left) (c .if3 .left)
+returns-4 c = all-but-one _ _ _ _ _ _ (c .before .before .before .before .before .before .before .before .if1 .left) (c .before .before .before .before .before .if2 .left) (c .before .before .if3 .left)
 
 pub lies-inside-spec : {M : Type 1} → statement M
 lies-inside-spec = tie.close (tie.spec returns returns-2 returns-3 returns-4)

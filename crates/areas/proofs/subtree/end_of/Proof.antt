@@ -17,13 +17,13 @@ place-of-requires : tie.Need-place-of-requires
 place-of-requires c κs = search needs
 
 slice-aggregate-subtree-end : tie.Need-slice-aggregate-subtree-end
-slice-aggregate-subtree-end c = sym (length-take-le 2560 (c .before .before .before .before .before .before .args .parens .now) (c .before .before .before .if1 .left))
+slice-aggregate-subtree-end c = sym (length-take-le 2560 (c .before .before .before .before .before .before .before .args .parens .now) (c .before .before .before .before .if1 .left))
 
 subtree-end-requires : tie.Need-subtree-end-requires
-subtree-end-requires c κs = omega (arith, length-take-le 2560 (c .before .before .before .before .before .before .args .parens .now) (c .before .before .before .if1 .left))
+subtree-end-requires c κs = omega (arith, length-take-le 2560 (c .before .before .before .before .before .before .before .args .parens .now) (c .before .before .before .before .if1 .left))
 
 returns-3 : tie.Need-returns-3
-returns-3 c = end-there _ _ _ _ _ (c .before .before .before .before .if1 .left) (c .before .before .before .if2 .left) (c .before .before .place-of .ensures) (c .subtree-end .ensures)
+returns-3 c = end-there _ _ _ _ _ (c .before .before .before .before .before .if1 .left) (c .before .before .before .if2 .left) (c .before .before .place-of .ensures) (c .subtree-end .ensures)
 
 pub end-of-spec : {M : Type 1} → statement M
 end-of-spec =

@@ -1,7 +1,6 @@
 -- `within::contents` meets its contract: the tables that it lends have an entry for each place. Assumes nothing.
 use borrow.Author.Needs.{needs}
 use native.Mathlib.Omega.{arith}
-use mathlib.Core.Path.{sym}
 use Prim.Native.Nat.{ℕ}
 use lib.ListN.{length-replicate}
 use Rattle.containment.proofs.within.contents.Statement.{statement}

@@ -2,14 +2,10 @@ use mathlib.Core.Path.{_≡_, refl, subst, _∙_}
 use Prim.Native.Nat.{ℕ, _+_, _-_, _<_, _≤_}
 use native.Mathlib.Omega.{arith}
 use lib.ListN.{length}
-use borrow.Author.Needs.{needs}
 use Rattle.matrices.specs.Flow.{Sorted}
 use Rattle.matrices.proofs.Flows.{Sent, against-none, against-more, against-all, irreflexive}
 use Rattle.matrices.proofs.joins.join_against.Statement.{statement}
 use Rattle.matrices.proofs.joins.join_against.Tie as tie
-use Rattle.matrices.proofs.joins.join_against.Reads as reads
-use Rattle.matrices.proofs.joins.join_against.Lts as lts
-use Rattle.matrices.proofs.joins.push.Reads as push-reads
 
 abbrev Inv-loop : tie.InvT-loop
 Inv-loop e order n m₀ i₀ m i = (i ≤ n) × (length m ≡ length m₀) × ((R : Sorted e n order) → Sent e n (R .at) m₀ m i)

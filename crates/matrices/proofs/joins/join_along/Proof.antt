@@ -2,14 +2,10 @@ use mathlib.Core.Path.{_≡_, refl, _∙_}
 use Prim.Native.Nat.{_-_, _<_, _≤_}
 use native.Mathlib.Omega.{arith}
 use lib.ListN.{length}
-use borrow.Author.Needs.{needs}
 use Rattle.matrices.specs.Flow.{Sorted}
 use Rattle.matrices.proofs.Flows.{DoneTo, along-none, along-more, along-all, irreflexive}
 use Rattle.matrices.proofs.joins.join_along.Statement.{statement}
 use Rattle.matrices.proofs.joins.join_along.Tie as tie
-use Rattle.matrices.proofs.joins.join_along.Reads as reads
-use Rattle.matrices.proofs.joins.join_along.Lts as lts
-use Rattle.matrices.proofs.joins.pull.Reads as pull-reads
 
 abbrev Inv-loop : tie.InvT-loop
 Inv-loop e order n m₀ i₀ m i = (i ≤ n) × (length m ≡ length m₀) × ((R : Sorted e n order) → DoneTo e n (R .at) m₀ m i)

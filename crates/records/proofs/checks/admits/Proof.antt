@@ -1,5 +1,4 @@
 -- `checks::admits` meets its contract: each way out is a case of `admitted`. Assumes nothing.
-use borrow.Author.Tests.{not-true, not-false}
 use mathlib.Core.Path.{sym, _∙_}
 use Rattle.records.proofs.Rows.{admits-stated, admits-former, admits-current}
 use borrow.Author.Needs.{needs}

@@ -1,5 +1,4 @@
 -- `checks::mark` meets its contract. Assumes nothing.
-use mathlib.Core.Path.{sym}
 use Prim.Native.Nat.{_%_}
 use native.Mathlib.Omega.{arith}
 use Rattle.records.proofs.Filters.{one-shl, read-bit, marked}
