@@ -1,11 +1,11 @@
 -- The steps of two books that are judged, among n pieces, the count of the larger. Assumes nothing.
 use Prim.Native.Nat.{ℕ, max, _*_, _≤_}
-use mathlib.Core.Path.{_≡_, sym, ap, _∙_}
+use mathlib.Core.Path.{_≡_, sym, ap, ap₂, subst, _∙_}
 use mathlib.Core.Bool.{Bool, not}
-use mathlib.Core.List.{List, []}
+use mathlib.Core.List.{List, [], _++_}
 use native.Mathlib.Omega.{arith}
-use lib.ListN.{length, getD, take, replicate, length-replicate}
-use lib.Seq.{length-take-le}
+use lib.ListN.{length, getD, take, drop, replicate, length-replicate}
+use lib.Seq.{length-take-le, length-front, take-append-seam}
 use Rattle.lists.specs.Front.{front}
 use Rattle.rules.specs.Follows.{clash}
 use Rattle.records.specs.Record.{records}
@@ -27,22 +27,35 @@ use Rattle.compare.proofs.Rows.{first-counted, second-counted, first-cl
 -- ---- claims that fit
 
 module _ (cs : List ℕ) (n : ℕ) {r : ClaimsCheck} (e : r ≡ claimsCheck n cs) (q : r ≡ claims.Accepted) where
-  -- an answer to each has room
-  pub asked-fit : records cs ≤ length (replicate {A = ℕ} 4096 0)
-  asked-fit = omega (arith, accepted-claims n cs (sym e ∙ q) .few, length-replicate {A = ℕ} 4096 0)
-
-  pub asked-long : length (take (records cs) (replicate {A = ℕ} 4096 0)) ≡ records cs
-  asked-long = length-take-le (records cs) (replicate {A = ℕ} 4096 0) asked-fit
-
   pub asked-ready : {s t run : List ℕ} {a b room : ℕ} → n ≡ max a b → Sound s a t b run cs room → Ready s a t b run cs room
   asked-ready l S = record { sound = S; fit = ap (λ (k : ℕ). claimsCheck k cs) (sym l) ∙ sym e ∙ q }
 
 -- ---- the books
 
+-- the front of an array has room for the answers, which stand there when they are written
+module _ {s t run cs : List ℕ} {a b room : ℕ} (R : Ready s a t b run cs room) where
+  abbrev zeros : List ℕ
+  zeros = replicate {A = ℕ} 4096 0
+
+  pub front-fit : records cs ≤ length (replicate {A = ℕ} 4096 0)
+  front-fit = omega (arith, accepted-claims (max a b) cs (R .fit) .few, length-replicate {A = ℕ} 4096 0)
+
+  pub front-long : length (take (records cs) (replicate {A = ℕ} 4096 0)) ≡ records cs
+  front-long = length-take-le (records cs) zeros front-fit
+
+  module _ (ours : List ℕ) (l : length ours ≡ length (take (records cs) (replicate {A = ℕ} 4096 0))) where
+    pub answers-fit : records cs ≤ length (ours ++ drop (records cs) (replicate {A = ℕ} 4096 0))
+    answers-fit = subst (λ (k : ℕ). records cs ≤ k) (sym (length-front zeros ours (records cs) l)) front-fit
+
+    pub answers-long : length (take (records cs) (ours ++ drop (records cs) (replicate {A = ℕ} 4096 0))) ≡ records cs
+    answers-long = length-take-le (records cs) (ours ++ drop (records cs) zeros) answers-fit
+
+    pub answers-there : take (records cs) (ours ++ drop (records cs) (replicate {A = ℕ} 4096 0)) ≡ ours
+    answers-there = subst (λ (k : ℕ). take k (ours ++ drop (records cs) zeros) ≡ ours) (l ∙ front-long) (take-append-seam ours (drop (records cs) zeros))
+
 -- two runs of answers, and room for what is written of them
-pub answers-room :
-    {s t run cs : List ℕ} {a b room i j k l : ℕ} → Ready s a t b run cs room → i ≡ j → j ≡ records cs → k ≡ l → l ≡ records cs → (k ≡ i) × (3 * i ≤ room)
-answers-room R p q r h = (r ∙ h ∙ sym (p ∙ q), rw (p ∙ q) (R .sound .rooms))
+pub answers-room : {s t run cs : List ℕ} {a b room i k : ℕ} → Ready s a t b run cs room → i ≡ records cs → k ≡ records cs → (k ≡ i) × (3 * i ≤ room)
+answers-room R p q = (q ∙ sym p, rw p (R .sound .rooms))
 
 module _ {s t run cs : List ℕ} {a b n room : ℕ} (R : Ready s a t b run cs room) (e : n ≡ max a b) where
   pub first-answerable : {k : ℕ} → k ≡ records cs → Answerable s n cs k
@@ -63,7 +76,8 @@ module _ {s t run cs : List ℕ} {a b n room : ℕ} (R : Ready s a t b run cs ro
       second-refuses {out = out} h = second-clashed s t cs out (R .sound .first) (R .sound .second) (R .fit) (rw e at (A .outcome-is)) q (rw e at (B .outcome-is)) h
 
       pub both-answer :
-          {u v w : ℕ} {c : Bool} (out : List ℕ) {out′ : List ℕ} → p ≡ on.Accepted u v w → c ≡ not (clash (marked run) n (facts run))
-          → out′ ≡ front (threes (λ i. getD ours i 0) (λ i. getD theirs i 0) (length ours)) out → Judged s t cs out (Compared c) out′
-      both-answer {c = c} out {out′ = out′} h d f =
-          both-judged s t cs out (R .sound .first) (R .sound .second) (R .fit) ours theirs out′ c (rw e at A) (rw e at B) q h (rw (e, R .sound .joint) at d) f
+          {u v w : ℕ} {c : Bool} {ours′ theirs′ : List ℕ} (out : List ℕ) {out′ : List ℕ} → p ≡ on.Accepted u v w → c ≡ not (clash (marked run) n (facts run)) → ours′ ≡ ours → theirs′ ≡ theirs
+          → out′ ≡ front (threes (λ i. getD ours′ i 0) (λ i. getD theirs′ i 0) (length ours′)) out → Judged s t cs out (Compared c) out′
+      both-answer {c = c} out {out′ = out′} h d x y f =
+          both-judged s t cs out (R .sound .first) (R .sound .second) (R .fit) ours theirs out′ c (rw e at A) (rw e at B) q h (rw (e, R .sound .joint) at d)
+          (f ∙ ap₂ (λ (x y : List ℕ). front (threes (λ i. getD x i 0) (λ i. getD y i 0) (length x)) out) x y)

@@ -76,7 +76,7 @@ fn answer_book(
 }
 
 // Both books and their answers among the pieces of the larger, for claims that fit these, then their records together, all in the same matrices. Each book's
-// answers are kept in a lent run, so that nothing is written where the second is refused.
+// answers are kept by themselves, so that nothing is written where the second is refused.
 fn judge_both(
     first: &[u8],
     own: usize,
@@ -84,8 +84,6 @@ fn judge_both(
     count: usize,
     run: &[u8],
     claims: &[u8],
-    ours: &mut [u8],
-    theirs: &mut [u8],
     out: &mut [u8],
     e: &mut Matrix,
     d: &mut Matrix,
@@ -94,20 +92,23 @@ fn judge_both(
     p: &mut Matrix,
     q: &mut Matrix,
 ) -> Comparison
-    requires { ⌜ Ready (now first) own (now second) count (now run) (now claims) (length (now out)) × (length (now ours) ≡ records (now claims)) × (length (now theirs) ≡ records (now claims)) ⌝ }
+    requires { ⌜ Ready (now first) own (now second) count (now run) (now claims) (length (now out)) ⌝ }
     ensures { λ r. ⌜ Judged (now (first .entry)) (now (second .entry)) (now (claims .entry)) (now (out .entry)) r (now (out .exit)) ⌝ }
 {
     let n = numbers::larger_of(own, count);
-    let one = answer_book(first, n, claims, e, d, t, u, p, q, ours);
+    let asked = claims.len() / records::RECORD_BYTES;
+    let mut ours = [0u8; records::CLAIMS];
+    let mut theirs = [0u8; records::CLAIMS];
+    let one = answer_book(first, n, claims, e, d, t, u, p, q, &mut ours[..asked]);
     if let Outcome::Refused(refusal, place) = one {
         return Comparison::Refused(1, refusal, place);
     }
-    let two = answer_book(second, n, claims, e, d, t, u, p, q, theirs);
+    let two = answer_book(second, n, claims, e, d, t, u, p, q, &mut theirs[..asked]);
     if let Outcome::Refused(refusal, place) = two {
         return Comparison::Refused(2, refusal, place);
     }
     let consistent = are_consistent(run, n, e, d, t);
-    joint::write_answers(ours, theirs, out);
+    joint::write_answers(&ours[..asked], &theirs[..asked], out);
     Comparison::Compared(consistent)
 }
 
@@ -168,9 +169,6 @@ fn check_asked(
             after(1, first, rest, e, d, t, u, p, q)
         }
         ClaimsCheck::Accepted => {
-            let asked = claims.len() / records::RECORD_BYTES;
-            let mut ours = [0u8; records::CLAIMS];
-            let mut theirs = [0u8; records::CLAIMS];
             judge_both(
                 first,
                 own,
@@ -178,8 +176,6 @@ fn check_asked(
                 count,
                 run,
                 claims,
-                &mut ours[..asked],
-                &mut theirs[..asked],
                 out,
                 e,
                 d,

@@ -2,7 +2,7 @@
 use mathlib.Core.Path.{refl, sym, _∙_}
 use Rattle.records.proofs.Accepted.{accepted}
 use Rattle.closure.proofs.VoidRows.{accepted-markable}
-use Rattle.answers.proofs.Judges.{settleable-at, cleared-at, judged-refused, judged-accepted}
+use Rattle.answers.proofs.Judges.{settleable-at, cleared-at, judged-clashed, judged-accepted}
 use Rattle.answers.proofs.judge_in.Statement.{statement}
 use Rattle.answers.proofs.judge_in.Tie as tie
 
@@ -21,8 +21,8 @@ settle-requires c κs = (settleable-at _ _ _ _ (c .before .before .before .befor
 enum-known-settled : tie.Need-enum-known-settled
 enum-known-settled c = c .match .keys1
 
-clear-index-requires : tie.Need-clear-index-requires
-clear-index-requires c κs = tt
+refuse-clash-requires : tie.Need-refuse-clash-requires
+refuse-clash-requires c κs = tt
 
 enum-known-settled-2 : tie.Need-enum-known-settled-2
 enum-known-settled-2 c = c .match .keys2
@@ -37,23 +37,23 @@ answer-all-requires c κs =
     record { sound = s .sound; void = c .before .before .before .before .before .before .before .before .before .before .before .before .before .before .before .before .before .before .before .before .before .before .before .before .before .before .before .before .before .before .before .before .before .mark-voids .ensures; free = O .is; fit = s .fit; rooms = s .answers-long; stepped = c .before .before .before .before .before .before .before .before .before .before .before .before .before .before .before .before .before .before .before .before .before .settle .ensures .1 .free _ _ (c .before .before .before .before .before .before .before .before .before .before .before .settled2 .given .1); parts = O .parts; toward = O .toward }
 
 same-length : tie.Need-same-length
-same-length c = c .before .before .before .before .before .before .before .before .clear-index .kept .0 ∙ c .before .before .before .before .before .before .before .before .before .before .before .before .before .before .before .before .before .before .before .before .before .before .before .before .settle .kept .1 .1 .1 .1 .1 .1 .1 .1 .0
+same-length c = c .before .before .before .before .before .before .before .before .refuse-clash .kept .0 ∙ c .before .before .before .before .before .before .before .before .before .before .before .before .before .before .before .before .before .before .before .before .before .before .before .before .settle .kept .1 .1 .1 .1 .1 .1 .1 .1 .0
 
 same-length-2 : tie.Need-same-length-2
-same-length-2 c = c .before .before .before .before .before .before .before .before .clear-index .kept .1 .0 ∙ c .before .before .before .before .before .before .before .before .before .before .before .before .before .before .before .before .before .before .before .before .before .before .before .before .settle .kept .1 .1 .1 .1 .1 .1 .1 .1 .1 .0
+same-length-2 c = c .before .before .before .before .before .before .before .before .refuse-clash .kept .1 .0 ∙ c .before .before .before .before .before .before .before .before .before .before .before .before .before .before .before .before .before .before .before .before .before .before .before .before .settle .kept .1 .1 .1 .1 .1 .1 .1 .1 .1 .0
 
 same-length-3 : tie.Need-same-length-3
-same-length-3 c = c .before .before .before .before .before .before .before .before .clear-index .kept .1 .1 .0 ∙ c .before .before .before .before .before .before .before .before .before .before .before .before .before .before .before .before .before .before .before .before .before .before .before .before .settle .kept .1 .1 .1 .1 .1 .1 .1 .1 .1 .1 .0
+same-length-3 c = c .before .before .before .before .before .before .before .before .refuse-clash .kept .1 .1 .0 ∙ c .before .before .before .before .before .before .before .before .before .before .before .before .before .before .before .before .before .before .before .before .before .before .before .before .settle .kept .1 .1 .1 .1 .1 .1 .1 .1 .1 .1 .0
 
 same-length-4 : tie.Need-same-length-4
-same-length-4 c = c .before .before .before .before .before .before .before .before .clear-index .kept .1 .1 .1 .0 ∙ c .before .before .before .before .before .before .before .before .before .before .before .before .before .before .before .before .before .before .before .before .before .before .before .before .settle .kept .1 .1 .1 .1 .1 .1 .1 .1 .1 .1 .1 .0
+same-length-4 c = c .before .before .before .before .before .before .before .before .refuse-clash .kept .1 .1 .1 .0 ∙ c .before .before .before .before .before .before .before .before .before .before .before .before .before .before .before .before .before .before .before .before .before .before .before .before .settle .kept .1 .1 .1 .1 .1 .1 .1 .1 .1 .1 .1 .0
 
 returns : tie.Need-returns
 returns c =
     let s = c .before .before .before .before .before .before .before .before .before .before .before .before .before .before .before .before .before .before .before .before .before .before .before .before .before .before .before .before .before .before .before .before .before .before .before .before .before .before .before .before .before .before .before .before .before .pre in
     let S = c .before .before .before .before .before .before .before .before .before .before .before .before .before .before .before .before .before .before .before .before .before .before .before .before .settle in
-    judged-refused _ _ _ _ s _ _ _ _ _ (rw (c .before .before .before .before .before .before .before .before .before .before .before .before .before .before .before .before .before .before .before .before .before .before .before .before .before .before .before .before .before .before .before .before .before .before .before .before .mark-voids .ensures .1) at (S .ensures .0 .clash _ (c .before .before .before .before .before .before .before .before .before .before .before .before .before .before .settled .given .1)))
-    (cleared-at (S .kept .1 .1 .1 .1 .1 .1 .1 .1 .0 ∙ s .parens-long) (S .kept .1 .1 .1 .1 .1 .1 .1 .1 .1 .0 ∙ s .marks-long) (S .kept .1 .1 .1 .1 .1 .1 .1 .1 .1 .1 .0 ∙ s .shadows-long) (S .kept .1 .1 .1 .1 .1 .1 .1 .1 .1 .1 .1 .0 ∙ s .places-long) (c .before .before .before .before .before .before .before .before .clear-index .ensures))
+    judged-clashed _ _ _ _ s _ _ _ _ _ (c .before .before .before .before .before .before .before .before .refuse-clash .ensures .0) (rw (c .before .before .before .before .before .before .before .before .before .before .before .before .before .before .before .before .before .before .before .before .before .before .before .before .before .before .before .before .before .before .before .before .before .before .before .before .mark-voids .ensures .1) at (S .ensures .0 .clash _ (c .before .before .before .before .before .before .before .before .before .before .before .before .before .before .settled .given .1)))
+    (cleared-at (S .kept .1 .1 .1 .1 .1 .1 .1 .1 .0 ∙ s .parens-long) (S .kept .1 .1 .1 .1 .1 .1 .1 .1 .1 .0 ∙ s .marks-long) (S .kept .1 .1 .1 .1 .1 .1 .1 .1 .1 .1 .0 ∙ s .shadows-long) (S .kept .1 .1 .1 .1 .1 .1 .1 .1 .1 .1 .1 .0 ∙ s .places-long) (c .before .before .before .before .before .before .before .before .refuse-clash .ensures .1))
 
 same-length-5 : tie.Need-same-length-5
 same-length-5 c = c .before .before .before .before .before .before .before .before .before .before .before .before .before .before .before .before .before .before .before .before .before .before .before .before .settle .kept .1 .1 .1 .1 .1 .1 .1 .1 .0
@@ -86,7 +86,7 @@ judge-in-spec =
     slice-aggregate-settle
     settle-requires
     enum-known-settled
-    clear-index-requires
+    refuse-clash-requires
     enum-known-settled-2
     slice-aggregate-answer-all
     answer-all-requires

@@ -1,7 +1,7 @@
 -- `compare::check_asked` meets its contract. Assumes nothing.
 use mathlib.Core.Path.{sym, _∙_}
 use Rattle.compare.proofs.Rows.{asked-refused}
-use Rattle.compare.proofs.Judges.{asked-fit, asked-long, asked-ready}
+use Rattle.compare.proofs.Judges.{asked-ready}
 use Rattle.compare.proofs.check_asked.Statement.{statement}
 use Rattle.compare.proofs.check_asked.Tie as tie
 
@@ -23,20 +23,8 @@ after-requires-2 c κs = tt
 enum-told : tie.Need-enum-told
 enum-told c = c .match .keys2
 
-array-borrow-prefix-ours : tie.Need-array-borrow-prefix-ours
-array-borrow-prefix-ours c = asked-fit _ _ (c .before .before .check-claims .ensures) (c .enum-told .given .1)
-
-slice-aggregate-judge-both : tie.Need-slice-aggregate-judge-both
-slice-aggregate-judge-both c = sym (asked-long _ _ (c .before .before .before .check-claims .ensures) (c .before .enum-told .given .1))
-
-array-borrow-prefix-theirs : tie.Need-array-borrow-prefix-theirs
-array-borrow-prefix-theirs c = asked-fit _ _ (c .before .before .before .check-claims .ensures) (c .before .enum-told .given .1)
-
-slice-aggregate-judge-both-2 : tie.Need-slice-aggregate-judge-both-2
-slice-aggregate-judge-both-2 c = sym (asked-long _ _ (c .before .before .before .before .check-claims .ensures) (c .before .before .enum-told .given .1))
-
 judge-both-requires : tie.Need-judge-both-requires
-judge-both-requires c κs = (asked-ready _ _ (c .before .before .before .before .before .before .before .before .before .before .before .check-claims .ensures) (c .before .before .before .before .before .before .before .before .before .enum-told .given .1) (c .before .before .before .before .before .before .before .before .before .before .before .before .larger-of .ensures) (c .before .before .before .before .before .before .before .before .before .before .before .before .before .before .before .before .before .before .pre), asked-long _ _ (c .before .before .before .before .before .before .before .before .before .before .before .check-claims .ensures) (c .before .before .before .before .before .before .before .before .before .enum-told .given .1), asked-long _ _ (c .before .before .before .before .before .before .before .before .before .before .before .check-claims .ensures) (c .before .before .before .before .before .before .before .before .before .enum-told .given .1))
+judge-both-requires c κs = asked-ready _ _ (c .before .before .before .before .before .before .before .before .before .check-claims .ensures) (c .before .before .before .before .before .before .before .enum-told .given .1) (c .before .before .before .before .before .before .before .before .before .before .larger-of .ensures) (c .before .before .before .before .before .before .before .before .before .before .before .before .before .before .before .before .pre)
 
 returns : tie.Need-returns
 returns c =
@@ -44,10 +32,10 @@ returns c =
     asked-refused _ _ _ _ (P .first) (P .second) _ _ (rw (c .before .before .before .before .before .before .before .before .before .before .before .before .before .before .before .before .before .before .larger-of .ensures) at (sym (c .before .before .before .before .before .before .before .before .before .before .before .before .before .before .before .before .before .check-claims .ensures) ∙ c .before .before .before .before .before .before .before .before .before .before .before .before .before .before .before .fit .given .1)) (c .before .before .before .before .before .before .before .after .ensures) (c .after2 .ensures)
 
 same-length : tie.Need-same-length
-same-length c = c .before .before .before .before .judge-both .kept .1 .1 .1 .1 .1 .1 .1 .1 .0
+same-length c = c .before .before .judge-both .kept .1 .1 .1 .1 .1 .1 .0
 
 returns-2 : tie.Need-returns-2
-returns-2 c = c .before .before .before .before .judge-both .ensures
+returns-2 c = c .before .before .judge-both .ensures
 
 pub check-asked-spec : {M : Type 1} → statement M
 check-asked-spec =
@@ -59,10 +47,6 @@ check-asked-spec =
     after-requires
     after-requires-2
     enum-told
-    array-borrow-prefix-ours
-    slice-aggregate-judge-both
-    array-borrow-prefix-theirs
-    slice-aggregate-judge-both-2
     judge-both-requires
     returns
     same-length
