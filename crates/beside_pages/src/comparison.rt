@@ -7,6 +7,7 @@ ghost use Rattle.pages.specs.Written.{Page};
 ghost use Rattle.sentences.specs.Sources.{ofClaims};
 ghost use Rattle.beside_pages.specs.ComparisonText.{pairLine, pairLines, togetherLine, refusedIn, besideText, comparisonText};
 use compare::Comparison;
+use matrices::Matrix;
 use pages::Written;
 use records::Record;
 use records::Refusal;
@@ -90,12 +91,12 @@ fn put_comparison(
     second: &[u8],
     claims: &[u8],
     page: &mut [u8],
-    e: &mut [u64; 65536],
-    d: &mut [u64; 65536],
-    t: &mut [u64; 65536],
-    u: &mut [u64; 65536],
-    p: &mut [u64; 65536],
-    q: &mut [u64; 65536],
+    e: &mut Matrix,
+    d: &mut Matrix,
+    t: &mut Matrix,
+    u: &mut Matrix,
+    p: &mut Matrix,
+    q: &mut Matrix,
 ) -> usize
     requires { ⌜ length (now asked) ≤ 24582 ⌝ }
     ensures { λ r. ⌜ Put (now (page .entry)) 0 (besideText (now (first .entry)) (now (other .entry)) (now (asked .entry)) (now (source .entry)) (now (second .entry)) (now (claims .entry))) (now (page .exit)) r ⌝ }
@@ -128,12 +129,12 @@ fn write_both(
     second: &[u8],
     claims: &[u8],
     page: &mut [u8],
-    e: &mut [u64; 65536],
-    d: &mut [u64; 65536],
-    t: &mut [u64; 65536],
-    u: &mut [u64; 65536],
-    p: &mut [u64; 65536],
-    q: &mut [u64; 65536],
+    e: &mut Matrix,
+    d: &mut Matrix,
+    t: &mut Matrix,
+    u: &mut Matrix,
+    p: &mut Matrix,
+    q: &mut Matrix,
 ) -> Written
     requires { ⌜ length (now asked) ≤ 24582 ⌝ }
     ensures { λ r. ⌜ Page (now (page .entry)) (besideText (now (first .entry)) (now (other .entry)) (now (asked .entry)) (now (source .entry)) (now (second .entry)) (now (claims .entry))) (now (page .exit)) r ⌝ }
@@ -165,12 +166,12 @@ fn write_answers(
     second: &[u8],
     claims: &[u8],
     page: &mut [u8],
-    e: &mut [u64; 65536],
-    d: &mut [u64; 65536],
-    t: &mut [u64; 65536],
-    u: &mut [u64; 65536],
-    p: &mut [u64; 65536],
-    q: &mut [u64; 65536],
+    e: &mut Matrix,
+    d: &mut Matrix,
+    t: &mut Matrix,
+    u: &mut Matrix,
+    p: &mut Matrix,
+    q: &mut Matrix,
 ) -> Written
     ensures { λ r. ⌜ Page (now (page .entry)) (ofClaims (now (claims .entry)) (λ asked. besideText (now (first .entry)) (now (other .entry)) asked (now (source .entry)) (now (second .entry)) (now (claims .entry)))) (now (page .exit)) r ⌝ }
     ensures { λ r. ⌜ length (ofClaims (now (claims .entry)) (λ asked. besideText (now (first .entry)) (now (other .entry)) asked (now (source .entry)) (now (second .entry)) (now (claims .entry)))) ≤ 208960 ⌝ }
@@ -208,12 +209,12 @@ pub fn write_comparison(
     second: &[u8],
     claims: &[u8],
     page: &mut [u8],
-    e: &mut [u64; 65536],
-    d: &mut [u64; 65536],
-    t: &mut [u64; 65536],
-    u: &mut [u64; 65536],
-    p: &mut [u64; 65536],
-    q: &mut [u64; 65536],
+    e: &mut Matrix,
+    d: &mut Matrix,
+    t: &mut Matrix,
+    u: &mut Matrix,
+    p: &mut Matrix,
+    q: &mut Matrix,
 ) -> Written
     ensures { λ r. ⌜ Page (now (page .entry)) (comparisonText (now (source .entry)) (now (second .entry)) (now (claims .entry))) (now (page .exit)) r ⌝ }
     ensures { λ r. ⌜ length (comparisonText (now (source .entry)) (now (second .entry)) (now (claims .entry))) ≤ 208960 ⌝ }

@@ -5,6 +5,7 @@ ghost use Rattle.replicates.specs.Log.{entryCount};
 ghost use Rattle.pages.specs.Put.{Put};
 ghost use Rattle.pages.specs.Written.{Page};
 ghost use Rattle.beside_pages.specs.LogText.{entryLine, entryLines, measuredText, logText};
+use matrices::Matrix;
 use outcomes::Outcome;
 use pages::Written;
 use replicates::Window;
@@ -47,10 +48,10 @@ fn put_log(
     source: &[u8],
     other: &[u8],
     page: &mut [u8],
-    e: &mut [u64; 65536],
-    d: &mut [u64; 65536],
-    t: &mut [u64; 65536],
-    u: &mut [u64; 65536],
+    e: &mut Matrix,
+    d: &mut Matrix,
+    t: &mut Matrix,
+    u: &mut Matrix,
 ) -> usize
     requires { ⌜ length (now log) ≤ 65538 ⌝ }
     ensures { λ r. ⌜ Put (now (page .entry)) 0 (measuredText (now (book .entry)) (now (log .entry)) (now (source .entry)) (now (other .entry))) (now (page .exit)) r ⌝ }
@@ -82,10 +83,10 @@ fn write_entries(
     source: &[u8],
     other: &[u8],
     page: &mut [u8],
-    e: &mut [u64; 65536],
-    d: &mut [u64; 65536],
-    t: &mut [u64; 65536],
-    u: &mut [u64; 65536],
+    e: &mut Matrix,
+    d: &mut Matrix,
+    t: &mut Matrix,
+    u: &mut Matrix,
 ) -> Written
     requires { ⌜ length (now log) ≤ 65538 ⌝ }
     ensures { λ r. ⌜ Page (now (page .entry)) (measuredText (now (book .entry)) (now (log .entry)) (now (source .entry)) (now (other .entry))) (now (page .exit)) r ⌝ }
@@ -100,10 +101,10 @@ pub fn write_log(
     source: &[u8],
     other: &[u8],
     page: &mut [u8],
-    e: &mut [u64; 65536],
-    d: &mut [u64; 65536],
-    t: &mut [u64; 65536],
-    u: &mut [u64; 65536],
+    e: &mut Matrix,
+    d: &mut Matrix,
+    t: &mut Matrix,
+    u: &mut Matrix,
 ) -> Written
     ensures { λ r. ⌜ Page (now (page .entry)) (logText (now (source .entry)) (now (other .entry))) (now (page .exit)) r ⌝ }
     ensures { λ r. ⌜ length (logText (now (source .entry)) (now (other .entry))) ≤ 655380 ⌝ }

@@ -9,13 +9,15 @@ ghost use Rattle.book_pages.specs.Sign as by;
 ghost use Rattle.book_pages.specs.Sign.{four};
 ghost use Rattle.book_pages.specs.GridText as text;
 ghost use Rattle.book_pages.specs.GridText.{columns, heading, headings, signs, rows, gridLines, sheetText, gridText};
+use grids::rounds::Grid;
+use matrices::Matrix;
 use outcomes::Outcome;
 use pages::Written;
 use sentences::sources::Source;
 use text::Form;
 
 // Bit b of row a.
-fn has(grid: &[u64; 64], a: usize, b: usize) -> bool
+fn has(grid: &Grid, a: usize, b: usize) -> bool
     requires { ⌜ (a < 64) × (b < 64) ⌝ }
     ensures { λ r. ⌜ r ≡ bitAt (now (grid .entry)) a b ⌝ }
 {
@@ -23,14 +25,7 @@ fn has(grid: &[u64; 64], a: usize, b: usize) -> bool
 }
 
 // The sign of a and b, where neither is void.
-fn between(
-    part: &[u64; 64],
-    apart: &[u64; 64],
-    meets: &[u64; 64],
-    notpart: &[u64; 64],
-    a: usize,
-    b: usize,
-) -> u8
+fn between(part: &Grid, apart: &Grid, meets: &Grid, notpart: &Grid, a: usize, b: usize) -> u8
     requires { ⌜ (a < 64) × (b < 64) ⌝ }
     ensures { λ r. ⌜ r ≡ by.between (four (now (part .entry)) (now (apart .entry)) (now (meets .entry)) (now (notpart .entry))) a b ⌝ }
 {
@@ -59,14 +54,7 @@ fn between(
 }
 
 // The sign of a and b.
-fn sign(
-    part: &[u64; 64],
-    apart: &[u64; 64],
-    meets: &[u64; 64],
-    notpart: &[u64; 64],
-    a: usize,
-    b: usize,
-) -> u8
+fn sign(part: &Grid, apart: &Grid, meets: &Grid, notpart: &Grid, a: usize, b: usize) -> u8
     requires { ⌜ (a < 64) × (b < 64) ⌝ }
     ensures { λ r. ⌜ r ≡ by.sign (four (now (part .entry)) (now (apart .entry)) (now (meets .entry)) (now (notpart .entry))) a b ⌝ }
 {
@@ -83,10 +71,10 @@ fn sign(
 fn put_signs(
     page: &mut [u8],
     at: usize,
-    part: &[u64; 64],
-    apart: &[u64; 64],
-    meets: &[u64; 64],
-    notpart: &[u64; 64],
+    part: &Grid,
+    apart: &Grid,
+    meets: &Grid,
+    notpart: &Grid,
     a: usize,
     n: usize,
 ) -> usize
@@ -168,10 +156,10 @@ fn put_headings(page: &mut [u8], at: usize, n: usize) -> usize
 fn put_rows(
     page: &mut [u8],
     at: usize,
-    part: &[u64; 64],
-    apart: &[u64; 64],
-    meets: &[u64; 64],
-    notpart: &[u64; 64],
+    part: &Grid,
+    apart: &Grid,
+    meets: &Grid,
+    notpart: &Grid,
     n: usize,
 ) -> usize
     requires { ⌜ n ≤ 64 ⌝ }
@@ -193,10 +181,10 @@ fn put_rows(
 // The grid of n pieces, from the start of the page.
 fn put_lines(
     page: &mut [u8],
-    part: &[u64; 64],
-    apart: &[u64; 64],
-    meets: &[u64; 64],
-    notpart: &[u64; 64],
+    part: &Grid,
+    apart: &Grid,
+    meets: &Grid,
+    notpart: &Grid,
     n: usize,
 ) -> usize
     requires { ⌜ n ≤ 64 ⌝ }
@@ -213,12 +201,12 @@ fn put_grid(
     book: &[u8],
     source: &[u8],
     page: &mut [u8],
-    e: &mut [u64; 65536],
-    d: &mut [u64; 65536],
-    t: &mut [u64; 65536],
-    u: &mut [u64; 65536],
-    p: &mut [u64; 65536],
-    q: &mut [u64; 65536],
+    e: &mut Matrix,
+    d: &mut Matrix,
+    t: &mut Matrix,
+    u: &mut Matrix,
+    p: &mut Matrix,
+    q: &mut Matrix,
 ) -> usize
     ensures { λ r. ⌜ Put (now (page .entry)) 0 (sheetText (now (book .entry)) (now (source .entry))) (now (page .exit)) r ⌝ }
     ensures { λ r. ⌜ length (sheetText (now (book .entry)) (now (source .entry))) ≤ 4498 ⌝ }
@@ -246,12 +234,12 @@ fn write_sheet(
     book: &[u8],
     source: &[u8],
     page: &mut [u8],
-    e: &mut [u64; 65536],
-    d: &mut [u64; 65536],
-    t: &mut [u64; 65536],
-    u: &mut [u64; 65536],
-    p: &mut [u64; 65536],
-    q: &mut [u64; 65536],
+    e: &mut Matrix,
+    d: &mut Matrix,
+    t: &mut Matrix,
+    u: &mut Matrix,
+    p: &mut Matrix,
+    q: &mut Matrix,
 ) -> Written
     ensures { λ r. ⌜ Page (now (page .entry)) (sheetText (now (book .entry)) (now (source .entry))) (now (page .exit)) r ⌝ }
     ensures { λ r. ⌜ length (sheetText (now (book .entry)) (now (source .entry))) ≤ 4498 ⌝ }
@@ -264,12 +252,12 @@ fn write_sheet(
 pub fn write_grid(
     source: &[u8],
     page: &mut [u8],
-    e: &mut [u64; 65536],
-    d: &mut [u64; 65536],
-    t: &mut [u64; 65536],
-    u: &mut [u64; 65536],
-    p: &mut [u64; 65536],
-    q: &mut [u64; 65536],
+    e: &mut Matrix,
+    d: &mut Matrix,
+    t: &mut Matrix,
+    u: &mut Matrix,
+    p: &mut Matrix,
+    q: &mut Matrix,
 ) -> Written
     ensures { λ r. ⌜ Page (now (page .entry)) (gridText (now (source .entry))) (now (page .exit)) r ⌝ }
     ensures { λ r. ⌜ length (gridText (now (source .entry))) ≤ 4498 ⌝ }

@@ -6,6 +6,7 @@ ghost use Rattle.pages.specs.Written.{Page};
 ghost use Rattle.sentences.specs.Sources.{ofBook};
 ghost use Rattle.book_pages.specs.ListText.{numberLines, listLines, catalogText, listText};
 use catalog::Listing;
+use matrices::Matrix;
 use pages::Written;
 use sentences::sources::Source;
 use sentences::sources::Words;
@@ -42,21 +43,21 @@ fn put_catalog(
     kind: usize,
     g: usize,
     page: &mut [u8],
-    e: &mut [u64; 65536],
-    d: &mut [u64; 65536],
-    t: &mut [u64; 65536],
+    e: &mut Matrix,
+    d: &mut Matrix,
+    t: &mut Matrix,
 ) -> usize
     ensures { λ r. ⌜ Put (now (page .entry)) 0 (catalogText (now (book .entry)) (now (source .entry)) kind g) (now (page .exit)) r ⌝ }
     ensures { λ r. ⌜ length (catalogText (now (book .entry)) (now (source .entry)) kind g) ≤ 12300 ⌝ }
 {
-    let mut parens = [0u8; 2560];
-    let mut marks = [0u8; 1280];
-    let mut shadows = [0u16; 8192];
-    let mut places = [0u16; 2048];
-    let mut list = [0u16; 2048];
-    let mut meets = [0u16; 16384];
-    let mut apart = [0u16; 16384];
-    let mut notpart = [0u16; 16384];
+    let mut parens = [0u8; index::PARENTHESES_BYTES];
+    let mut marks = [0u8; index::MARKS_BYTES];
+    let mut shadows = [0u16; index::SHADOWS];
+    let mut places = [0u16; index::PLACES];
+    let mut list = [0u16; records::PIECES];
+    let mut meets = [0u16; areas::AREA_NUMBERS];
+    let mut apart = [0u16; areas::AREA_NUMBERS];
+    let mut notpart = [0u16; areas::AREA_NUMBERS];
     let made = catalog::write_catalog(
         book,
         kind,
@@ -94,9 +95,9 @@ fn write_catalog(
     kind: usize,
     g: usize,
     page: &mut [u8],
-    e: &mut [u64; 65536],
-    d: &mut [u64; 65536],
-    t: &mut [u64; 65536],
+    e: &mut Matrix,
+    d: &mut Matrix,
+    t: &mut Matrix,
 ) -> Written
     ensures { λ r. ⌜ Page (now (page .entry)) (catalogText (now (book .entry)) (now (source .entry)) kind g) (now (page .exit)) r ⌝ }
     ensures { λ r. ⌜ length (catalogText (now (book .entry)) (now (source .entry)) kind g) ≤ 12300 ⌝ }
@@ -111,9 +112,9 @@ fn write_pieces(
     kind: usize,
     g: usize,
     page: &mut [u8],
-    e: &mut [u64; 65536],
-    d: &mut [u64; 65536],
-    t: &mut [u64; 65536],
+    e: &mut Matrix,
+    d: &mut Matrix,
+    t: &mut Matrix,
 ) -> Written
     ensures { λ r. ⌜ Page (now (page .entry)) (ofBook (now (source .entry)) (λ book. catalogText book (now (source .entry)) kind g)) (now (page .exit)) r ⌝ }
     ensures { λ r. ⌜ length (ofBook (now (source .entry)) (λ book. catalogText book (now (source .entry)) kind g)) ≤ 12300 ⌝ }
@@ -132,9 +133,9 @@ pub fn write_list(
     kind: usize,
     words: &[u8],
     page: &mut [u8],
-    e: &mut [u64; 65536],
-    d: &mut [u64; 65536],
-    t: &mut [u64; 65536],
+    e: &mut Matrix,
+    d: &mut Matrix,
+    t: &mut Matrix,
 ) -> Written
     ensures { λ r. ⌜ Page (now (page .entry)) (listText (now (source .entry)) kind (now (words .entry))) (now (page .exit)) r ⌝ }
     ensures { λ r. ⌜ length (listText (now (source .entry)) kind (now (words .entry))) ≤ 12300 ⌝ }

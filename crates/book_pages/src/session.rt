@@ -7,6 +7,7 @@ ghost use Rattle.pages.specs.Put.{Put};
 ghost use Rattle.pages.specs.Written.{Page};
 ghost use Rattle.sentences.specs.Sources.{ofBook, ofClaims};
 ghost use Rattle.book_pages.specs.AskText.{sessionText, checkText, askText, askWordsText};
+use matrices::Matrix;
 use outcomes::Outcome;
 use pages::Written;
 use sentences::sources::Source;
@@ -20,12 +21,12 @@ fn put_session(
     source: &[u8],
     other: &[u8],
     page: &mut [u8],
-    e: &mut [u64; 65536],
-    d: &mut [u64; 65536],
-    t: &mut [u64; 65536],
-    u: &mut [u64; 65536],
-    p: &mut [u64; 65536],
-    q: &mut [u64; 65536],
+    e: &mut Matrix,
+    d: &mut Matrix,
+    t: &mut Matrix,
+    u: &mut Matrix,
+    p: &mut Matrix,
+    q: &mut Matrix,
 ) -> usize
     requires { ⌜ length (now claims) ≤ 24582 ⌝ }
     ensures { λ r. ⌜ Put (now (page .entry)) 0 (sessionText (now (book .entry)) (now (claims .entry)) (now (source .entry)) (now (other .entry))) (now (page .exit)) r ⌝ }
@@ -55,12 +56,12 @@ fn write_session(
     source: &[u8],
     other: &[u8],
     page: &mut [u8],
-    e: &mut [u64; 65536],
-    d: &mut [u64; 65536],
-    t: &mut [u64; 65536],
-    u: &mut [u64; 65536],
-    p: &mut [u64; 65536],
-    q: &mut [u64; 65536],
+    e: &mut Matrix,
+    d: &mut Matrix,
+    t: &mut Matrix,
+    u: &mut Matrix,
+    p: &mut Matrix,
+    q: &mut Matrix,
 ) -> Written
     requires { ⌜ length (now claims) ≤ 24582 ⌝ }
     ensures { λ r. ⌜ Page (now (page .entry)) (sessionText (now (book .entry)) (now (claims .entry)) (now (source .entry)) (now (other .entry))) (now (page .exit)) r ⌝ }
@@ -76,12 +77,12 @@ fn write_answers(
     source: &[u8],
     claims: &[u8],
     page: &mut [u8],
-    e: &mut [u64; 65536],
-    d: &mut [u64; 65536],
-    t: &mut [u64; 65536],
-    u: &mut [u64; 65536],
-    p: &mut [u64; 65536],
-    q: &mut [u64; 65536],
+    e: &mut Matrix,
+    d: &mut Matrix,
+    t: &mut Matrix,
+    u: &mut Matrix,
+    p: &mut Matrix,
+    q: &mut Matrix,
 ) -> Written
     ensures { λ r. ⌜ Page (now (page .entry)) (ofClaims (now (claims .entry)) (λ asked. sessionText (now (book .entry)) asked (now (source .entry)) (now (claims .entry)))) (now (page .exit)) r ⌝ }
     ensures { λ r. ⌜ length (ofClaims (now (claims .entry)) (λ asked. sessionText (now (book .entry)) asked (now (source .entry)) (now (claims .entry)))) ≤ 135343 ⌝ }
@@ -116,12 +117,12 @@ pub fn write_ask(
     source: &[u8],
     claims: &[u8],
     page: &mut [u8],
-    e: &mut [u64; 65536],
-    d: &mut [u64; 65536],
-    t: &mut [u64; 65536],
-    u: &mut [u64; 65536],
-    p: &mut [u64; 65536],
-    q: &mut [u64; 65536],
+    e: &mut Matrix,
+    d: &mut Matrix,
+    t: &mut Matrix,
+    u: &mut Matrix,
+    p: &mut Matrix,
+    q: &mut Matrix,
 ) -> Written
     ensures { λ r. ⌜ Page (now (page .entry)) (askText (now (source .entry)) (now (claims .entry))) (now (page .exit)) r ⌝ }
     ensures { λ r. ⌜ length (askText (now (source .entry)) (now (claims .entry))) ≤ 135343 ⌝ }
@@ -139,12 +140,12 @@ fn write_about(
     source: &[u8],
     claims: &[u8],
     page: &mut [u8],
-    e: &mut [u64; 65536],
-    d: &mut [u64; 65536],
-    t: &mut [u64; 65536],
-    u: &mut [u64; 65536],
-    p: &mut [u64; 65536],
-    q: &mut [u64; 65536],
+    e: &mut Matrix,
+    d: &mut Matrix,
+    t: &mut Matrix,
+    u: &mut Matrix,
+    p: &mut Matrix,
+    q: &mut Matrix,
 ) -> Written
     requires { ⌜ length (now claims) ≤ 24582 ⌝ }
     ensures { λ r. ⌜ Page (now (page .entry)) (ofBook (now (source .entry)) (λ book. sessionText book (now (claims .entry)) (now (source .entry)) [])) (now (page .exit)) r ⌝ }
@@ -175,12 +176,12 @@ fn write_about(
 pub fn write_check(
     source: &[u8],
     page: &mut [u8],
-    e: &mut [u64; 65536],
-    d: &mut [u64; 65536],
-    t: &mut [u64; 65536],
-    u: &mut [u64; 65536],
-    p: &mut [u64; 65536],
-    q: &mut [u64; 65536],
+    e: &mut Matrix,
+    d: &mut Matrix,
+    t: &mut Matrix,
+    u: &mut Matrix,
+    p: &mut Matrix,
+    q: &mut Matrix,
 ) -> Written
     ensures { λ r. ⌜ Page (now (page .entry)) (checkText (now (source .entry))) (now (page .exit)) r ⌝ }
     ensures { λ r. ⌜ length (checkText (now (source .entry))) ≤ 142 ⌝ }
@@ -194,12 +195,12 @@ pub fn write_ask_words(
     source: &[u8],
     words: &[u8],
     page: &mut [u8],
-    e: &mut [u64; 65536],
-    d: &mut [u64; 65536],
-    t: &mut [u64; 65536],
-    u: &mut [u64; 65536],
-    p: &mut [u64; 65536],
-    q: &mut [u64; 65536],
+    e: &mut Matrix,
+    d: &mut Matrix,
+    t: &mut Matrix,
+    u: &mut Matrix,
+    p: &mut Matrix,
+    q: &mut Matrix,
 ) -> Written
     ensures { λ r. ⌜ Page (now (page .entry)) (askWordsText (now (source .entry)) (now (words .entry))) (now (page .exit)) r ⌝ }
     ensures { λ r. ⌜ length (askWordsText (now (source .entry)) (now (words .entry))) ≤ 175 ⌝ }

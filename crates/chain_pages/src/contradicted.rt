@@ -4,6 +4,7 @@ ghost use Rattle.chain_format.specs.Step.{steps};
 ghost use Rattle.chain_text.specs.StepLine.{stepLines};
 ghost use Rattle.chain_text.specs.ChainText.{Bytes};
 ghost use Rattle.chain_pages.specs.Clash.{StepsOf, OfBook, Clash};
+use matrices::Matrix;
 use outcomes::Outcome;
 use pages::Written;
 use sentences::sources::Source;
@@ -22,9 +23,9 @@ fn put_clash(
     page: &mut [u8],
     at: usize,
     book: &[u8],
-    e: &mut [u64; 65536],
-    d: &mut [u64; 65536],
-    t: &mut [u64; 65536],
+    e: &mut Matrix,
+    d: &mut Matrix,
+    t: &mut Matrix,
 ) -> usize
     ensures { λ r. ⌜ StepsOf (now (book .entry)) (now (page .entry)) at (now (page .exit)) r ⌝ }
 {
@@ -39,12 +40,12 @@ fn clash_book(
     page: &mut [u8],
     source: &[u8],
     book: &[u8],
-    e: &mut [u64; 65536],
-    d: &mut [u64; 65536],
-    t: &mut [u64; 65536],
-    u: &mut [u64; 65536],
-    p: &mut [u64; 65536],
-    q: &mut [u64; 65536],
+    e: &mut Matrix,
+    d: &mut Matrix,
+    t: &mut Matrix,
+    u: &mut Matrix,
+    p: &mut Matrix,
+    q: &mut Matrix,
 ) -> usize
     ensures { λ r. ⌜ OfBook (now (source .entry)) (now (book .entry)) (now (page .entry)) (now (page .exit)) r ⌝ }
 {
@@ -68,12 +69,12 @@ fn clash_book(
 pub fn write_contradiction(
     source: &[u8],
     page: &mut [u8],
-    e: &mut [u64; 65536],
-    d: &mut [u64; 65536],
-    t: &mut [u64; 65536],
-    u: &mut [u64; 65536],
-    p: &mut [u64; 65536],
-    q: &mut [u64; 65536],
+    e: &mut Matrix,
+    d: &mut Matrix,
+    t: &mut Matrix,
+    u: &mut Matrix,
+    p: &mut Matrix,
+    q: &mut Matrix,
 ) -> Written
     ensures { λ r. ⌜ Clash (now (source .entry)) (now (page .entry)) (now (page .exit)) r ⌝ }
 {

@@ -1,6 +1,7 @@
 // The page of `verify`: whether a page of `why` passes.
 ghost use Rattle.pages.specs.Put.{Put};
 ghost use Rattle.chain_pages.specs.Verdict.{verdictLine, Verdict};
+use matrices::Matrix;
 use pages::Written;
 use sentences::sources::Source;
 use text::Form;
@@ -19,12 +20,12 @@ pub fn write_verdict(
     source: &[u8],
     chain: &[u8],
     page: &mut [u8],
-    e: &mut [u64; 65536],
-    d: &mut [u64; 65536],
-    t: &mut [u64; 65536],
-    u: &mut [u64; 65536],
-    p: &mut [u64; 65536],
-    q: &mut [u64; 65536],
+    e: &mut Matrix,
+    d: &mut Matrix,
+    t: &mut Matrix,
+    u: &mut Matrix,
+    p: &mut Matrix,
+    q: &mut Matrix,
 ) -> Written
     ensures { λ r. ⌜ Verdict (now (source .entry)) (now (chain .entry)) (now (page .entry)) (now (page .exit)) r ⌝ }
 {

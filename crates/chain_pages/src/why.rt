@@ -6,6 +6,7 @@ ghost use Rattle.chain_text.specs.ChainText.{Bytes};
 ghost use Rattle.chain_pages.specs.WhyText.{whyText};
 ghost use Rattle.chain_pages.specs.Why.{Whole, OfBook, OfSource, Why};
 use chain_writing::Reply;
+use matrices::Matrix;
 use pages::Written;
 use records::Record;
 use sentences::sources::Source;
@@ -40,9 +41,9 @@ fn why_book(
     source: &[u8],
     book: &[u8],
     claim: &[u8],
-    e: &mut [u64; 65536],
-    d: &mut [u64; 65536],
-    t: &mut [u64; 65536],
+    e: &mut Matrix,
+    d: &mut Matrix,
+    t: &mut Matrix,
 ) -> Written
     ensures { λ r. ⌜ OfBook (now (source .entry)) (now (book .entry)) (now (claim .entry)) (now (page .entry)) (now (page .exit)) r ⌝ }
 {
@@ -59,9 +60,9 @@ fn why_source(
     page: &mut [u8],
     source: &[u8],
     claim: Record,
-    e: &mut [u64; 65536],
-    d: &mut [u64; 65536],
-    t: &mut [u64; 65536],
+    e: &mut Matrix,
+    d: &mut Matrix,
+    t: &mut Matrix,
 ) -> Written
     ensures { λ r. ⌜ OfSource (now (source .entry)) claim (now (page .entry)) (now (page .exit)) r ⌝ }
 {
@@ -81,9 +82,9 @@ pub fn write_why(
     source: &[u8],
     words: &[u8],
     page: &mut [u8],
-    e: &mut [u64; 65536],
-    d: &mut [u64; 65536],
-    t: &mut [u64; 65536],
+    e: &mut Matrix,
+    d: &mut Matrix,
+    t: &mut Matrix,
 ) -> Written
     ensures { λ r. ⌜ Why (now (source .entry)) (now (words .entry)) (now (page .entry)) (now (page .exit)) r ⌝ }
 {

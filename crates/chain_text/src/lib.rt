@@ -7,6 +7,7 @@ ghost use Rattle.records.specs.Record.{recordAt};
 ghost use Rattle.records.specs.Facts.{saying};
 ghost use Rattle.records.specs.Pieces.{stated};
 ghost use Rattle.chain_text.specs.Verified.{tells, Judged, Verifies};
+use matrices::Matrix;
 use verdicts::Answer;
 
 pub mod comparing;
@@ -37,12 +38,12 @@ fn is_page_of(
     claim: &[u8],
     answer: Answer,
     c: &[u8],
-    e: &mut [u64; 65536],
-    d: &mut [u64; 65536],
-    t: &mut [u64; 65536],
-    u: &mut [u64; 65536],
-    p: &mut [u64; 65536],
-    q: &mut [u64; 65536],
+    e: &mut Matrix,
+    d: &mut Matrix,
+    t: &mut Matrix,
+    u: &mut Matrix,
+    p: &mut Matrix,
+    q: &mut Matrix,
 ) -> bool
     requires { ⌜ (length (now claim) ≡ 6) × (length (now c) ≤ 164000) ⌝ }
     ensures { λ r. ⌜ Judged (now (book .entry)) (now (page .entry)) (now (claim .entry)) answer (now (c .entry)) r ⌝ }
@@ -60,12 +61,12 @@ fn is_page_of(
 pub fn verify(
     book: &[u8],
     page: &[u8],
-    e: &mut [u64; 65536],
-    d: &mut [u64; 65536],
-    t: &mut [u64; 65536],
-    u: &mut [u64; 65536],
-    p: &mut [u64; 65536],
-    q: &mut [u64; 65536],
+    e: &mut Matrix,
+    d: &mut Matrix,
+    t: &mut Matrix,
+    u: &mut Matrix,
+    p: &mut Matrix,
+    q: &mut Matrix,
 ) -> bool
     ensures { λ r. ⌜ Verifies (now (book .entry)) (now (page .entry)) r ⌝ }
 {

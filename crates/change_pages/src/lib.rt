@@ -11,6 +11,7 @@ ghost use Rattle.change_pages.specs.Change.{New, Kept, newLine};
 ghost use Rattle.change_pages.specs.Changes.{judged, packing, converting, adding, withdrawing, withdrawn, without};
 ghost use Rattle.change_pages.specs.Made.{Made};
 use convert::Conversion;
+use matrices::Matrix;
 use outcomes::Outcome;
 use pages::Written;
 use records::Refusal;
@@ -90,12 +91,12 @@ fn settle(
     source: &[u8],
     out: &[u8],
     n: usize,
-    e: &mut [u64; 65536],
-    d: &mut [u64; 65536],
-    t: &mut [u64; 65536],
-    u: &mut [u64; 65536],
-    p: &mut [u64; 65536],
-    q: &mut [u64; 65536],
+    e: &mut Matrix,
+    d: &mut Matrix,
+    t: &mut Matrix,
+    u: &mut Matrix,
+    p: &mut Matrix,
+    q: &mut Matrix,
 ) -> Changed
     requires { ⌜ n ≤ length (now out) ⌝ }
     ensures { λ r. ⌜ Made (judged (now (source .entry)) (take n (now (out .entry))) (freshCall (take n (now (out .entry))) [])) (now (out .entry)) (now (page .entry)) (now (page .exit)) r ⌝ }
@@ -112,12 +113,12 @@ pub fn write_packed(
     source: &[u8],
     out: &mut [u8; 49164],
     page: &mut [u8],
-    e: &mut [u64; 65536],
-    d: &mut [u64; 65536],
-    t: &mut [u64; 65536],
-    u: &mut [u64; 65536],
-    p: &mut [u64; 65536],
-    q: &mut [u64; 65536],
+    e: &mut Matrix,
+    d: &mut Matrix,
+    t: &mut Matrix,
+    u: &mut Matrix,
+    p: &mut Matrix,
+    q: &mut Matrix,
 ) -> Changed
     ensures { λ r. ⌜ Made (packing (now (source .entry))) (now (out .exit)) (now (page .entry)) (now (page .exit)) r ⌝ }
 {
@@ -133,9 +134,9 @@ pub fn write_converted(
     source: &[u8],
     out: &mut [u8; 49164],
     page: &mut [u8],
-    e: &mut [u64; 65536],
-    d: &mut [u64; 65536],
-    t: &mut [u64; 65536],
+    e: &mut Matrix,
+    d: &mut Matrix,
+    t: &mut Matrix,
 ) -> Changed
     ensures { λ r. ⌜ Made (converting (now (source .entry))) (now (out .exit)) (now (page .entry)) (now (page .exit)) r ⌝ }
 {
@@ -160,12 +161,12 @@ fn extend(
     source: &[u8],
     out: &mut [u8; 49164],
     page: &mut [u8],
-    e: &mut [u64; 65536],
-    d: &mut [u64; 65536],
-    t: &mut [u64; 65536],
-    u: &mut [u64; 65536],
-    p: &mut [u64; 65536],
-    q: &mut [u64; 65536],
+    e: &mut Matrix,
+    d: &mut Matrix,
+    t: &mut Matrix,
+    u: &mut Matrix,
+    p: &mut Matrix,
+    q: &mut Matrix,
 ) -> Changed
     requires { ⌜ length (now book) ≤ 49158 ⌝ }
     ensures { λ r. ⌜ Made (judged (now (source .entry)) (now (book .entry) ++ six) (freshCall (now (book .entry) ++ six) [])) (now (out .exit)) (now (page .entry)) (now (page .exit)) r ⌝ }
@@ -181,12 +182,12 @@ pub fn write_added(
     words: &[u8],
     out: &mut [u8; 49164],
     page: &mut [u8],
-    e: &mut [u64; 65536],
-    d: &mut [u64; 65536],
-    t: &mut [u64; 65536],
-    u: &mut [u64; 65536],
-    p: &mut [u64; 65536],
-    q: &mut [u64; 65536],
+    e: &mut Matrix,
+    d: &mut Matrix,
+    t: &mut Matrix,
+    u: &mut Matrix,
+    p: &mut Matrix,
+    q: &mut Matrix,
 ) -> Changed
     ensures { λ r. ⌜ Made (adding (now (source .entry)) (now (words .entry))) (now (out .exit)) (now (page .entry)) (now (page .exit)) r ⌝ }
 {
@@ -211,12 +212,12 @@ fn withdraw(
     source: &[u8],
     out: &mut [u8; 49164],
     page: &mut [u8],
-    e: &mut [u64; 65536],
-    d: &mut [u64; 65536],
-    t: &mut [u64; 65536],
-    u: &mut [u64; 65536],
-    p: &mut [u64; 65536],
-    q: &mut [u64; 65536],
+    e: &mut Matrix,
+    d: &mut Matrix,
+    t: &mut Matrix,
+    u: &mut Matrix,
+    p: &mut Matrix,
+    q: &mut Matrix,
 ) -> Changed
     requires { ⌜ length (now book) ≤ 49158 ⌝ }
     ensures { λ r. ⌜ Made (judged (now (source .entry)) (without (now (book .entry)) i) (withdrawn (now (book .entry)) i)) (now (out .exit)) (now (page .entry)) (now (page .exit)) r ⌝ }
@@ -242,12 +243,12 @@ pub fn write_withdrawn(
     words: &[u8],
     out: &mut [u8; 49164],
     page: &mut [u8],
-    e: &mut [u64; 65536],
-    d: &mut [u64; 65536],
-    t: &mut [u64; 65536],
-    u: &mut [u64; 65536],
-    p: &mut [u64; 65536],
-    q: &mut [u64; 65536],
+    e: &mut Matrix,
+    d: &mut Matrix,
+    t: &mut Matrix,
+    u: &mut Matrix,
+    p: &mut Matrix,
+    q: &mut Matrix,
 ) -> Changed
     ensures { λ r. ⌜ Made (withdrawing (now (source .entry)) (now (words .entry))) (now (out .exit)) (now (page .entry)) (now (page .exit)) r ⌝ }
 {

@@ -6,6 +6,7 @@ ghost use Rattle.areas.specs.Subtree.{rangeFrom, rangeTo};
 use catalog::Listing;
 use index::DatasetId;
 use index::TreeId;
+use matrices::Matrix;
 
 // A catalog's outcome as include/piecebook.h has it.
 #[repr(C)]
@@ -70,9 +71,9 @@ pub extern "C" fn piecebook_catalog_with(
     meets: &mut [u16],
     apart: &mut [u16],
     notpart: &mut [u16],
-    e: &mut [u64; 65536],
-    d: &mut [u64; 65536],
-    t: &mut [u64; 65536],
+    e: &mut Matrix,
+    d: &mut Matrix,
+    t: &mut Matrix,
 ) -> PiecebookCatalogResult
     ensures { λ r. ⌜ Catalogs (now (book .entry)) kind piece (lent (now (parens .entry)) (now (marks .entry)) (now (shadows .entry)) (now (places .entry)) (now (list .entry)) (now (meets .entry)) (now (apart .entry)) (now (notpart .entry))) r (lent (now (parens .exit)) (now (marks .exit)) (now (shadows .exit)) (now (places .exit)) (now (list .exit)) (now (meets .exit)) (now (apart .exit)) (now (notpart .exit))) ⌝ }
 {

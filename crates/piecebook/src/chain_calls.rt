@@ -8,6 +8,7 @@ ghost use Rattle.chain_check.specs.Call.{passes};
 ghost use Rattle.clash.specs.Clash as clashing;
 ghost use Rattle.piecebook.specs.Clashes.{Clashed};
 use chain_writing::Reply;
+use matrices::Matrix;
 use verdicts::Answer;
 
 // What the writer comes to, as include/piecebook.h has it.
@@ -78,9 +79,9 @@ pub extern "C" fn piecebook_chain_with(
     book: &[u8],
     claim: &[u8],
     steps: &mut [u8],
-    e: &mut [u64; 65536],
-    d: &mut [u64; 65536],
-    t: &mut [u64; 65536],
+    e: &mut Matrix,
+    d: &mut Matrix,
+    t: &mut Matrix,
 ) -> PiecebookChainResult
     ensures { λ r. ⌜ Chained (now (book .entry)) (now (claim .entry)) (now (steps .entry)) r (now (steps .exit)) ⌝ }
 {
@@ -94,12 +95,12 @@ pub extern "C" fn piecebook_chain_check_with(
     book: &[u8],
     claim: &[u8],
     steps: &[u8],
-    e: &mut [u64; 65536],
-    d: &mut [u64; 65536],
-    t: &mut [u64; 65536],
-    u: &mut [u64; 65536],
-    p: &mut [u64; 65536],
-    q: &mut [u64; 65536],
+    e: &mut Matrix,
+    d: &mut Matrix,
+    t: &mut Matrix,
+    u: &mut Matrix,
+    p: &mut Matrix,
+    q: &mut Matrix,
 ) -> usize
     ensures { λ r. ⌜ r ≡ num (passes (now (book .entry)) (now (claim .entry)) (now (steps .entry))) ⌝ }
 {
@@ -113,9 +114,9 @@ pub extern "C" fn piecebook_chain_check_with(
 pub extern "C" fn piecebook_clash_with(
     book: &[u8],
     steps: &mut [u8],
-    e: &mut [u64; 65536],
-    d: &mut [u64; 65536],
-    t: &mut [u64; 65536],
+    e: &mut Matrix,
+    d: &mut Matrix,
+    t: &mut Matrix,
 ) -> PiecebookClashResult
     ensures { λ r. ⌜ Clashed (now (book .entry)) (now (steps .entry)) r (now (steps .exit)) ⌝ }
 {
@@ -128,9 +129,9 @@ pub extern "C" fn piecebook_clash_with(
 pub extern "C" fn piecebook_clash_check_with(
     book: &[u8],
     steps: &[u8],
-    e: &mut [u64; 65536],
-    d: &mut [u64; 65536],
-    t: &mut [u64; 65536],
+    e: &mut Matrix,
+    d: &mut Matrix,
+    t: &mut Matrix,
 ) -> usize
     ensures { λ r. ⌜ r ≡ num (clashing.passes (now (book .entry)) (now (steps .entry))) ⌝ }
 {

@@ -4,6 +4,7 @@ ghost use Rattle.piecebook.specs.Compares.{Reported, Compares};
 ghost use lib.ListN.{length};
 ghost use Rattle.compare.specs.Demands.{Demanded};
 use compare::Comparison;
+use matrices::Matrix;
 
 // A comparison's outcome as include/piecebook.h has it.
 #[repr(C)]
@@ -39,12 +40,12 @@ pub extern "C" fn piecebook_compare_with(
     second: &[u8],
     claims: &[u8],
     out: &mut [u8],
-    e: &mut [u64; 65536],
-    d: &mut [u64; 65536],
-    t: &mut [u64; 65536],
-    u: &mut [u64; 65536],
-    p: &mut [u64; 65536],
-    q: &mut [u64; 65536],
+    e: &mut Matrix,
+    d: &mut Matrix,
+    t: &mut Matrix,
+    u: &mut Matrix,
+    p: &mut Matrix,
+    q: &mut Matrix,
 ) -> PiecebookComparison
     ensures determined { λ r. ⌜ Compares (now (first .entry)) (now (second .entry)) (now (claims .entry)) (now (out .entry)) r (now (out .exit)) ⌝ }
     ensures demanded { λ r. ⌜ Demanded (now (first .entry)) (now (second .entry)) (now (claims .entry)) (length (now (out .entry))) (now (out .exit)) (outcome (now (first .entry)) (now (second .entry)) (now (claims .entry)) (length (now (out .entry)))) ⌝ }

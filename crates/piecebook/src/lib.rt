@@ -11,6 +11,8 @@ ghost use Rattle.convert.specs.Converted.{converted};
 ghost use Rattle.convert.specs.Same.{InForce, SameAnswers};
 ghost use Rattle.piecebook.specs.Converts.{Converts};
 ghost use Rattle.piecebook.specs.Replicates.{Replicates};
+use grids::rounds::Grid;
+use matrices::Matrix;
 use outcomes::Outcome;
 use replicates::Window;
 use results::PiecebookConverted;
@@ -33,12 +35,12 @@ pub extern "C" fn piecebook_answer_with(
     shadows: &mut [u16],
     places: &mut [u16],
     answers: &mut [u8],
-    e: &mut [u64; 65536],
-    d: &mut [u64; 65536],
-    t: &mut [u64; 65536],
-    u: &mut [u64; 65536],
-    p: &mut [u64; 65536],
-    q: &mut [u64; 65536],
+    e: &mut Matrix,
+    d: &mut Matrix,
+    t: &mut Matrix,
+    u: &mut Matrix,
+    p: &mut Matrix,
+    q: &mut Matrix,
 ) -> PiecebookResult
     ensures exported { λ r. ⌜ Exported (now (book .entry)) (now (claims .entry)) (lent (now (parens .entry)) (now (marks .entry)) (now (shadows .entry)) (now (places .entry)) (now (answers .entry))) r (lent (now (parens .exit)) (now (marks .exit)) (now (shadows .exit)) (now (places .exit)) (now (answers .exit))) ⌝ }
     ensures demand2 { λ r. ⌜ Demand2 (now (book .entry)) (now (claims .entry)) (now (answers .exit)) (r .number) ⌝ }
@@ -71,12 +73,12 @@ pub extern "C" fn piecebook_index_with(
     marks: &mut [u8],
     shadows: &mut [u16],
     places: &mut [u16],
-    e: &mut [u64; 65536],
-    d: &mut [u64; 65536],
-    t: &mut [u64; 65536],
-    u: &mut [u64; 65536],
-    p: &mut [u64; 65536],
-    q: &mut [u64; 65536],
+    e: &mut Matrix,
+    d: &mut Matrix,
+    t: &mut Matrix,
+    u: &mut Matrix,
+    p: &mut Matrix,
+    q: &mut Matrix,
 ) -> PiecebookResult
     ensures exported { λ r. ⌜ Exported (now (book .entry)) [] (lent (now (parens .entry)) (now (marks .entry)) (now (shadows .entry)) (now (places .entry)) []) r (lent (now (parens .exit)) (now (marks .exit)) (now (shadows .exit)) (now (places .exit)) []) ⌝ }
     ensures demand2 { λ r. ⌜ Demand2 (now (book .entry)) [] [] (r .number) ⌝ }
@@ -93,21 +95,21 @@ pub extern "C" fn piecebook_index_with(
 pub struct PiecebookGrids {
     pub number: usize,
     pub place: usize,
-    pub part: [u64; 64],
-    pub apart: [u64; 64],
-    pub meets: [u64; 64],
-    pub notpart: [u64; 64],
+    pub part: Grid,
+    pub apart: Grid,
+    pub meets: Grid,
+    pub notpart: Grid,
 }
 
 #[no_mangle]
 pub extern "C" fn piecebook_grid_with(
     book: &[u8],
-    e: &mut [u64; 65536],
-    d: &mut [u64; 65536],
-    t: &mut [u64; 65536],
-    u: &mut [u64; 65536],
-    p: &mut [u64; 65536],
-    q: &mut [u64; 65536],
+    e: &mut Matrix,
+    d: &mut Matrix,
+    t: &mut Matrix,
+    u: &mut Matrix,
+    p: &mut Matrix,
+    q: &mut Matrix,
 ) -> PiecebookGrids
     ensures { λ r. ⌜ GridResult (now (book .entry)) r ⌝ }
 {
@@ -196,12 +198,12 @@ pub fn add_to(
     was: PiecebookWorking,
     area: &mut [u8],
     addition: &[u8],
-    e: &mut [u64; 65536],
-    d: &mut [u64; 65536],
-    t: &mut [u64; 65536],
-    u: &mut [u64; 65536],
-    p: &mut [u64; 65536],
-    q: &mut [u64; 65536],
+    e: &mut Matrix,
+    d: &mut Matrix,
+    t: &mut Matrix,
+    u: &mut Matrix,
+    p: &mut Matrix,
+    q: &mut Matrix,
 ) -> PiecebookWorked
     ensures { λ r. ⌜ Added was (now (area .entry)) (now (addition .entry)) (r .result) (r .working) (now (area .exit)) ⌝ }
 {
@@ -213,12 +215,12 @@ pub fn withdraw_from(
     was: PiecebookWorking,
     area: &mut [u8],
     number: usize,
-    e: &mut [u64; 65536],
-    d: &mut [u64; 65536],
-    t: &mut [u64; 65536],
-    u: &mut [u64; 65536],
-    p: &mut [u64; 65536],
-    q: &mut [u64; 65536],
+    e: &mut Matrix,
+    d: &mut Matrix,
+    t: &mut Matrix,
+    u: &mut Matrix,
+    p: &mut Matrix,
+    q: &mut Matrix,
 ) -> PiecebookWorked
     ensures { λ r. ⌜ Withdrawn was (now (area .entry)) number (r .result) (r .working) (now (area .exit)) ⌝ }
 {
@@ -230,12 +232,12 @@ pub fn ask_of(
     was: PiecebookWorking,
     area: &[u8],
     claim: &[u8],
-    e: &mut [u64; 65536],
-    d: &mut [u64; 65536],
-    t: &mut [u64; 65536],
-    u: &mut [u64; 65536],
-    p: &mut [u64; 65536],
-    q: &mut [u64; 65536],
+    e: &mut Matrix,
+    d: &mut Matrix,
+    t: &mut Matrix,
+    u: &mut Matrix,
+    p: &mut Matrix,
+    q: &mut Matrix,
 ) -> PiecebookWorkingResult
     ensures { λ r. ⌜ Answered was (now (area .entry)) (now (claim .entry)) r ⌝ }
 {
@@ -249,12 +251,12 @@ pub fn ask_of(
 pub extern "C" fn piecebook_start_with(
     state: &mut [usize; 2],
     area: &mut [u8],
-    e: &mut [u64; 65536],
-    d: &mut [u64; 65536],
-    t: &mut [u64; 65536],
-    u: &mut [u64; 65536],
-    p: &mut [u64; 65536],
-    q: &mut [u64; 65536],
+    e: &mut Matrix,
+    d: &mut Matrix,
+    t: &mut Matrix,
+    u: &mut Matrix,
+    p: &mut Matrix,
+    q: &mut Matrix,
 ) -> PiecebookWorkingResult
     ensures { λ r. ⌜ Started (now (state .entry)) (now (area .entry)) r (now (state .exit)) (now (area .exit)) ⌝ }
 {
@@ -273,12 +275,12 @@ pub extern "C" fn piecebook_add_with(
     state: &mut PiecebookWorking,
     area: &mut [u8],
     addition: &[u8],
-    e: &mut [u64; 65536],
-    d: &mut [u64; 65536],
-    t: &mut [u64; 65536],
-    u: &mut [u64; 65536],
-    p: &mut [u64; 65536],
-    q: &mut [u64; 65536],
+    e: &mut Matrix,
+    d: &mut Matrix,
+    t: &mut Matrix,
+    u: &mut Matrix,
+    p: &mut Matrix,
+    q: &mut Matrix,
 ) -> PiecebookWorkingResult
     ensures { λ r. ⌜ Added (now (state .entry)) (now (area .entry)) (now (addition .entry)) r (now (state .exit)) (now (area .exit)) ⌝ }
 {
@@ -292,12 +294,12 @@ pub extern "C" fn piecebook_withdraw_with(
     state: &mut PiecebookWorking,
     area: &mut [u8],
     number: usize,
-    e: &mut [u64; 65536],
-    d: &mut [u64; 65536],
-    t: &mut [u64; 65536],
-    u: &mut [u64; 65536],
-    p: &mut [u64; 65536],
-    q: &mut [u64; 65536],
+    e: &mut Matrix,
+    d: &mut Matrix,
+    t: &mut Matrix,
+    u: &mut Matrix,
+    p: &mut Matrix,
+    q: &mut Matrix,
 ) -> PiecebookWorkingResult
     ensures { λ r. ⌜ Withdrawn (now (state .entry)) (now (area .entry)) number r (now (state .exit)) (now (area .exit)) ⌝ }
 {
@@ -312,12 +314,12 @@ pub extern "C" fn piecebook_ask_with(
     state: &mut PiecebookWorking,
     area: &[u8],
     claim: &[u8],
-    e: &mut [u64; 65536],
-    d: &mut [u64; 65536],
-    t: &mut [u64; 65536],
-    u: &mut [u64; 65536],
-    p: &mut [u64; 65536],
-    q: &mut [u64; 65536],
+    e: &mut Matrix,
+    d: &mut Matrix,
+    t: &mut Matrix,
+    u: &mut Matrix,
+    p: &mut Matrix,
+    q: &mut Matrix,
 ) -> PiecebookWorkingResult
     ensures { λ r. ⌜ Answered (now (state .entry)) (now (area .entry)) (now (claim .entry)) r × (now (state .exit) ≡ now (state .entry)) ⌝ }
 {
@@ -328,9 +330,9 @@ pub extern "C" fn piecebook_ask_with(
 pub extern "C" fn piecebook_convert_with(
     book: &[u8],
     out: &mut [u8],
-    e: &mut [u64; 65536],
-    d: &mut [u64; 65536],
-    t: &mut [u64; 65536],
+    e: &mut Matrix,
+    d: &mut Matrix,
+    t: &mut Matrix,
 ) -> PiecebookConverted
     ensures converts { λ r. ⌜ Converts (now (book .entry)) (now (out .entry)) r (now (out .exit)) ⌝ }
     ensures accepted { λ r. ⌜ (r .number ≡ 0 → InForce (now (book .entry)) (converted (now (book .entry)))) ⌝ }
@@ -354,10 +356,10 @@ pub extern "C" fn piecebook_replicates_with(
     window: Window,
     log: &[u8],
     out: &mut [u8],
-    e: &mut [u64; 65536],
-    d: &mut [u64; 65536],
-    t: &mut [u64; 65536],
-    a: &mut [u64; 65536],
+    e: &mut Matrix,
+    d: &mut Matrix,
+    t: &mut Matrix,
+    a: &mut Matrix,
 ) -> PiecebookReplicatesResult
     ensures { λ r. ⌜ Replicates (now (book .entry)) window (now (log .entry)) (now (out .entry)) r (now (out .exit)) ⌝ }
 {
