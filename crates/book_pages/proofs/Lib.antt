@@ -4,3 +4,4 @@ pub mod Signs
 pub mod Rooms
 pub mod GridTexts
 pub mod ShowTexts
+pub mod Examples

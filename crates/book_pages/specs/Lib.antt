@@ -4,3 +4,4 @@ pub mod Sign
 pub mod GridText
 pub mod ShowText
 pub mod WordsText
+pub mod Examples

@@ -1,0 +1,3 @@
+pub mod News
+pub mod Mades
+pub mod Books

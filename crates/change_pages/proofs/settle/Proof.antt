@@ -1,0 +1,54 @@
+-- `change_pages::settle` meets its contract. Assumes nothing.
+use native.Mathlib.Omega.{arith}
+use borrow.Author.Needs.{needs}
+use mathlib.Core.Path.{sym}
+use lib.Seq.{length-take-le}
+use Rattle.change_pages.proofs.Mades.{made-as, made-none}
+use Rattle.change_pages.proofs.Books.{judged-refused, judged-accepted}
+use Rattle.change_pages.proofs.settle.Statement.{statement}
+use Rattle.change_pages.proofs.settle.Tie as tie
+
+slice-aggregate-judge-run : tie.Need-slice-aggregate-judge-run
+slice-aggregate-judge-run c = sym (length-take-le _ _ (c .before .before .before .before .pre))
+
+judge-run-requires : tie.Need-judge-run-requires
+judge-run-requires c κs = search needs
+
+enum-known-outcome : tie.Need-enum-known-outcome
+enum-known-outcome c = search needs
+
+refuse-requires : tie.Need-refuse-requires
+refuse-requires c κs = search needs
+
+enum-told : tie.Need-enum-told
+enum-told c = search needs
+
+accept-requires : tie.Need-accept-requires
+accept-requires c κs = c .before .before .before .before .before .before .before .before .before .before .before .before .before .before .pre
+
+same-length : tie.Need-same-length
+same-length c = search needs
+
+returns : tie.Need-returns
+returns c = made-none _ _ _ _ _ (made-as (judged-refused _ _ _ (c .before .before .before .before .before .before .before .judge-run .ensures) _ _ (c .before .before .before .before .before .outcome .given .1)) (c .before .before .refuse .ensures))
+
+same-length-2 : tie.Need-same-length-2
+same-length-2 c = search needs
+
+returns-2 : tie.Need-returns-2
+returns-2 c = made-as (judged-accepted _ _ _ (c .before .before .before .before .before .before .judge-run .ensures) _ _ _ (c .before .before .before .before .enum-told .given .1)) (c .before .before .accept .ensures)
+
+pub settle-spec : {M : Type 1} → statement M
+settle-spec =
+    tie.close
+    (tie.spec
+    slice-aggregate-judge-run
+    judge-run-requires
+    enum-known-outcome
+    refuse-requires
+    enum-told
+    accept-requires
+    same-length
+    returns
+    same-length-2
+    returns-2)

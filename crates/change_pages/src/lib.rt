@@ -1,0 +1,265 @@
+// The pages of the commands that write a file, and the new book that they write.
+ghost use mathlib.Core.Path.{_≡_};
+ghost use mathlib.Core.List.{[], _++_};
+ghost use Prim.Native.Nat.{_≤_};
+ghost use lib.ListN.{length, take};
+ghost use Rattle.outcomes.specs.Fresh.{freshCall};
+ghost use Rattle.pages.specs.Written.{Page};
+ghost use Rattle.sentences.specs.Refusals.{refused};
+ghost use Rattle.sentences.specs.Unread.{unreadLine};
+ghost use Rattle.change_pages.specs.Change.{New, Kept, newLine};
+ghost use Rattle.change_pages.specs.Changes.{judged, packing, converting, adding, withdrawing, withdrawn, without};
+ghost use Rattle.change_pages.specs.Made.{Made};
+use convert::Conversion;
+use outcomes::Outcome;
+use pages::Written;
+use records::Refusal;
+use sentences::sources::Source;
+use sentences::sources::Words;
+use text::Form;
+
+// The page, how many bytes of the lent ones are the new book, and whether there is one.
+pub struct Changed {
+    pub written: Written,
+    pub bytes: usize,
+    pub changed: bool,
+}
+
+// The line of a new book, on a page of its own.
+fn write_line(page: &mut [u8], run: &[u8]) -> Written
+    ensures { λ r. ⌜ Page (now (page .entry)) (newLine (now (run .entry))) (now (page .exit)) r ⌝ }
+    ensures { λ r. ⌜ length (newLine (now (run .entry))) ≤ 142 ⌝ }
+{
+    let at = pages::put(page, 0, b"RECORDS ");
+    let at = pages::put_number(page, at, run.len() / 6, b' ');
+    let at = pages::put(page, at, b"PIECES ");
+    let at = pages::put_number(page, at, records::piece_count(run), b'\n');
+    pages::finish(page.len(), at)
+}
+
+// The page of an empty book that was made.
+pub fn write_new(page: &mut [u8]) -> Written
+    ensures { λ r. ⌜ Page (now (page .entry)) (newLine []) (now (page .exit)) r ⌝ }
+    ensures { λ r. ⌜ length (newLine []) ≤ 142 ⌝ }
+{
+    let none = [0u8; 0];
+    write_line(page, &none)
+}
+
+// What cannot be read.
+fn tell(page: &mut [u8], whom: usize, bad: usize, reason: usize) -> Changed
+    ensures { λ r. ⌜ Made (Kept (unreadLine whom bad reason)) [] (now (page .entry)) (now (page .exit)) r ⌝ }
+{
+    let written = sentences::write_unread(page, whom, bad, reason);
+    Changed {
+        written,
+        bytes: 0,
+        changed: false,
+    }
+}
+
+// A refusal of the book.
+fn refuse(page: &mut [u8], refusal: Refusal, place: usize, source: &[u8]) -> Changed
+    ensures { λ r. ⌜ Made (Kept (refused refusal place (now (source .entry)) [])) [] (now (page .entry)) (now (page .exit)) r ⌝ }
+{
+    let end = sentences::put_refused_book(page, 0, refusal, place, source);
+    let written = pages::finish(page.len(), end);
+    Changed {
+        written,
+        bytes: 0,
+        changed: false,
+    }
+}
+
+// A new book, the first n of the lent bytes.
+fn accept(page: &mut [u8], out: &[u8], n: usize) -> Changed
+    requires { ⌜ n ≤ length (now out) ⌝ }
+    ensures { λ r. ⌜ Made (New (take n (now (out .entry)))) (now (out .entry)) (now (page .entry)) (now (page .exit)) r ⌝ }
+{
+    let written = write_line(page, &out[..n]);
+    Changed {
+        written,
+        bytes: n,
+        changed: true,
+    }
+}
+
+// What a fresh call on the first n of the lent bytes makes of them.
+fn settle(
+    page: &mut [u8],
+    source: &[u8],
+    out: &[u8],
+    n: usize,
+    e: &mut [u64; 65536],
+    d: &mut [u64; 65536],
+    t: &mut [u64; 65536],
+    u: &mut [u64; 65536],
+    p: &mut [u64; 65536],
+    q: &mut [u64; 65536],
+) -> Changed
+    requires { ⌜ n ≤ length (now out) ⌝ }
+    ensures { λ r. ⌜ Made (judged (now (source .entry)) (take n (now (out .entry))) (freshCall (take n (now (out .entry))) [])) (now (out .entry)) (now (page .entry)) (now (page .exit)) r ⌝ }
+{
+    let outcome = answers::judge_run(&out[..n], e, d, t, u, p, q);
+    match outcome {
+        Outcome::Refused(refusal, place) => refuse(page, refusal, place, source),
+        Outcome::Accepted(_, _, _) => accept(page, out, n),
+    }
+}
+
+// A book in either form as records.
+pub fn write_packed(
+    source: &[u8],
+    out: &mut [u8; 49164],
+    page: &mut [u8],
+    e: &mut [u64; 65536],
+    d: &mut [u64; 65536],
+    t: &mut [u64; 65536],
+    u: &mut [u64; 65536],
+    p: &mut [u64; 65536],
+    q: &mut [u64; 65536],
+) -> Changed
+    ensures { λ r. ⌜ Made (packing (now (source .entry))) (now (out .exit)) (now (page .entry)) (now (page .exit)) r ⌝ }
+{
+    let read = sentences::sources::read_source(Form::Records, source, out);
+    match read {
+        Source::Unread(bad, reason) => tell(page, sentences::BOOK, bad, reason),
+        Source::Bytes(n) => settle(page, source, out, n, e, d, t, u, p, q),
+    }
+}
+
+// A book of the former edition, converted.
+pub fn write_converted(
+    source: &[u8],
+    out: &mut [u8; 49164],
+    page: &mut [u8],
+    e: &mut [u64; 65536],
+    d: &mut [u64; 65536],
+    t: &mut [u64; 65536],
+) -> Changed
+    ensures { λ r. ⌜ Made (converting (now (source .entry))) (now (out .exit)) (now (page .entry)) (now (page .exit)) r ⌝ }
+{
+    let mut book = [0u8; 49158];
+    let read = sentences::sources::read_source(Form::Records, source, &mut book);
+    match read {
+        Source::Unread(bad, reason) => tell(page, sentences::BOOK, bad, reason),
+        Source::Bytes(n) => {
+            let made = convert::convert(&book[..n], out, e, d, t);
+            match made {
+                Conversion::Refused(refusal, place) => refuse(page, refusal, place, source),
+                Conversion::Written(k) => accept(page, out, k),
+            }
+        }
+    }
+}
+
+// A book of records with six bytes behind it.
+fn extend(
+    book: &[u8],
+    six: [u8; 6],
+    source: &[u8],
+    out: &mut [u8; 49164],
+    page: &mut [u8],
+    e: &mut [u64; 65536],
+    d: &mut [u64; 65536],
+    t: &mut [u64; 65536],
+    u: &mut [u64; 65536],
+    p: &mut [u64; 65536],
+    q: &mut [u64; 65536],
+) -> Changed
+    requires { ⌜ length (now book) ≤ 49158 ⌝ }
+    ensures { λ r. ⌜ Made (judged (now (source .entry)) (now (book .entry) ++ six) (freshCall (now (book .entry) ++ six) [])) (now (out .exit)) (now (page .entry)) (now (page .exit)) r ⌝ }
+{
+    let n = book.len() + 6;
+    working::runs::write_runs(book, &six, out);
+    settle(page, source, out, n, e, d, t, u, p, q)
+}
+
+// The book with the record in the words.
+pub fn write_added(
+    source: &[u8],
+    words: &[u8],
+    out: &mut [u8; 49164],
+    page: &mut [u8],
+    e: &mut [u64; 65536],
+    d: &mut [u64; 65536],
+    t: &mut [u64; 65536],
+    u: &mut [u64; 65536],
+    p: &mut [u64; 65536],
+    q: &mut [u64; 65536],
+) -> Changed
+    ensures { λ r. ⌜ Made (adding (now (source .entry)) (now (words .entry))) (now (out .exit)) (now (page .entry)) (now (page .exit)) r ⌝ }
+{
+    let said = sentences::sources::read_words(Form::Records, words);
+    match said {
+        Words::Wrong(reason) => tell(page, sentences::WORDS, 0, reason),
+        Words::Entry(record) => {
+            if text::is_text(source) {
+                return tell(page, sentences::BOOK, 0, 6);
+            }
+            let n = numbers::smaller_of(source.len(), 49158);
+            let six = sentences::sources::six_bytes(record);
+            extend(&source[..n], six, source, out, page, e, d, t, u, p, q)
+        }
+    }
+}
+
+// The outcome of a book without record i, whose bytes are written to `out`.
+fn withdraw(
+    book: &[u8],
+    i: usize,
+    source: &[u8],
+    out: &mut [u8; 49164],
+    page: &mut [u8],
+    e: &mut [u64; 65536],
+    d: &mut [u64; 65536],
+    t: &mut [u64; 65536],
+    u: &mut [u64; 65536],
+    p: &mut [u64; 65536],
+    q: &mut [u64; 65536],
+) -> Changed
+    requires { ⌜ length (now book) ≤ 49158 ⌝ }
+    ensures { λ r. ⌜ Made (judged (now (source .entry)) (without (now (book .entry)) i) (withdrawn (now (book .entry)) i)) (now (out .exit)) (now (page .entry)) (now (page .exit)) r ⌝ }
+{
+    let end = book.len();
+    if end % 6 != 0 {
+        return refuse(page, Refusal::BookLength, 0, source);
+    }
+    if 8192 < end / 6 {
+        return refuse(page, Refusal::TooManyRecords, 0, source);
+    }
+    if end / 6 <= i {
+        return refuse(page, Refusal::NotStanding, 0, source);
+    }
+    working::runs::write_without(book, 6 * i, end, out);
+    let n = end - 6;
+    settle(page, source, out, n, e, d, t, u, p, q)
+}
+
+// The book without the record whose number is in the words.
+pub fn write_withdrawn(
+    source: &[u8],
+    words: &[u8],
+    out: &mut [u8; 49164],
+    page: &mut [u8],
+    e: &mut [u64; 65536],
+    d: &mut [u64; 65536],
+    t: &mut [u64; 65536],
+    u: &mut [u64; 65536],
+    p: &mut [u64; 65536],
+    q: &mut [u64; 65536],
+) -> Changed
+    ensures { λ r. ⌜ Made (withdrawing (now (source .entry)) (now (words .entry))) (now (out .exit)) (now (page .entry)) (now (page .exit)) r ⌝ }
+{
+    let said = sentences::sources::read_words(Form::Log, words);
+    match said {
+        Words::Wrong(reason) => tell(page, sentences::WORDS, 0, reason),
+        Words::Entry(number) => {
+            if text::is_text(source) {
+                return tell(page, sentences::BOOK, 0, 6);
+            }
+            let n = numbers::smaller_of(source.len(), 49158);
+            withdraw(&source[..n], number.a, source, out, page, e, d, t, u, p, q)
+        }
+    }
+}
