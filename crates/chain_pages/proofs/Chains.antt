@@ -1,8 +1,8 @@
 -- What the writer of chains leaves, for a buffer of 16,400 steps. Assumes nothing.
 use Prim.Native.Nat.{ℕ, _*_, _≤_}
-use mathlib.Core.Path.{_≡_, refl, _∙_, ap, sym}
-use mathlib.Core.Bool.{Bool, true, false, not}
-use mathlib.Core.List.{List, []}
+use mathlib.Core.Path.{_≡_, _∙_, ap}
+use mathlib.Core.Bool.{not}
+use mathlib.Core.List.{List}
 use native.Mathlib.Omega.{arith}
 use lib.Dec.{eqb}
 use lib.ListN.{length, take}
@@ -19,10 +19,8 @@ use Rattle.verdicts.specs.declared.Answer.{Answer}
 use Rattle.outcomes.specs.Call.{byClaims}
 use Rattle.outcomes.specs.One.{refuseIf, byOne}
 use Rattle.outcomes.specs.declared.Outcome.{Outcome}
-use Rattle.outcomes.specs.declared.Outcome.the-variants as call
-use Rattle.chain_check.specs.Call.{asked, passes}
+use Rattle.chain_check.specs.Call.{asked}
 use Rattle.chain_writing.specs.Call.{replyOf, reply, shown, Written}
-use Rattle.chain_writing.specs.declared.Reply.{Reply}
 use Rattle.chain_writing.specs.declared.Reply.the-variants.{Answered, Refused}
 use Rattle.chain_writing.specs.declared.Chain.{Chain}
 use Rattle.chain_text.specs.Verified.{said}

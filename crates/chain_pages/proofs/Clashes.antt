@@ -1,8 +1,8 @@
 -- The page of `why` without a claim, by the outcome and by the source. Assumes nothing.
 use Prim.Native.Nat.{ℕ, _*_, _≤_, _<_, _^_}
 use mathlib.Core.Path.{_≡_, refl, sym, ap, subst, _∙_}
-use mathlib.Core.Bool.{true, false, false≢true}
-use mathlib.Core.List.{List, [], _++_}
+use mathlib.Core.Bool.{false≢true}
+use mathlib.Core.List.{List, []}
 use native.Mathlib.Omega.{arith}
 use lib.ListN.{length, take, length-append}
 use Rattle.lists.proofs.Bools.{Known, is-true, is-false, known}
@@ -17,7 +17,7 @@ use Rattle.clash.specs.declared.Clash as call
 use Rattle.pages.specs.Put.{Put}
 use Rattle.pages.specs.Written.{writtenAt}
 use Rattle.pages.specs.declared.Written as laid
-use Rattle.pages.proofs.Puts.{chain, put-as}
+use Rattle.pages.proofs.Puts.{chain}
 use Rattle.text.specs.declared.Form.the-variants.{Records}
 use Rattle.text.specs.Text.{Entries}
 use Rattle.text.specs.Either.{readEither}

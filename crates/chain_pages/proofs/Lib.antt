@@ -5,4 +5,6 @@ pub mod Asking
 pub mod Clashes
 pub mod Verdicts
 pub mod WhyVerifies
+pub mod Passing
 pub mod SessionWhy
+pub mod SessionClash

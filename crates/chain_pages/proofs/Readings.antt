@@ -3,7 +3,7 @@ use Prim.Native.Nat.{ℕ}
 use mathlib.Core.Path.{_≡_, sym, _∙_}
 use mathlib.Core.List.{List, []}
 use native.Mathlib.Omega.{arith}
-use Rattle.text.specs.Text.{Reading, Entries, Broken}
+use Rattle.text.specs.Text.{Reading, Entries}
 use Rattle.sentences.specs.Sources.{Breaks}
 use Rattle.chain_text.specs.ChainText.{Bytes}
 

@@ -1,10 +1,10 @@
 -- What `why` prints for FOLLOWS and DENIED verifies. Assumes nothing.
-use Prim.Native.Nat.{ℕ, zero, suc, _≤_, _<_}
+use Prim.Native.Nat.{ℕ, zero, suc}
 use mathlib.Core.Path.{_≡_, refl, sym, ap, subst, _∙_}
-use mathlib.Core.Bool.{true, false, false≢true}
-use mathlib.Core.List.{List, [], _∷_}
+use mathlib.Core.Bool.{true, false≢true}
+use mathlib.Core.List.{List}
 use native.Mathlib.Omega.{arith}
-use lib.ListN.{length, getD, take}
+use lib.ListN.{take}
 use Rattle.records.specs.declared.Record.{Record}
 use Rattle.records.specs.Record.{recordAt}
 use Rattle.chain_writing.specs.Call.{shown}
@@ -21,11 +21,11 @@ use Rattle.sentences.proofs.Readings.{of-read}
 use Rattle.sentences.proofs.Arguments.{of-entry}
 use Rattle.chain_text.specs.ChainText.{chainText, Bytes}
 use Rattle.chain_text.specs.Verified.{said, Verified}
-use Rattle.chain_text.proofs.Plains.{Passing, passing-is}
+use Rattle.chain_text.proofs.Plains.{passing-is}
 use Rattle.chain_text.proofs.Verifying.{answer-verifies}
 use Rattle.chain_writing.proofs.Replies.{kind-of}
 use Rattle.chain_pages.specs.WhyText.{whyText, whyPage}
-use Rattle.chain_pages.specs.Why.{Asks, Why, textOf, WhyVerifies}
+use Rattle.chain_pages.specs.Why.{Asks, textOf, WhyVerifies}
 
 -- a claim with steps that pass has a known kind and a choice, so its six bytes are bytes
 claim-bytes : (book chain : List ℕ) (r : Record) → passes book (sixBytes r) chain ≡ true → Bytes (sixBytes r)

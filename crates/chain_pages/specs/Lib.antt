@@ -3,3 +3,4 @@ pub mod Why
 pub mod Clash
 pub mod Verdict
 pub mod SessionWhy
+pub mod SessionClash

@@ -1,5 +1,4 @@
 // The page of `why` with a claim: the claim with its answer, and a chain behind it.
-ghost use mathlib.Core.Path.{_≡_};
 ghost use Prim.Native.Nat.{_≤_};
 ghost use lib.ListN.{length};
 ghost use Rattle.pages.specs.Put.{Put};

@@ -1,7 +1,7 @@
 -- The fields of the answer's line, without and with the choice of facts. Assumes nothing.
 use Prim.Native.Nat.{ℕ, zero, suc}
 use mathlib.Core.Path.{_≡_, refl}
-use mathlib.Core.List.{List, _∷_, [], _++_}
+use mathlib.Core.List.{_∷_, [], _++_}
 use Rattle.pages.specs.Text.{ascii, field, line}
 use Rattle.pages.specs.Decimal.{decimal}
 use Rattle.records.specs.declared.Record.{Record}

@@ -1,7 +1,7 @@
 -- What a step rests on, by how many numbers it names. Assumes nothing.
 use Prim.Native.Nat.{ℕ, zero, suc}
 use mathlib.Core.Path.{_≡_, refl, sym}
-use mathlib.Core.List.{List, _∷_, _++_}
+use mathlib.Core.List.{_∷_, _++_}
 use Rattle.pages.specs.Text.{field, line}
 use Rattle.pages.specs.Decimal.{decimal}
 use Rattle.pages.specs.Entry.{entry}

@@ -1,15 +1,13 @@
 -- How long the lines of a chain are. Assumes nothing.
-use Prim.Native.Nat.{ℕ, zero, suc, _+_, _*_, _≤_, _<_, _^_}
-use mathlib.Core.Path.{_≡_}
+use Prim.Native.Nat.{ℕ, zero, suc, _+_, _*_, _≤_, _<_}
 use mathlib.Core.List.{List, [], _∷_, _++_}
 use native.Mathlib.Omega.{arith}
 use lib.ListN.{length, getD, length-append}
 use Rattle.pages.specs.Text.{line}
 use Rattle.pages.proofs.Decimals.{decimal-length}
-use Rattle.records.specs.declared.Record.{Record}
 use Rattle.records.specs.Record.{recordAt}
 use Rattle.chain_format.specs.declared.steps.Step.{Step}
-use Rattle.chain_format.specs.Step.{stepAt, steps}
+use Rattle.chain_format.specs.Step.{stepAt}
 use Rattle.pages.specs.Entry.{entry}
 use Rattle.pages.proofs.Entries.{widest, entry-width}
 use Rattle.pages.proofs.Lined.{lines-length}

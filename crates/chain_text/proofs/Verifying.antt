@@ -2,7 +2,7 @@
 use Prim.Native.Nat.{ℕ}
 use mathlib.Core.Path.{_≡_, refl, sym, ap, _∙_}
 use mathlib.Core.Logic.{_⊎_, inl, inr}
-use mathlib.Core.Bool.{true, false, false≢true}
+use mathlib.Core.Bool.{true, false≢true}
 use mathlib.Core.List.{List}
 use native.Mathlib.Omega.{arith}
 use Rattle.rules.specs.Fact.{Fact, opposite}
@@ -19,7 +19,7 @@ use Rattle.chain_check.proofs.Meaning.{chain-derives}
 use Rattle.chain_writing.specs.Call.{answerTo, replyOf}
 use Rattle.chain_writing.specs.declared.Reply.the-variants.{Answered}
 use Rattle.chain_writing.proofs.Replies.{answered-byte}
-use Rattle.chain_text.specs.Verified.{tells, said, Verified, SaysSo, AnswerVerifies}
+use Rattle.chain_text.specs.Verified.{tells, said, SaysSo, AnswerVerifies}
 
 tells-one : (a : Answer) (f : Fact) (c : List ℕ) → answerByte a ≡ 1 → Concludes c f → tells a f c ≡ true
 unfolding tells

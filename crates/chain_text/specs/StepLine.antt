@@ -10,7 +10,7 @@ use Rattle.chain_format.specs.declared.steps.Step.{Step}
 use Rattle.chain_format.specs.Step.{stepAt}
 use Rattle.pages.specs.Lines.{lines}
 
--- for each rule of `steps` `Rule`, by number, its words, and how many numbers stand behind them: a record's, or two earlier steps'
+-- for each rule of `chain_format` `Rule`, by number, its words, and how many numbers stand behind them: a record's, or two earlier steps'
 abbrev pub grounds : List ℕ
 grounds = ascii "RECORD\nRULE a FROM\nRULE b FROM\nRULE c\nRULE f\nRULE a' FROM\nRULE b' FROM\nRULE c' FROM\nRULE d' FROM\nRULE e'\nRULE d RECORD\nRULE e RECORD\n"
 

@@ -2,7 +2,6 @@
 use native.Mathlib.Omega.{arith}
 use borrow.Author.Needs.{needs}
 use Rattle.chain_text.proofs.Passes.{behind-page, too-short, stands, stands-not}
-use lib.ListN.{length}
 use mathlib.Core.Path.{refl, sym, _∙_}
 use mathlib.Core.Bool.{false≢true}
 use Rattle.chain_text.proofs.comparing.pass.Statement.{statement}

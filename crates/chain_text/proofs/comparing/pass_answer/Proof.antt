@@ -3,7 +3,6 @@ use native.Mathlib.Omega.{arith}
 use borrow.Author.Needs.{needs}
 use mathlib.Core.Path.{sym}
 use lib.Seq.{length-take-le}
-use Prim.Native.Nat.{ℕ}
 use Rattle.pages.proofs.Puts.{put-as}
 use Rattle.chain_text.proofs.Passes.{put-inside, put-passed, answered-as, answer-fits}
 use Rattle.chain_text.proofs.comparing.pass_answer.Statement.{statement}
