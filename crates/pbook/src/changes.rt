@@ -5,6 +5,7 @@ use crate::commands::Export;
 use crate::reading::end_of;
 use files::changing;
 use files::changing::Standing;
+use matrices::Matrix;
 
 // A book that was read under a lock: the lock's descriptor, how many bytes were read, the file's mode. Where that failed it was told, and nothing is left.
 struct Open {
@@ -72,12 +73,12 @@ fn change_book(
     words: &[u8],
     source: &mut [u8],
     page: &mut [u8],
-    e: &mut [u64; 65536],
-    d: &mut [u64; 65536],
-    t: &mut [u64; 65536],
-    u: &mut [u64; 65536],
-    p: &mut [u64; 65536],
-    q: &mut [u64; 65536],
+    e: &mut Matrix,
+    d: &mut Matrix,
+    t: &mut Matrix,
+    u: &mut Matrix,
+    p: &mut Matrix,
+    q: &mut Matrix,
 ) {
     let open = open_book(path, source);
     if open.failed {
@@ -115,12 +116,12 @@ pub fn change(
     which: Change,
     source: &mut [u8],
     page: &mut [u8],
-    e: &mut [u64; 65536],
-    d: &mut [u64; 65536],
-    t: &mut [u64; 65536],
-    u: &mut [u64; 65536],
-    p: &mut [u64; 65536],
-    q: &mut [u64; 65536],
+    e: &mut Matrix,
+    d: &mut Matrix,
+    t: &mut Matrix,
+    u: &mut Matrix,
+    p: &mut Matrix,
+    q: &mut Matrix,
 ) {
     let mut line = io::buffer();
     let said = crate::arguments::words(3, &mut line);
@@ -192,12 +193,12 @@ fn export_book(
     target: &[u8],
     source: &mut [u8],
     page: &mut [u8],
-    e: &mut [u64; 65536],
-    d: &mut [u64; 65536],
-    t: &mut [u64; 65536],
-    u: &mut [u64; 65536],
-    p: &mut [u64; 65536],
-    q: &mut [u64; 65536],
+    e: &mut Matrix,
+    d: &mut Matrix,
+    t: &mut Matrix,
+    u: &mut Matrix,
+    p: &mut Matrix,
+    q: &mut Matrix,
 ) {
     let open = open_other(target, path, source);
     if open.failed {
@@ -222,12 +223,12 @@ pub fn export(
     which: Export,
     source: &mut [u8],
     page: &mut [u8],
-    e: &mut [u64; 65536],
-    d: &mut [u64; 65536],
-    t: &mut [u64; 65536],
-    u: &mut [u64; 65536],
-    p: &mut [u64; 65536],
-    q: &mut [u64; 65536],
+    e: &mut Matrix,
+    d: &mut Matrix,
+    t: &mut Matrix,
+    u: &mut Matrix,
+    p: &mut Matrix,
+    q: &mut Matrix,
 ) {
     let mut path = io::buffer();
     let book = crate::arguments::path(2, &mut path);

@@ -5,6 +5,7 @@ use crate::commands::Export;
 use crate::commands::InputPage;
 use crate::commands::WordsPage;
 use change_pages::Changed;
+use matrices::Matrix;
 use pages::Written;
 use text::Form;
 
@@ -12,12 +13,12 @@ pub fn book_page(
     which: BookPage,
     source: &[u8],
     page: &mut [u8],
-    e: &mut [u64; 65536],
-    d: &mut [u64; 65536],
-    t: &mut [u64; 65536],
-    u: &mut [u64; 65536],
-    p: &mut [u64; 65536],
-    q: &mut [u64; 65536],
+    e: &mut Matrix,
+    d: &mut Matrix,
+    t: &mut Matrix,
+    u: &mut Matrix,
+    p: &mut Matrix,
+    q: &mut Matrix,
 ) -> Written {
     match which {
         BookPage::Check => book_pages::session::write_check(source, page, e, d, t, u, p, q),
@@ -32,12 +33,12 @@ pub fn words_page(
     source: &[u8],
     words: &[u8],
     page: &mut [u8],
-    e: &mut [u64; 65536],
-    d: &mut [u64; 65536],
-    t: &mut [u64; 65536],
-    u: &mut [u64; 65536],
-    p: &mut [u64; 65536],
-    q: &mut [u64; 65536],
+    e: &mut Matrix,
+    d: &mut Matrix,
+    t: &mut Matrix,
+    u: &mut Matrix,
+    p: &mut Matrix,
+    q: &mut Matrix,
 ) -> Written {
     match which {
         WordsPage::Ask => book_pages::session::write_ask_words(
@@ -74,12 +75,12 @@ pub fn input_page(
     source: &[u8],
     input: &[u8],
     page: &mut [u8],
-    e: &mut [u64; 65536],
-    d: &mut [u64; 65536],
-    t: &mut [u64; 65536],
-    u: &mut [u64; 65536],
-    p: &mut [u64; 65536],
-    q: &mut [u64; 65536],
+    e: &mut Matrix,
+    d: &mut Matrix,
+    t: &mut Matrix,
+    u: &mut Matrix,
+    p: &mut Matrix,
+    q: &mut Matrix,
 ) -> Written {
     match which {
         InputPage::Ask => book_pages::session::write_ask(source, input, page, e, d, t, u, p, q),
@@ -101,12 +102,12 @@ pub fn change_page(
     words: &[u8],
     out: &mut [u8; 49164],
     page: &mut [u8],
-    e: &mut [u64; 65536],
-    d: &mut [u64; 65536],
-    t: &mut [u64; 65536],
-    u: &mut [u64; 65536],
-    p: &mut [u64; 65536],
-    q: &mut [u64; 65536],
+    e: &mut Matrix,
+    d: &mut Matrix,
+    t: &mut Matrix,
+    u: &mut Matrix,
+    p: &mut Matrix,
+    q: &mut Matrix,
 ) -> Changed {
     match which {
         Change::Add => change_pages::write_added(source, words, out, page, e, d, t, u, p, q),
@@ -130,12 +131,12 @@ pub fn export_page(
     source: &[u8],
     out: &mut [u8; 49164],
     page: &mut [u8],
-    e: &mut [u64; 65536],
-    d: &mut [u64; 65536],
-    t: &mut [u64; 65536],
-    u: &mut [u64; 65536],
-    p: &mut [u64; 65536],
-    q: &mut [u64; 65536],
+    e: &mut Matrix,
+    d: &mut Matrix,
+    t: &mut Matrix,
+    u: &mut Matrix,
+    p: &mut Matrix,
+    q: &mut Matrix,
 ) -> Changed {
     match which {
         Export::Pack => change_pages::write_packed(source, out, page, e, d, t, u, p, q),

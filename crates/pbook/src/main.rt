@@ -1,4 +1,6 @@
 // The laboratory's program: a command, a book, and words in the arguments; a page out. The arrays stand here, and each family of commands is lent what it uses.
+use matrices::Matrix;
+
 mod arguments;
 mod buffers;
 mod changes;
@@ -27,12 +29,12 @@ fn run(
     other: &mut [u8],
     long: &mut [u8],
     short: &mut [u8],
-    e: &mut [u64; 65536],
-    d: &mut [u64; 65536],
-    t: &mut [u64; 65536],
-    u: &mut [u64; 65536],
-    p: &mut [u64; 65536],
-    q: &mut [u64; 65536],
+    e: &mut Matrix,
+    d: &mut Matrix,
+    t: &mut Matrix,
+    u: &mut Matrix,
+    p: &mut Matrix,
+    q: &mut Matrix,
 ) {
     let command = named();
     match command {
@@ -53,12 +55,12 @@ fn main() {
     let mut other = buffers::text();
     let mut long = buffers::long_page();
     let mut short = buffers::page();
-    let mut e = [0u64; 65536];
-    let mut d = [0u64; 65536];
-    let mut t = [0u64; 65536];
-    let mut u = [0u64; 65536];
-    let mut p = [0u64; 65536];
-    let mut q = [0u64; 65536];
+    let mut e = [0u64; matrices::WORDS];
+    let mut d = [0u64; matrices::WORDS];
+    let mut t = [0u64; matrices::WORDS];
+    let mut u = [0u64; matrices::WORDS];
+    let mut p = [0u64; matrices::WORDS];
+    let mut q = [0u64; matrices::WORDS];
     run(
         &mut source,
         &mut other,

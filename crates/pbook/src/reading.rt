@@ -4,6 +4,7 @@ use crate::commands::BookPage;
 use crate::commands::InputPage;
 use crate::commands::WordsPage;
 use files::Got;
+use matrices::Matrix;
 use pages::Written;
 
 // Where a page ends. Each page here has the room that always serves.
@@ -36,12 +37,12 @@ pub fn book(
     which: BookPage,
     source: &mut [u8],
     page: &mut [u8],
-    e: &mut [u64; 65536],
-    d: &mut [u64; 65536],
-    t: &mut [u64; 65536],
-    u: &mut [u64; 65536],
-    p: &mut [u64; 65536],
-    q: &mut [u64; 65536],
+    e: &mut Matrix,
+    d: &mut Matrix,
+    t: &mut Matrix,
+    u: &mut Matrix,
+    p: &mut Matrix,
+    q: &mut Matrix,
 ) {
     let got = read_named(2, source);
     if got.failed {
@@ -57,12 +58,12 @@ pub fn words(
     which: WordsPage,
     source: &mut [u8],
     page: &mut [u8],
-    e: &mut [u64; 65536],
-    d: &mut [u64; 65536],
-    t: &mut [u64; 65536],
-    u: &mut [u64; 65536],
-    p: &mut [u64; 65536],
-    q: &mut [u64; 65536],
+    e: &mut Matrix,
+    d: &mut Matrix,
+    t: &mut Matrix,
+    u: &mut Matrix,
+    p: &mut Matrix,
+    q: &mut Matrix,
 ) {
     let mut line = io::buffer();
     let said = crate::arguments::words(3, &mut line);
@@ -100,12 +101,12 @@ pub fn input(
     source: &mut [u8],
     input: &mut [u8],
     page: &mut [u8],
-    e: &mut [u64; 65536],
-    d: &mut [u64; 65536],
-    t: &mut [u64; 65536],
-    u: &mut [u64; 65536],
-    p: &mut [u64; 65536],
-    q: &mut [u64; 65536],
+    e: &mut Matrix,
+    d: &mut Matrix,
+    t: &mut Matrix,
+    u: &mut Matrix,
+    p: &mut Matrix,
+    q: &mut Matrix,
 ) {
     let got = read_named(2, source);
     if got.failed {
@@ -126,12 +127,12 @@ pub fn verify(
     source: &mut [u8],
     chain: &mut [u8],
     page: &mut [u8],
-    e: &mut [u64; 65536],
-    d: &mut [u64; 65536],
-    t: &mut [u64; 65536],
-    u: &mut [u64; 65536],
-    p: &mut [u64; 65536],
-    q: &mut [u64; 65536],
+    e: &mut Matrix,
+    d: &mut Matrix,
+    t: &mut Matrix,
+    u: &mut Matrix,
+    p: &mut Matrix,
+    q: &mut Matrix,
 ) {
     let got = read_named(2, source);
     if got.failed {
@@ -152,12 +153,12 @@ pub fn compare(
     second: &mut [u8],
     claims: &mut [u8],
     page: &mut [u8],
-    e: &mut [u64; 65536],
-    d: &mut [u64; 65536],
-    t: &mut [u64; 65536],
-    u: &mut [u64; 65536],
-    p: &mut [u64; 65536],
-    q: &mut [u64; 65536],
+    e: &mut Matrix,
+    d: &mut Matrix,
+    t: &mut Matrix,
+    u: &mut Matrix,
+    p: &mut Matrix,
+    q: &mut Matrix,
 ) {
     let got = read_named(2, source);
     if got.failed {
