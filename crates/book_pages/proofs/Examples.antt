@@ -25,7 +25,7 @@ use Rattle.groups.specs.Groups as groups
 use Rattle.groups.specs.Index.{edges, bookVisits}
 use Rattle.outcomes.specs.Call.{byRuns, byClaims, byBook}
 use Rattle.outcomes.specs.Fresh.{freshCall}
-use Rattle.grids.specs.Sheet.{bySize, gridOutcome}
+use Rattle.grids.specs.Gridded.{bySize, gridOutcome}
 use Rattle.text.specs.Runs.{blank, ofSort, run, behind}
 use Rattle.text.specs.Word.{word, rest}
 use Rattle.text.specs.Number.{isDigit, digits, value, numberFrom, number}
