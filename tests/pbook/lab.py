@@ -13,9 +13,12 @@ LOCK = ".lock"
 
 class Lab:
     def __init__(self, binary):
-        self.binary = str(pathlib.Path(binary).resolve())
         self.passed = self.failed = 0
         self.folder = pathlib.Path(tempfile.mkdtemp(prefix="pbook-"))
+        self.folder.chmod(0o755)
+        # a copy, where nobody may run it too
+        self.binary = str(self.folder / "pbook")
+        shutil.copy(binary, self.binary)
         self.made = 0
         self.lines = set()  # the first words of the pages that were as they should be
 

@@ -34,7 +34,7 @@ def main():
     os.umask(0o022)
     binary = sys.argv[1] if len(sys.argv) > 1 else HERE.parent.parent / "target" / "bin" / "pbook"
     os.environ["PBOOK"] = str(pathlib.Path(binary).resolve())
-    lab = Lab(binary)
+    lab = Lab(os.environ["PBOOK"])
     try:
         for part in (all_manual, all_pages, all_files, all_deep):
             part(lab)
