@@ -1,5 +1,4 @@
 // The laboratory's program: a command, a book, and words in the arguments; a page out. The arrays stand here, and each family of commands is lent what it uses.
-use matrices::Matrix;
 
 mod arguments;
 mod buffers;
@@ -9,6 +8,7 @@ mod desk;
 mod reading;
 
 use commands::Command;
+use matrices::Matrix;
 
 // The list of commands.
 fn help() {
