@@ -25,7 +25,7 @@ pub fn reading_of(read: Read) -> PiecebookReading
             length,
         },
         Read::Unread(line, reason) => PiecebookReading {
-            number: crate::results::wide(text::reason_number(reason)),
+            number: numbers::wide(text::reason_number(reason)),
             line,
             length: 0,
         },
