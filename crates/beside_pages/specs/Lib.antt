@@ -1,2 +1,3 @@
 pub mod LogText
 pub mod ComparisonText
+pub mod Examples
