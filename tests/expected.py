@@ -1,5 +1,5 @@
 #!/usr/bin/env python3
-"""What the gate's programs must print, worked out from document 01 and not from the programs.
+"""What the gate's programs must print, worked out from the documents and not from the programs.
 
     expected.py CRATE     print what the program CRATE must write
     expected.py --check   compare each stored crates/CRATE/stdout with what tests/runs/CRATE.py says;
