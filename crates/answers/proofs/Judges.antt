@@ -36,13 +36,13 @@ module _ (s : List ℕ) (n : ℕ) (sound : Counted s n) where
   refuses place C =
       let q = C .last in
       let k : place ≡ shortestClash (marked s) n (entries s) - 1 = omega arith in
-      rw (le-leb (shortestClash (marked s) n (entries s)) (records s) (clashed-within (counted-settleable s sound) (marked s) (counted-unmarked s sound) C), byRuns) (ap (Refused Contradiction) k)
+      rw (le-leb (shortestClash (marked s) n (entries s)) (records s) (clashed-within s (counted-settleable s sound .bounded) (marked s) (counted-unmarked s sound) C), byRuns) (ap (Refused Contradiction) k)
 
   pub accepts :
       (nodes shadows : ℕ) → false ≡ clash (marked s) n (facts s) → nodes ≡ length (bookVisits n (pairsOf s)) → shadows ≡ length (on.shadows (bookVisits n (pairsOf s)))
       → Accepted n nodes shadows ≡ byRuns s n
   unfolding byRuns
-  accepts nodes shadows c e f = rw (lt-leb (shortestClash (marked s) n (entries s)) (records s) (free-beyond (counted-settleable s sound) (marked s) (counted-unmarked s sound) c), byRuns, e, f)
+  accepts nodes shadows c e f = rw (lt-leb (shortestClash (marked s) n (entries s)) (records s) (free-beyond s (counted-settleable s sound .bounded) (marked s) (counted-unmarked s sound) c), byRuns, e, f)
 
 pub cleared-at :
     {w x y z : ℕ} {a b c d : List ℕ} → w ≡ 2560 → x ≡ 1280 → y ≡ 8192 → z ≡ 2048 → Cleared w x y z a b c d → Cleared 2560 1280 8192 2048 a b c d

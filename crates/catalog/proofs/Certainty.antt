@@ -56,7 +56,7 @@ module _ (s : List ℕ) (k g : ℕ) where
     where
       pick : Known (leb (shortestClash (marked s) n (entries s)) (records s)) → false ≡ clash (marked s) n (facts s)
       pick (is-true h) = absurd (omega (arith, rw (h, answers.byRuns, byIndex, number) at e))
-      pick (is-false h) = beyond-free (settleable s n sound) (marked s) (whole-unmarked s n sound) (leb-false _ _ h)
+      pick (is-false h) = beyond-free s (settleable s n sound .bounded) (marked s) (whole-unmarked s n sound) (leb-false _ _ h)
 
   books : (b : BookCheck) → bookCheck s ≡ b → number (byBook s k g b) ≡ 0 → (n : ℕ) × Sound s k g n
   unfolding byBook byAsked
@@ -92,7 +92,7 @@ module _ (s : List ℕ) (k g : ℕ) where
         let w = S .bounded .within in
         let p = S .bounded .some in
         let z = whole-unmarked s n (P .sound) in
-        let ok = free-consistent S (marked s) z (P .free) in
+        let ok = free-consistent s (S .bounded) (marked s) z (P .free) in
         record {
           rising = λ i j h l. passing-rises T n i j h l;
           below = λ x m. member-true x m .1;

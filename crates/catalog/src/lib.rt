@@ -12,7 +12,7 @@ ghost use Rattle.records.specs.declared.BookCheck.the-variants as on;
 ghost use Rattle.closure.specs.Void.{voidOf};
 ghost use Rattle.closure.specs.Counted.{MarksOf};
 ghost use Rattle.contradiction.specs.Settleable.{Settleable};
-ghost use Rattle.contradiction.specs.Settled.{Settles, Indexes};
+ghost use Rattle.contradiction.specs.Settled.{row, Settles, Indexes};
 ghost use Rattle.catalog.specs.Filling as filling;
 ghost use Rattle.catalog.specs.Filling.{asked, Roomy, Asked, Filled, Ready, Judged};
 use contradiction::Settled;
@@ -92,7 +92,7 @@ fn settle(
     places: &mut [u16],
 ) -> Settled
     requires { ⌜ (bookCheck (now book) ≡ on.Accepted n) × Settleable n (now book) (length (now parens)) (length (now marks)) (length (now shadows)) (length (now places)) × (length (now voids) ≡ 32) ⌝ }
-    ensures { λ r. ⌜ MarksOf (now (book .entry)) (now (voids .exit)) × Settles (voidOf (now (voids .exit))) n (now (book .entry)) (now (d .exit)) (now (t .exit)) r × Indexes n (now (book .entry)) (now (parens .exit)) (now (marks .exit)) (now (shadows .exit)) (now (places .exit)) r ⌝ }
+    ensures { λ r. ⌜ MarksOf (now (book .entry)) (now (voids .exit)) × Settles (voidOf (now (voids .exit))) n (now (book .entry)) (now (d .exit)) (now (t .exit)) (row r) × Indexes n (now (book .entry)) (now (parens .exit)) (now (marks .exit)) (now (shadows .exit)) (now (places .exit)) r ⌝ }
 {
     closure::marking::mark_voids(book, voids);
     let mut order = [0u16; matrices::ROWS];

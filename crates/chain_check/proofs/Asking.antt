@@ -116,10 +116,10 @@ module _ (s : List ℕ) (n nodes shadows : ℕ) (sound : bookCheck s ≡ book.Ac
       pick (is-false e) = e
 
   pub runs-free : false ≡ clash (marked s) n (facts s)
-  runs-free = beyond-free (settleable s n sound) (marked s) (whole-unmarked s n sound) (leb-false _ _ beyond)
+  runs-free = beyond-free s (settleable s n sound .bounded) (marked s) (whole-unmarked s n sound) (leb-false _ _ beyond)
 
   pub runs-consistent : Contradictory (marked s) n (facts s) → ⊥
-  runs-consistent = free-consistent (settleable s n sound) (marked s) (whole-unmarked s n sound) runs-free
+  runs-consistent = free-consistent s (settleable s n sound .bounded) (marked s) (whole-unmarked s n sound) runs-free
 
 -- ---- a fresh call without claims
 

@@ -16,7 +16,7 @@ ghost use Rattle.chain_writing.specs.declared.Reply.the-variants.{Refuse
 ghost use Rattle.contradiction.specs.Opened.{Opened};
 ghost use Rattle.closure.specs.Void.{voidOf};
 ghost use Rattle.chain_writing.specs.Call.{Answering, Judged, Written};
-use contradiction::Settled;
+use contradiction::Row14;
 use derivations::showing::Fact;
 use matrices::Matrix;
 use records::BookCheck;
@@ -172,8 +172,8 @@ fn judge(
     let mut lead = [0u16; matrices::ROWS];
     let settled = contradiction::settle_alone(book, n, &voids, e, &mut order, &mut lead, d, t);
     match settled {
-        Settled::Clash(place) => refuse(Refusal::Contradiction, place),
-        Settled::Free(_, _) => {
+        Row14::Clash(place) => refuse(Refusal::Contradiction, place),
+        Row14::Free => {
             if claim.origin == 0 {
                 return write_whole(n, claim, book, &voids, e, d, t, c);
             }

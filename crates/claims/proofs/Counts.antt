@@ -48,7 +48,7 @@ module _ (s : List ℕ) {n : ℕ} (C : Counted s n) where
 
   -- row 14, by the shortest contradictory run
   pub counted-free : leb (shortestClash (marked s) n (entries s)) (records s) ≡ false → false ≡ clash (marked s) n (facts s)
-  counted-free e = beyond-free counted-settleable (marked s) counted-unmarked (leb-false (shortestClash (marked s) n (entries s)) (records s) e)
+  counted-free e = beyond-free s (counted-settleable .bounded) (marked s) counted-unmarked (leb-false (shortestClash (marked s) n (entries s)) (records s) e)
 
   pub counted-clashed : leb (shortestClash (marked s) n (entries s)) (records s) ≡ true → Clashed (marked s) n s (shortestClash (marked s) n (entries s) - 1)
-  counted-clashed e = within-clashed counted-settleable (marked s) counted-unmarked (leb-true (shortestClash (marked s) n (entries s)) (records s) e)
+  counted-clashed e = within-clashed s (counted-settleable .bounded) (marked s) counted-unmarked (leb-true (shortestClash (marked s) n (entries s)) (records s) e)

@@ -15,9 +15,8 @@ use Rattle.closure.specs.Bounded.{Bounded}
 use Rattle.closure.specs.Stored.{edgeBit}
 use Rattle.closure.specs.Closed.{Holds}
 use Rattle.closure.specs.Counted.{MarksOf}
-use Rattle.contradiction.specs.Settleable.{Settleable}
 use Rattle.contradiction.specs.Settled.{Settles}
-use Rattle.contradiction.specs.declared.settling.Settled.{Settled}
+use Rattle.contradiction.specs.declared.row_14.Row14.{Row14}
 use Rattle.chain_format.specs.declared.steps.Step.{Step}
 use Rattle.chain_format.specs.Step.{stepAt, showing}
 use Rattle.chain_format.specs.Citing.{citing}
@@ -26,13 +25,10 @@ use Rattle.chain_writing.proofs.Replies.{claim-ends}
 use Rattle.derivations.specs.Found.{Ground, Chained}
 use Rattle.clash.specs.Clash.{unrestricted, clashOk}
 use Rattle.clash.specs.Silenced.{silenced, Clashes, Behind}
-use Rattle.clash.proofs.Places.{small, states, within, silenced-bounded, silenced-settleable, silenced-marked, silenced-ground}
+use Rattle.clash.proofs.Places.{small, states, within, silenced-bounded, silenced-marked, silenced-ground}
 use Rattle.clash.proofs.Replies.{kind-high, found-behind, unchained, chained-some, chained-last}
 
 module _ {s : List ℕ} {i : ℕ} (C : Clashes s i) {n : ℕ} {run : List ℕ} (en : n ≡ pieceCount s) (er : run ≡ silenced s i) where
-  pub run-settleable : Settleable n run 4608 2304 16384 2048
-  run-settleable = rw (en, er) (silenced-settleable C)
-
   pub run-bounded : Bounded n (facts run)
   run-bounded = rw (en, er) (silenced-bounded C)
 
@@ -47,7 +43,7 @@ module _ {s : List ℕ} {i : ℕ} (C : Clashes s i) {n : ℕ} {run : List ℕ} (
     -- ---- the writer
 
     pub run-ground :
-        {voids e d t : List ℕ} → MarksOf s voids → (r : Settled) → Settles (voidOf voids) n run d t r → Holds n e (edgeBit n (facts run))
+        {voids e d t : List ℕ} → MarksOf s voids → (r : Row14) → Settles (voidOf voids) n run d t r → Holds n e (edgeBit n (facts run))
         → Ground n claim run voids e d t × (claim .a < n) × (claim .b < n)
     run-ground M r W E =
         let w = claim-ends (recordAt s i) (within C) in

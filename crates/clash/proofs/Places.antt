@@ -33,12 +33,11 @@ use Rattle.closure.specs.Stored.{edgeBit}
 use Rattle.closure.specs.Closed.{Holds}
 use Rattle.closure.specs.Counted.{MarksOf}
 use Rattle.contradiction.specs.Opened.{Opened}
-use Rattle.contradiction.specs.Settleable.{Settleable}
 use Rattle.contradiction.proofs.Halving.{run-bounded}
 use Rattle.contradiction.specs.Settled.{Clashed, Settles}
 use Rattle.records.specs.Contradiction as row14
-use Rattle.contradiction.specs.declared.settling.Settled.{Settled}
-use Rattle.contradiction.specs.declared.settling.Settled.the-variants.{Free, Clash}
+use Rattle.contradiction.specs.declared.row_14.Row14.{Row14}
+use Rattle.contradiction.specs.declared.row_14.Row14.the-variants.{Free, Clash}
 use Rattle.contradiction.proofs.SettlingLaws.{settleable, whole-unmarked, clashed-first}
 use Rattle.claims.proofs.Counts.{own-count, counted-clashed}
 use Rattle.outcomes.specs.Lent.{lent}
@@ -51,7 +50,7 @@ use Rattle.chain_check.proofs.Asking.{fresh-runs}
 use Rattle.derivations.specs.Found.{Ground}
 use Rattle.clash.specs.Clash.{factAt, unrestricted}
 use Rattle.clash.specs.Silenced.{silenced, Clashes}
-use Rattle.clash.proofs.Silencing.{silenced-length, silenced-records, silenced-marks, silenced-among, among-silenced}
+use Rattle.clash.proofs.Silencing.{silenced-records, silenced-marks, silenced-among, among-silenced}
 
 -- ---- from the outcome
 
@@ -80,14 +79,14 @@ module _ {s : List ℕ} {i : ℕ} (C : Clashes s i) where
   pub book-ok : AcceptedBook Current s n
   book-ok = accepted s n (C .sound)
 
-  S : Settleable n s 2560 1280 8192 2048
-  S = settleable s n (C .sound)
+  S : Bounded n (facts s)
+  S = settleable s n (C .sound) .bounded
 
   pub bare : marked s 0 ≡ false
   bare = whole-unmarked s n (C .sound)
 
   pub first : row14.Contradiction (marked s) n s i
-  first = clashed-first S (marked s) bare (C .clashed)
+  first = clashed-first s S (marked s) bare (C .clashed)
 
   pub room : 6 * i + 6 ≤ length s
   room = omega (arith, first .present)
@@ -96,13 +95,13 @@ module _ {s : List ℕ} {i : ℕ} (C : Clashes s i) where
   short = omega (arith, book-ok .few, book-ok .whole)
 
   pub small : n ≤ 2048
-  small = S .bounded .fits
+  small = S .fits
 
   run-fits : 6 * i ≤ length s
   run-fits = omega (arith, room)
 
   before : Bounded n (facts run)
-  before = run-bounded s i run-fits (S .bounded)
+  before = run-bounded s i run-fits S
 
   ok : Contradictory (marked s) n (facts run) → ⊥
   ok = first .earlier i (omega arith)
@@ -142,7 +141,7 @@ module _ {s : List ℕ} {i : ℕ} (C : Clashes s i) where
       pick (is-false e) = absurd (ok (weaken-contradictory (omega arith) (λ g m. none e g (split g m)) (first .here)))
 
   pub within : Within n (factAt s i)
-  within = S .bounded .within (factAt s i) (fact-here s i (first .present) states)
+  within = S .within (factAt s i) (fact-here s i (first .present) states)
 
   -- the run before derives the opposite
   pub denied : Derives (marked s) n (facts run) (opposite (factAt s i))
@@ -157,13 +156,6 @@ module _ {s : List ℕ} {i : ℕ} (C : Clashes s i) where
   pub silenced-bounded : Bounded n (facts (silenced s i))
   silenced-bounded = record { some = before .some; fits = before .fits; within = λ f m. before .within f (silenced-among s i run-fits f m) }
 
-  pub silenced-settleable : Settleable n (silenced s i) 4608 2304 16384 2048
-  silenced-settleable =
-      let few : length s / 6 ≤ 8192 = book-ok .few in
-      let l = small in
-      let e = silenced-length s i in
-      record { bounded = silenced-bounded; roomy = record { few = omega arith; parens = omega arith; marks = omega arith; shadows = omega arith; places = l } }
-
   silenced-free : false ≡ clash (marked s) n (facts (silenced s i))
   silenced-free =
       sym
@@ -176,8 +168,8 @@ module _ {s : List ℕ} {i : ℕ} (C : Clashes s i) where
       (weaken (omega arith) (among-silenced s i run-fits) denied)
 
   -- settling it finds no contradiction
-  silenced-opened : {voids d t : List ℕ} → MarksOf s voids → (r : Settled) → Settles (voidOf voids) n (silenced s i) d t r → Opened (voidOf voids) n (facts (silenced s i)) d t false
-  silenced-opened M (Free a b) W = W .free a b refl
+  silenced-opened : {voids d t : List ℕ} → MarksOf s voids → (r : Row14) → Settles (voidOf voids) n (silenced s i) d t r → Opened (voidOf voids) n (facts (silenced s i)) d t false
+  silenced-opened M Free W = W .free refl
   silenced-opened M (Clash k) W =
       absurd (false≢true (silenced-free ∙ sym (W .clash k refl .is ∙ ap (λ (v : ℕ → Bool). clash v n (facts (silenced s i))) (M .1))))
 
@@ -185,7 +177,7 @@ module _ {s : List ℕ} {i : ℕ} (C : Clashes s i) where
   silenced-marked M = (M .0, M .1 ∙ sym (silenced-marks s i))
 
   pub silenced-ground :
-      {voids e d t : List ℕ} → MarksOf s voids → (r : Settled) → Settles (voidOf voids) n (silenced s i) d t r → Holds n e (edgeBit n (facts (silenced s i)))
+      {voids e d t : List ℕ} → MarksOf s voids → (r : Row14) → Settles (voidOf voids) n (silenced s i) d t r → Holds n e (edgeBit n (facts (silenced s i)))
       → Ground n (unrestricted (recordAt s i)) (silenced s i) voids e d t
   silenced-ground {voids} M r W E =
       let O = silenced-opened M r W in

@@ -8,7 +8,7 @@ ghost use Rattle.records.specs.declared.BookCheck.the-variants as is;
 ghost use Rattle.clash.specs.declared.Reply.the-variants.{Refused};
 ghost use Rattle.clash.specs.Clash.{unrestricted, clashOk, passes, Written};
 ghost use Rattle.clash.specs.Silenced.{silencedByte, silenced, Placed, Behind};
-use contradiction::Settled;
+use contradiction::Row14;
 use derivations::showing::Fact;
 use matrices::Matrix;
 use matrices::RowNumbers;
@@ -126,11 +126,11 @@ fn judge(
     let mut lead = [0u16; matrices::ROWS];
     let settled = contradiction::settle_alone(book, n, &voids, e, &mut order, &mut lead, d, t);
     match settled {
-        Settled::Free(_, _) => Clash {
+        Row14::Free => Clash {
             reply: Reply::Free,
             steps: 0,
         },
-        Settled::Clash(place) => {
+        Row14::Clash(place) => {
             let m = write_behind(book, place, n, &voids, e, &mut order, &mut lead, d, t, c);
             Clash {
                 reply: Reply::Refused(Refusal::Contradiction, place),
@@ -204,8 +204,8 @@ fn check_sound(
     let mut lead = [0u16; matrices::ROWS];
     let settled = contradiction::settle_alone(book, n, &voids, e, &mut order, &mut lead, d, t);
     match settled {
-        Settled::Free(_, _) => false,
-        Settled::Clash(place) => check_behind(book, place, n, &voids, steps),
+        Row14::Free => false,
+        Row14::Clash(place) => check_behind(book, place, n, &voids, steps),
     }
 }
 

@@ -1,12 +1,12 @@
 -- What matrices hold, and what products and meetings of them hold then. Assumes nothing.
 use Prim.Native.Nat.{ℕ, zero, suc, _<_, _≤_}
-use mathlib.Core.Path.{_≡_, refl, ap, ap₂, _∙_}
+use mathlib.Core.Path.{_≡_, refl, sym, ap, ap₂, _∙_}
 use mathlib.Core.Logic.{_⊎_, inl, inr}
-use mathlib.Core.Bool.{Bool, true, false, not, _&&_, _||_, or-comm}
+use mathlib.Core.Bool.{Bool, true, false, not, _&&_, _||_, or-comm, false≢true}
 use mathlib.Core.List.{List}
 use native.Mathlib.Decide.{decLt}
 use native.Mathlib.Omega.{arith}
-use borrow.Author.Tests.{le-ltb, eqb-true, ltb-true, ne-eqb}
+use borrow.Author.Tests.{le-ltb, lt-ltb, eqb-true, ltb-true, ne-eqb}
 use lib.Dec.{eqb, ltb}
 use lib.ListN.{length, getD}
 use Rattle.lists.specs.Any.{anyBelow}
@@ -95,7 +95,7 @@ module _ (n : ℕ) (fs : List Fact) where
   unfolding partBit
   part-column h g l = rw (le-ltb g n l)
 
-  pub whole-column : (g y : ℕ) → wholeBit n fs g y ≡ true → ltb y n ≡ true
+  whole-column : (g y : ℕ) → wholeBit n fs g y ≡ true → ltb y n ≡ true
   unfolding wholeBit partBit
   whole-column g y q = and-both (ltb g n) (ltb y n) (and-both (ltb g n && ltb y n) (follows unmarked n fs (PART g y)) q .0) .1
 
@@ -178,23 +178,37 @@ module _ (n : ℕ) (fs : List Fact) where
       first : Holds n q′ (nextOut void)
       first = record { sized = z; bits = λ x y lx ly. X .row x y lx ly ∙ ap₂ _||_ (Q .bits x y lx ly) (through-holds M P x y lx ly (λ v l. meet-column void w x v lx l)) }
 
+  -- the diagonal joined along the steps, or against them, is what it is joined by
+  diagonal-joined :
+      {u u′ u″ : List ℕ} {r : ℕ → ℕ → Bool} → n ≤ 2048 → Blank n u → length u″ ≡ 65536 → Grown u u′ (λ x y. eqb x y && ltb x n) → ((h x : ℕ) → n ≤ x → r h x ≡ false) → Carried r n u′ u″
+      → Holds n u″ r
+  diagonal-joined {u} {u′} {u″} {r} few E z G none C = record { sized = z; bits = λ g y lg ly. C .row g y lg ly ∙ any-same _ _ 2048 (λ x h. diag g x y ly (decLt x n)) ∙ only g y ly }
+    where
+      diag : (g x y : ℕ) → y < 2048 → Dec (x < n) → (r g x && bitOf u′ x y) ≡ (r g x && (eqb x y && ltb x n))
+      diag g x y ly (yes l) = ap (λ (t : Bool). r g x && t) (G .bits x y (omega arith) ly ∙ ap (λ (t : Bool). t || (eqb x y && ltb x n)) (E .bits x y l ly))
+      diag g x y ly (no l) = rw (none g x (omega arith))
+
+      column : (g y : ℕ) → r g y ≡ true → Dec (y < n) → ltb y n ≡ true
+      column g y q (yes l) = lt-ltb y n l
+      column g y q (no l) = absurd (false≢true (sym (none g y (omega arith)) ∙ q))
+
+      only : (g y : ℕ) → y < 2048 → anyBelow (λ x. r g x && (eqb x y && ltb x n)) 2048 ≡ r g y
+      only g y l = same-truth _ _
+          (λ q.
+          let s = below-find (λ x. r g x && (eqb x y && ltb x n)) 2048 q in
+          let b = and-both (r g (s .0)) (eqb (s .0) y && ltb (s .0) n) (s .2) in
+          rw (eqb-true (s .0) y (and-both (eqb (s .0) y) (ltb (s .0) n) (b .1) .0)) at (b .0))
+          (λ q. below-hit (λ x. r g x && (eqb x y && ltb x n)) 2048 y l (both-and q (both-and (eqb-self y) (column g y q (decLt y n)))))
+
+  -- D
+  pub part-holds :
+      {d d′ d″ : List ℕ} → n ≤ 2048 → Blank n d → length d″ ≡ 65536 → Grown d d′ (λ x y. eqb x y && ltb x n) → Carried (partBit n fs) n d′ d″ → Holds n d″ (partBit n fs)
+  part-holds few E z G C = diagonal-joined few E z G part-column C
+
   -- U
   pub whole-holds :
       {u u′ u″ : List ℕ} → n ≤ 2048 → Blank n u → length u″ ≡ 65536 → Grown u u′ (λ x y. eqb x y && ltb x n) → Carried (wholeBit n fs) n u′ u″ → Holds n u″ (wholeBit n fs)
-  whole-holds {u} {u′} {u″} few E z G C = record { sized = z; bits = λ g y lg ly. C .row g y lg ly ∙ any-same _ _ 2048 (λ x h. diag g x y ly (decLt x n)) ∙ only g y ly }
-    where
-      diag : (g x y : ℕ) → y < 2048 → Dec (x < n) → (wholeBit n fs g x && bitOf u′ x y) ≡ (wholeBit n fs g x && (eqb x y && ltb x n))
-      diag g x y ly (yes l) =
-          ap (λ (t : Bool). wholeBit n fs g x && t) (G .bits x y (omega arith) ly ∙ ap (λ (t : Bool). t || (eqb x y && ltb x n)) (E .bits x y l ly))
-      diag g x y ly (no l) = rw (whole-none g x (omega arith))
-
-      only : (g y : ℕ) → y < 2048 → anyBelow (λ x. wholeBit n fs g x && (eqb x y && ltb x n)) 2048 ≡ wholeBit n fs g y
-      only g y l = same-truth _ _
-          (λ q.
-          let s = below-find (λ x. wholeBit n fs g x && (eqb x y && ltb x n)) 2048 q in
-          let b = and-both (wholeBit n fs g (s .0)) (eqb (s .0) y && ltb (s .0) n) (s .2) in
-          rw (eqb-true (s .0) y (and-both (eqb (s .0) y) (ltb (s .0) n) (b .1) .0)) at (b .0))
-          (λ q. below-hit (λ x. wholeBit n fs g x && (eqb x y && ltb x n)) 2048 y l (both-and q (both-and (eqb-self y) (whole-column g y q))))
+  whole-holds few E z G C = diagonal-joined few E z G whole-none C
 
 pub below-2048 : {n : ℕ} {fs : List Fact} → Bounded n fs → AllWithin 2048 fs
 below-2048 B f m = let w = B .within f m in let h = B .fits in (omega arith, omega arith)

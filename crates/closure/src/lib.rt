@@ -50,6 +50,16 @@ fn join_wholes(n: usize, e: &[u64], order: &[u16], lead: &[u16], m: &mut [u64])
     matrices::share_rows(lead, n, m);
 }
 
+// D: the parts of each piece below n, from the steps alone.
+pub fn part_rows(n: usize, e: &[u64], order: &[u16], lead: &[u16], d: &mut [u64])
+    requires { ⌜ (IsMatrix (now d)) × (IsMatrix (now e)) × (n ≤ 2048) × Sorted (now e) n (now order) × Led n (now lead) ⌝ }
+    ensures { λ _. ⌜ ((fs : List Fact) → Bounded n fs → Stepped n fs (now (e .entry)) (now (order .entry)) (now (lead .entry)) → Holds n (now (d .exit)) (partBit n fs)) ⌝ }
+{
+    matrices::clear_rows(d, n);
+    storing::diagonal(n, d);
+    join_parts(n, e, order, lead, d);
+}
+
 // T = D·M.
 pub fn meeting(
     run: &[u8],

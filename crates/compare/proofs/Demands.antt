@@ -124,7 +124,7 @@ module _ (s t cs : List ℕ) where
 right : (s : List ℕ) (n : ℕ) (C : Counted s n) (cs : List ℕ) → claimsCheck n cs ≡ claims.Accepted → false ≡ clash (marked s) n (facts s) → (i : ℕ) → i < records cs → Right s n cs i (answerOf s n cs i)
 unfolding answerOf
 right s n C cs fit free i h =
-    let ok = free-consistent (counted-settleable s C) (marked s) (counted-unmarked s C) free in
+    let ok = free-consistent s (counted-settleable s C .bounded) (marked s) (counted-unmarked s C) free in
     record { derived = derived s C cs fit i h ok; entailed = entailed s C cs fit i h ok }
 
 module _ (s t cs : List ℕ) (P : Passed s t cs) where

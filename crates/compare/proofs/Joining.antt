@@ -1,11 +1,11 @@
--- The records of two accepted books together: that they can be settled, and that they can be laid exactly when a model keeps them. Assumes nothing.
-use Prim.Native.Nat.{ℕ, max, _*_, _/_, _≤_}
+-- The records of two accepted books together: which pieces they are about, and that they can be laid exactly when a model keeps them. Assumes nothing.
+use Prim.Native.Nat.{ℕ, max, _*_}
 use mathlib.Core.Path.{_≡_, sym, ap, ap₂, _∙_}
 use mathlib.Core.Logic.{inl, inr, _↔_}
 use mathlib.Core.Bool.{true, not, _||_}
 use mathlib.Core.List.{List, _++_}
 use native.Mathlib.Omega.{arith}
-use lib.ListN.{length, length-append}
+use lib.ListN.{length}
 use Rattle.lists.proofs.Bools.{not-true, not-is-true}
 use Rattle.rules.specs.Derives.{Contradictory}
 use Rattle.rules.specs.Follows.{clash}
@@ -21,7 +21,7 @@ use Rattle.records.proofs.Orders.{found-before, found-behind, facts-found}
 use Rattle.records.proofs.Marks.{marked-append}
 use Rattle.records.proofs.Accepted.{accepted, accepted-positive, accepted-pieces}
 use Rattle.closure.specs.Void.{Markable}
-use Rattle.contradiction.specs.Settleable.{Settleable}
+use Rattle.closure.specs.Bounded.{Bounded}
 use Rattle.closure.proofs.VoidRows.{accepted-markable}
 use Rattle.contradiction.proofs.SettlingLaws.{free-model, free-consistent}
 use Rattle.compare.specs.Joint.{pieces, jointRun, consistent, eitherMarked}
@@ -32,16 +32,11 @@ module _ (s t : List ℕ) (a b : ℕ) (first : bookCheck s ≡ book.Accepted a) 
   whole : length s ≡ 6 * records s
   whole = accepted s a first .whole
 
-  settles : Settleable (max a b) (s ++ t) 4608 2304 16384 2048
-  settles =
+  bounded : Bounded (max a b) (facts (s ++ t))
+  bounded =
       let A = accepted s a first in
       let B = accepted t b second in
-      let few : length (s ++ t) / 6 ≤ 16384 = omega (arith, length-append s t, A .few, A .whole, B .few, B .whole) in
-      let small : max a b ≤ 2048 = omega (arith, accepted-pieces A, accepted-pieces B) in
-      record {
-        bounded = record { some = omega (arith, accepted-positive A); fits = small; within = within s t a b first second };
-        roomy = record { few = omega arith; parens = omega arith; marks = omega arith; shadows = few; places = small };
-      }
+      record { some = omega (arith, accepted-positive A); fits = omega (arith, accepted-pieces A, accepted-pieces B); within = within s t a b first second }
 
   marks : Markable (s ++ t)
   marks =
@@ -53,16 +48,16 @@ module _ (s t : List ℕ) (a b : ℕ) (first : bookCheck s ≡ book.Accepted a) 
       }
 
   pub judgeable : Judgeable (s ++ t) (max a b)
-  judgeable = record { settleable = settles; markable = marks }
+  judgeable = record { bounded = bounded; markable = marks }
 
   pub laid-is : not (clash (marked (s ++ t)) (max a b) (facts (s ++ t))) ≡ consistent s t
   unfolding consistent
   laid-is =
-      ap not (joint-clash s t whole (max a b) (settles .bounded .some) (marks .whole) (within s t a b first second))
+      ap not (joint-clash s t whole (max a b) (bounded .some) (marks .whole) (within s t a b first second))
       ∙ ap (λ (n : ℕ). not (clash (marked (jointRun s t)) n (facts (jointRun s t)))) (joint-pieces s t a b first second)
 
   pub joint-consistent : consistent s t ≡ true → Contradictory (marked (s ++ t)) (pieces s t) (facts (s ++ t)) → ⊥
-  joint-consistent e = rw (← joint-pieces s t a b first second) (free-consistent settles (marked (s ++ t)) (marks .whole) (sym (not-is-true _ (laid-is ∙ e))))
+  joint-consistent e = rw (← joint-pieces s t a b first second) (free-consistent (s ++ t) bounded (marked (s ++ t)) (marks .whole) (sym (not-is-true _ (laid-is ∙ e))))
 
   -- they can be laid exactly when a model keeps all facts of both
   abbrev Kept : Type 0
@@ -80,8 +75,8 @@ module _ (s t : List ℕ) (a b : ℕ) (first : bookCheck s ≡ book.Accepted a) 
 
   laid-models : (consistent s t ≡ true) ↔ ((M : Model (marked (s ++ t)) (max a b)) × keepsAll M (facts s) × keepsAll M (facts t))
   laid-models = (
-    λ e. let m = free-model settles (marked (s ++ t)) (marks .whole) (sym (not-is-true _ (laid-is ∙ e))) in apart-kept (m .0) (m .1),
-    λ x. sym laid-is ∙ ap not (not-true _ (λ e. no-model (clash-iff (marked (s ++ t)) (max a b) (facts (s ++ t)) (within s t a b first second) (settles .bounded .some) (marks .whole) .0 e) (x .0) (both-kept (x .0) (x .1) (x .2)))),
+    λ e. let m = free-model (s ++ t) bounded (marked (s ++ t)) (marks .whole) (sym (not-is-true _ (laid-is ∙ e))) in apart-kept (m .0) (m .1),
+    λ x. sym laid-is ∙ ap not (not-true _ (λ e. no-model (clash-iff (marked (s ++ t)) (max a b) (facts (s ++ t)) (within s t a b first second) (bounded .some) (marks .whole) .0 e) (x .0) (both-kept (x .0) (x .1) (x .2)))),
   )
 
   pub laid-iff : (consistent s t ≡ true) ↔ Kept

@@ -3,11 +3,12 @@ use Prim.Native.Nat.{ℕ, max, _*_, _≤_}
 use mathlib.Core.Path.{_≡_}
 use mathlib.Core.List.{List, _++_}
 use Rattle.records.specs.Record.{records}
+use Rattle.records.specs.Facts.{facts}
 use Rattle.records.specs.Check.{bookCheck, claimsCheck}
 use Rattle.records.specs.declared.BookCheck.the-variants as book
 use Rattle.records.specs.declared.ClaimsCheck.the-variants as claims
 use Rattle.closure.specs.Void.{Markable}
-use Rattle.contradiction.specs.Settleable.{Settleable}
+use Rattle.closure.specs.Bounded.{Bounded}
 use Rattle.records.specs.Claimed.{answersTo}
 use Rattle.outcomes.specs.Call.{byRuns}
 use Rattle.closure.specs.Counted.{Counted}
@@ -16,9 +17,9 @@ use Rattle.outcomes.specs.declared.Outcome.the-variants as on
 use Rattle.compare.specs.declared.Comparison.{Comparison}
 use Rattle.compare.specs.Call.{byRows, left}
 
--- a run about n pieces that can be settled, and whose marks fit
+-- a run about n pieces whose marks fit
 pub record Judgeable (run : List ℕ) (n : ℕ) : Type 0 where
-  pub settleable : Settleable n run 4608 2304 16384 2048
+  pub bounded : Bounded n (facts run)
   pub markable : Markable run
 
 -- a book, claims that fit n pieces, and room for the answers

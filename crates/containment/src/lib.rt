@@ -115,7 +115,7 @@ fn ends_by(nodes: usize, parens: &[u8], ranks: &[u16], ends: &mut [u16])
 
 // The same: the ranks are counted once, for the searches of all nodes. The list of ranks is scratch.
 fn ends_ranked(nodes: usize, parens: &[u8], ranks: &mut [u16], ends: &mut [u16])
-    requires { ⌜ (nodes ≤ length (now ends)) × (length (now parens) ≤ 4608) × (nodes ≤ rank (bits (now parens)) (8 * length (now parens))) × (length (now parens) < length (now ranks)) ⌝ }
+    requires { ⌜ (nodes ≤ length (now ends)) × (length (now parens) ≤ 2560) × (nodes ≤ rank (bits (now parens)) (8 * length (now parens))) × (length (now parens) < length (now ranks)) ⌝ }
     ensures { λ _. ⌜ ((q : ℕ) → q < nodes → getD (now (ends .exit)) q 0 ≡ after (bits (now (parens .entry))) q) ⌝ }
 {
     parentheses::rank_bytes(parens, ranks);
@@ -124,7 +124,7 @@ fn ends_ranked(nodes: usize, parens: &[u8], ranks: &mut [u16], ends: &mut [u16])
 
 // The same with a list of ranks of its own, a short one for few nodes.
 pub fn subtree_ends(nodes: usize, parens: &[u8], ends: &mut [u16])
-    requires { ⌜ (nodes ≤ length (now ends)) × (length (now parens) ≤ 4608) × (nodes ≤ rank (bits (now parens)) (8 * length (now parens))) ⌝ }
+    requires { ⌜ (nodes ≤ length (now ends)) × (length (now parens) ≤ 2560) × (nodes ≤ rank (bits (now parens)) (8 * length (now parens))) ⌝ }
     ensures { λ _. ⌜ ((q : ℕ) → q < nodes → getD (now (ends .exit)) q 0 ≡ after (bits (now (parens .entry))) q) ⌝ }
 {
     if parens.len() <= 128 {
@@ -132,6 +132,6 @@ pub fn subtree_ends(nodes: usize, parens: &[u8], ends: &mut [u16])
         ends_ranked(nodes, parens, &mut ranks, ends);
         return;
     }
-    let mut ranks = [0u16; 4609];
+    let mut ranks = [0u16; index::PARENTHESES_BYTES + 1];
     ends_ranked(nodes, parens, &mut ranks, ends);
 }

@@ -13,9 +13,6 @@ use numbers::shorts;
 // How many nodes a tree has that is cheaper with short tables.
 const SMALL_TREE: usize = 512;
 
-// How many nodes the tree of two books' records has at most: one for each piece, and a shadow for each record.
-const JOINT_NODES: usize = 18432;
-
 // The leader of the pieces at a place: `turned` is the place list turned round, with the shadows put in.
 fn piece_at(turned: &[u16], q: TreeId) -> DatasetId
     requires { ⌜ q .0 < length (now turned) ⌝ }
@@ -102,7 +99,7 @@ fn contents_by(
     ends: &mut [u16],
     turned: &mut [u16],
 )
-    requires { ⌜ (n ≤ 2048) × (nodes ≤ 18432) × (IsMatrix (now rows)) × Stored n nodes (now parens) (now marks) (now shadows) (now places) (now lead) × (nodes ≤ length (now ends)) × (nodes ≤ length (now turned)) ⌝ }
+    requires { ⌜ (n ≤ 2048) × (nodes ≤ 10240) × (IsMatrix (now rows)) × Stored n nodes (now parens) (now marks) (now shadows) (now places) (now lead) × (nodes ≤ length (now ends)) × (nodes ≤ length (now turned)) ⌝ }
     ensures { λ _. ⌜ Contents n (now (parens .entry)) (now (marks .entry)) (now (shadows .entry)) (now (places .entry)) (now (rows .exit)) ⌝ }
 {
     let bytes = (nodes + 3) / 4;
@@ -125,7 +122,7 @@ pub fn contents(
     lead: &[u16],
     rows: &mut [u64],
 )
-    requires { ⌜ (n ≤ 2048) × (nodes ≤ 18432) × (IsMatrix (now rows)) × Stored n nodes (now parens) (now marks) (now shadows) (now places) (now lead) ⌝ }
+    requires { ⌜ (n ≤ 2048) × (nodes ≤ 10240) × (IsMatrix (now rows)) × Stored n nodes (now parens) (now marks) (now shadows) (now places) (now lead) ⌝ }
     ensures { λ _. ⌜ Contents n (now (parens .entry)) (now (marks .entry)) (now (shadows .entry)) (now (places .entry)) (now (rows .exit)) ⌝ }
 {
     if nodes <= SMALL_TREE {
@@ -145,8 +142,8 @@ pub fn contents(
         );
         return;
     }
-    let mut ends = [0u16; JOINT_NODES];
-    let mut turned = [0u16; JOINT_NODES];
+    let mut ends = [0u16; index::NODES];
+    let mut turned = [0u16; index::NODES];
     contents_by(
         n,
         nodes,

@@ -29,17 +29,6 @@ module _ (s : List ℕ) (k : ℕ) (fits : 6 * k ≤ length s) where
   pub run-bounded : {n : ℕ} → Bounded n (facts s) → Bounded n (facts (take (6 * k) s))
   run-bounded B = record { some = B .some; fits = B .fits; within = λ f m. B .within f (run-of f m) }
 
-  pub run-roomy : {n b mb sc pc : ℕ} → Roomy n (length s / 6) b mb sc pc → Roomy n (length (take (6 * k) s) / 6) b mb sc pc
-  run-roomy R =
-      let e = length-take-le (6 * k) s fits in
-      record {
-        few = omega (arith, R .few);
-        parens = omega (arith, R .parens);
-        marks = omega (arith, R .marks);
-        shadows = omega (arith, R .shadows);
-        places = R .places;
-      }
-
 -- the same lengths
 pub roomy-same :
     {n k b mb sc pc b′ mb′ sc′ pc′ : ℕ} → b′ ≡ b → mb′ ≡ mb → sc′ ≡ sc → pc′ ≡ pc → Roomy n k b mb sc pc → Roomy n k b′ mb′ sc′ pc′

@@ -113,7 +113,7 @@ module _ (n : ℕ) (fs : List Fact) (B : Bounded n fs) where
 
     module _ (parens marks shadows places : List ℕ) (nodes shadowed : ℕ) (R : Roomy n (length fs) (length parens) (length marks) (length shadows) (length places))
         (I : BookIndex n (partIn fs) parens marks shadows places nodes shadowed) where
-      pub few-nodes : nodes ≤ 18432
+      pub few-nodes : nodes ≤ 10240
       few-nodes = omega (arith, I .nodes-are, of.nodes n fs B, R .few, B .fits)
 
       pub place-at : (g : ℕ) → g < n → getD places g 0 ≡ on.place (bookVisits n (partIn fs)) (number n (partIn fs) g)

@@ -1,8 +1,9 @@
 // Whether a book is contradictory, and the place of refusal 14.
-pub use opening::contradicts;
-pub use settling::Settled;
-pub use settling::settle;
-pub use settling::settle_alone;
+pub use first_matrices::contradicts;
+pub use row_14::Row14;
+pub use row_14::Settled;
+pub use row_14::settle;
+pub use row_14::settle_alone;
 
-pub mod opening;
-pub mod settling;
+pub mod first_matrices;
+pub mod row_14;

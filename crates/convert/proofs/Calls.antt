@@ -43,7 +43,7 @@ module _ (s t cs : List ℕ) (l : Lent) (F : InForce s t) (lent : shortLent cs l
   unfolding byRuns
   is-accepted =
       ap number (passed-outcome t cs l (pieceCount s) (record { lent = lent; sound = F .sound; fit = fit }))
-      ∙ rw (lt-leb (shortestClash (marked t) (pieceCount s) (entries t)) (records t) (free-beyond (settleable t (pieceCount s) (F .sound)) (marked t) (whole-unmarked t (pieceCount s) (F .sound)) free), byRuns)
+      ∙ rw (lt-leb (shortestClash (marked t) (pieceCount s) (entries t)) (records t) (free-beyond t (settleable t (pieceCount s) (F .sound) .bounded) (marked t) (whole-unmarked t (pieceCount s) (F .sound)) free), byRuns)
 
   module _ (former : formerCheck s ≡ book.Accepted (pieceCount s)) (same : SameAnswers s t) where
     at : ℕ → List ℕ → ℕ

@@ -25,7 +25,7 @@ use Rattle.records.proofs.Rows.{refused-positive}
 use Rattle.records.proofs.Keeps.{Written, written-all, kept-fewer, kept-whole, kept-shorter}
 use Rattle.records.proofs.Accepted.{accepted-by, accepted-within, accepted-positive, accepted-pieces}
 use Rattle.closure.specs.Void.{voidOf}
-use Rattle.contradiction.specs.Settleable.{Settleable}
+use Rattle.closure.specs.Bounded.{Bounded}
 use Rattle.contradiction.specs.Settled.{Clashed}
 use Rattle.closure.proofs.VoidRows.{cleared-voids}
 use Rattle.contradiction.proofs.SettlingLaws.{free-beyond, clashed-within}
@@ -46,16 +46,11 @@ written-trays s l out i at h k w = written-all noTray s l out i at h k w
 pub no-marks : voidOf (replicate 32 0) ≡ unmarked
 no-marks = fun-ext (cleared-voids 32)
 
--- every book of the former edition can be settled, in parts of document 01's lengths
-pub settleable-former : (s : List ℕ) (n : ℕ) → FormerBook s n → Settleable n s 2560 1280 8192 2048
-settleable-former s n e =
+-- every book of the former edition can be settled
+pub former-bounded : (s : List ℕ) (n : ℕ) → FormerBook s n → Bounded n (facts s)
+former-bounded s n e =
     let A = accepted-by Former s n e in
-    let few : length s / 6 ≤ 8192 = A .few in
-    let small : n ≤ 2048 = accepted-pieces A in
-    record {
-      bounded = record { some = accepted-positive A; fits = small; within = accepted-within A };
-      roomy = record { few = omega arith; parens = omega arith; marks = omega arith; shadows = few; places = small };
-    }
+    record { some = accepted-positive A; fits = accepted-pieces A; within = accepted-within A }
 
 -- ---- the bytes written
 
@@ -128,13 +123,13 @@ module _ (s out : List ℕ) where
           let q = C .last in
           let k : place ≡ shortestClash unmarked n (entries s) - 1 = omega arith in
           refused Contradiction place
-          (rw (le-leb (shortestClash unmarked n (entries s)) (records s) (clashed-within (settleable-former s n former) unmarked refl C), byRuns) (ap (to.Refused Contradiction) k) ∙ judged)
+          (rw (le-leb (shortestClash unmarked n (entries s)) (records s) (clashed-within s (former-bounded s n former) unmarked refl C), byRuns) (ap (to.Refused Contradiction) k) ∙ judged)
 
       pub by-free :
           ((k : ℕ) → getD s k 0 < 256) → false ≡ clash unmarked n (facts s) → (k : ℕ) (out′ : List ℕ) → k ≡ length (converted s) → out′ ≡ front (converted s) out
           → Promised s out (to.Written k) out′
       unfolding byRuns left
       by-free bytes c k out′ e f = (
-        ((rw (lt-leb (shortestClash unmarked n (entries s)) (records s) (free-beyond (settleable-former s n former) unmarked refl c), byRuns) (ap to.Written e)) ∙ judged, f),
+        ((rw (lt-leb (shortestClash unmarked n (entries s)) (records s) (free-beyond s (former-bounded s n former) unmarked refl c), byRuns) (ap to.Written e)) ∙ judged, f),
         (λ z. in-force s n former bytes c, λ z. same-answers s n former bytes c),
       )

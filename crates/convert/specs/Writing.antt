@@ -10,8 +10,8 @@ use Rattle.records.specs.Facts.{facts}
 use Rattle.records.specs.Check.{formerCheck}
 use Rattle.records.specs.declared.BookCheck.the-variants as book
 use Rattle.contradiction.specs.Settled.{Clashed}
-use Rattle.contradiction.specs.declared.settling.Settled.{Settled}
-use Rattle.contradiction.specs.declared.settling.Settled.the-variants.{Free, Clash}
+use Rattle.contradiction.specs.declared.row_14.Row14.{Row14}
+use Rattle.contradiction.specs.declared.row_14.Row14.the-variants.{Free, Clash}
 
 -- a book of n pieces by the former edition
 abbrev pub FormerBook : List ℕ → ℕ → Type 0
@@ -22,6 +22,6 @@ pub record Room (s : List ℕ) (n room : ℕ) : Type 0 where
   pub long : length s ≤ room
 
 -- what row 14 says of it
-pub record Judged (s : List ℕ) (n : ℕ) (r : Settled) : Type 0 where
-  pub free : (nodes shadowed : ℕ) → r ≡ Free nodes shadowed → false ≡ on.clash unmarked n (facts s)
+pub record Judged (s : List ℕ) (n : ℕ) (r : Row14) : Type 0 where
+  pub free : r ≡ Free → false ≡ on.clash unmarked n (facts s)
   pub clash : (place : ℕ) → r ≡ Clash place → Clashed unmarked n s place

@@ -7,7 +7,7 @@ ghost use Rattle.convert.specs.Converted.{noTrays, converted};
 ghost use Rattle.convert.specs.Conversion.{number, Determined};
 ghost use Rattle.convert.specs.Same.{InForce, SameAnswers};
 ghost use Rattle.convert.specs.Writing.{FormerBook, Judged, Room};
-use contradiction::Settled;
+use contradiction::Row14;
 use matrices::Matrix;
 use records::BookCheck;
 use records::Refusal;
@@ -48,7 +48,7 @@ fn write_book(book: &[u8], n: usize, out: &mut [u8]) -> usize
 }
 
 // Row 14 of a book of the former edition, which has no marks.
-fn settle(book: &[u8], n: usize, e: &mut Matrix, d: &mut Matrix, t: &mut Matrix) -> Settled
+fn settle(book: &[u8], n: usize, e: &mut Matrix, d: &mut Matrix, t: &mut Matrix) -> Row14
     requires { ⌜ FormerBook (now book) n ⌝ }
     ensures { λ r. ⌜ Judged (now (book .entry)) n r ⌝ }
 {
@@ -79,8 +79,8 @@ pub fn convert(
         BookCheck::Accepted(n) => {
             let settled = settle(book, n, e, d, t);
             match settled {
-                Settled::Clash(place) => Conversion::Refused(Refusal::Contradiction, place),
-                Settled::Free(_, _) => Conversion::Written(write_book(book, n, out)),
+                Row14::Clash(place) => Conversion::Refused(Refusal::Contradiction, place),
+                Row14::Free => Conversion::Written(write_book(book, n, out)),
             }
         }
     }

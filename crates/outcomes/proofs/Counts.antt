@@ -36,8 +36,8 @@ module _ (s : List ℕ) {n : ℕ} (C : Counted s n) where
   runs-refused = pick (known (leb (shortestClash (marked s) n (entries s)) (records s)))
     where
       pick : Known (leb (shortestClash (marked s) n (entries s)) (records s)) → (of.number (byRuns s n) ≡ 14) ↔ ((M : Model (marked s) n) → keepsAll M (facts s) → ⊥)
-      pick (is-true e) = rw (e, byRuns) (λ q. clashed-no-model (counted-settleable s C) (marked s) (counted-unmarked s C) (counted-clashed s C e), λ q. refl)
-      pick (is-false e) = rw (e, byRuns) (λ q. absurd (omega arith), λ none. let m = free-model (counted-settleable s C) (marked s) (counted-unmarked s C) (counted-free s C e) in absurd (none (m .0) (m .1)))
+      pick (is-true e) = rw (e, byRuns) (λ q. clashed-no-model s (counted-settleable s C .bounded) (marked s) (counted-unmarked s C) (counted-clashed s C e), λ q. refl)
+      pick (is-false e) = rw (e, byRuns) (λ q. absurd (omega arith), λ none. let m = free-model s (counted-settleable s C .bounded) (marked s) (counted-unmarked s C) (counted-free s C e) in absurd (none (m .0) (m .1)))
 
   -- ---- claims
 

@@ -96,20 +96,20 @@ module _ (s cs : List ℕ) (l : Lent) where
   two : (r : Outcome) → Told s cs l r → Demand2 s cs (left s cs l r .answers) (of.number r)
   unfolding left
   two (Accepted n nodes shadows) t q i h =
-      let ok = free-consistent (settles s cs l n (t .0)) (marked s) (unmarked s cs l n (t .0)) (free s cs l n (t .0) (t .1)) in
+      let ok = free-consistent s (settles s cs l n (t .0) .bounded) (marked s) (unmarked s cs l n (t .0)) (free s cs l n (t .0) (t .1)) in
       rw (← counted s cs l n (t .0), answer-at s cs l n (t .0) i h) (derived s (own-count (t .0 .sound)) cs (t .0 .fit) i h ok)
   two (Refused r i) t q j h = absurd (refused-positive r q)
 
   three : (r : Outcome) → Told s cs l r → of.number r ≡ 0 → (i : ℕ) → i < records cs → Entailed (marked s) (pieceCount s) (pickedFacts s cs i) (claimed cs i) (getD (left s cs l r .answers) i 0)
   unfolding left
   three (Accepted n nodes shadows) t q i h =
-      let ok = free-consistent (settles s cs l n (t .0)) (marked s) (unmarked s cs l n (t .0)) (free s cs l n (t .0) (t .1)) in
+      let ok = free-consistent s (settles s cs l n (t .0) .bounded) (marked s) (unmarked s cs l n (t .0)) (free s cs l n (t .0) (t .1)) in
       rw (← counted s cs l n (t .0), answer-at s cs l n (t .0) i h) (entailed s (own-count (t .0 .sound)) cs (t .0 .fit) i h ok)
   three (Refused r i) t q j h = absurd (refused-positive r q)
 
   modelled : (r : Outcome) → Told s cs l r → of.number r ≡ 0 → (M : Model (marked s) (pieceCount s)) × keepsAll M (facts s)
   modelled (Accepted n nodes shadows) t q =
-      subst (λ (m : ℕ). (M : Model (marked s) m) × keepsAll M (facts s)) (counted s cs l n (t .0)) (free-model (settles s cs l n (t .0)) (marked s) (unmarked s cs l n (t .0)) (free s cs l n (t .0) (t .1)))
+      subst (λ (m : ℕ). (M : Model (marked s) m) × keepsAll M (facts s)) (counted s cs l n (t .0)) (free-model s (settles s cs l n (t .0) .bounded) (marked s) (unmarked s cs l n (t .0)) (free s cs l n (t .0) (t .1)))
   modelled (Refused r i) t q = absurd (refused-positive r q)
 
   placed : (r : Outcome) → Told s cs l r → Contradicted s (of.number r) (of.place r)
@@ -119,7 +119,7 @@ module _ (s cs : List ℕ) (l : Lent) where
       pick :
           (n : ℕ) × Passed s cs l n × (leb (shortestClash (marked s) n (entries s)) (records s) ≡ true) × (i ≡ shortestClash (marked s) n (entries s) - 1)
           → Contradiction (marked s) (pieceCount s) s i
-      pick (n, p, e, k) = rw (← counted s cs l n p, k) (clashed-first (settles s cs l n p) (marked s) (unmarked s cs l n p) (counted-clashed s (own-count (p .sound)) e))
+      pick (n, p, e, k) = rw (← counted s cs l n p, k) (clashed-first s (settles s cs l n p .bounded) (marked s) (unmarked s cs l n p) (counted-clashed s (own-count (p .sound)) e))
 
   sized : (r : Outcome) → Told s cs l r → Fitting s (of.number r) (of.nodeCount r)
   sized (Accepted n nodes shadows) t q = rw (← counted s cs l n (t .0)) (fits s cs l n (t .0) nodes (t .2))
@@ -154,5 +154,5 @@ sheets-agree s cs l q f c = pick (outcome s cs l) (told s cs l) q
     pick : (r : Outcome) → Told s cs l r → of.number r ≡ 0 → Agree (pieceCount s) s f
     pick (Accepted n nodes shadows) t z =
         let e = counted s cs l n (t .0) in
-        rw (← e) (agree s cs l n (t .0) (free-consistent (settles s cs l n (t .0)) (marked s) (unmarked s cs l n (t .0)) (free s cs l n (t .0) (t .1))) f (rw (← e) at c))
+        rw (← e) (agree s cs l n (t .0) (free-consistent s (settles s cs l n (t .0) .bounded) (marked s) (unmarked s cs l n (t .0)) (free s cs l n (t .0) (t .1))) f (rw (← e) at c))
     pick (Refused r i) t z = absurd (refused-positive r z)

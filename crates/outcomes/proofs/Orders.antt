@@ -47,12 +47,12 @@ module _ (s : List ℕ) (n : ℕ) (sound : bookCheck s ≡ book.Accepted n) wher
   runs-clash e = pick (decLt (records s) (shortestClash (marked s) n (entries s)))
     where
       pick : Dec (records s < shortestClash (marked s) n (entries s)) → byRuns s n ≡ Refused Contradiction (shortestClash (marked s) n (entries s) - 1)
-      pick (yes h) = absurd (false≢true (beyond-free (settleable s n sound) (marked s) (whole-unmarked s n sound) h ∙ e))
+      pick (yes h) = absurd (false≢true (beyond-free s (settleable s n sound .bounded) (marked s) (whole-unmarked s n sound) h ∙ e))
       pick (no h) = rw (le-leb (shortestClash (marked s) n (entries s)) (records s) (omega arith), byRuns)
 
   runs-free : clash (marked s) n (facts s) ≡ false → byRuns s n ≡ Accepted n (length (bookVisits n (pairsOf s))) (length (on.shadows (bookVisits n (pairsOf s))))
   unfolding byRuns
-  runs-free e = rw (lt-leb (shortestClash (marked s) n (entries s)) (records s) (free-beyond (settleable s n sound) (marked s) (whole-unmarked s n sound) (sym e)), byRuns)
+  runs-free e = rw (lt-leb (shortestClash (marked s) n (entries s)) (records s) (free-beyond s (settleable s n sound .bounded) (marked s) (whole-unmarked s n sound) (sym e)), byRuns)
 
 -- the facts of t are those of s, and so are those that a claim picks, and the marks
 module _ (s t : List ℕ) (R : Reordered s t) (n : ℕ) (sound : bookCheck s ≡ book.Accepted n) where

@@ -307,10 +307,6 @@ pub sheets-among : (s : List ℕ) → Among (facts (sheets s)) (facts s)
 unfolding sheets
 sheets-among s = kept-among onSheet s
 
-pub sheets-fewer : (s : List ℕ) → records (sheets s) ≤ records s
-unfolding sheets
-sheets-fewer s = kept-fewer onSheet s
-
 pub sheets-shorter : (s : List ℕ) → length (sheets s) ≤ length s
 unfolding sheets
 sheets-shorter s = omega (arith, kept-whole onSheet s, kept-fewer onSheet s)

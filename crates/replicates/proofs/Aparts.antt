@@ -50,7 +50,7 @@ sound-free s {n} {v} {h} e =
     let sound = t .0 .sound in
     let S = settleable s n sound in
     let z = whole-unmarked s n sound in
-    (sound, free-consistent S (marked s) z (beyond-free S (marked s) z (leb-false _ _ (t .1))))
+    (sound, free-consistent s (S .bounded) (marked s) z (beyond-free s (S .bounded) (marked s) z (leb-false _ _ (t .1))))
 
 -- the entries at hand are pieces of the book
 below : (n : ℕ) (w : Window) (log : List ℕ) → Fits n w log → (j : ℕ) → j < length (sequence w log) → getD (sequence w log) j 0 < n

@@ -11,12 +11,13 @@ use Rattle.matrices.specs.Matrix.{bitOf}
 use Rattle.rules.specs.Follows.{clash}
 use Rattle.records.specs.Facts.{facts}
 use Rattle.records.specs.Marked.{marked}
+use Rattle.records.specs.PartIn.{partIn}
 use Rattle.records.specs.Check.{bookCheck, claimsCheck}
 use Rattle.records.specs.Refusal.{scan}
 use Rattle.records.specs.declared.BookCheck.the-variants as book
 use Rattle.records.specs.declared.Refusal.{Refusal}
 use Rattle.records.specs.declared.Refusal.the-variants.{ShortBuffer, Contradiction}
-use Rattle.contradiction.specs.Settleable.{Sizes}
+use Rattle.groups.specs.Index.{BookIndex}
 use Rattle.contradiction.specs.Settled.{Clashed}
 use Rattle.closure.specs.Apart.{Aparts}
 use Rattle.outcomes.specs.Call.{byRuns, byClaims, byBook}
@@ -76,9 +77,9 @@ module _ (s : List ℕ) (n : ℕ) (sound : bookCheck s ≡ book.Accepted n) (w :
   unfolding byPart
   clash-refused place d q C = refused Contradiction place d q (ap (byPart w log) (refuses s n (own-count sound) place C))
 
-  module _ {nodes shadowed : ℕ} (c : false ≡ clash (marked s) n (facts s)) (Z : Sizes n s nodes shadowed) where
+  module _ {nodes shadowed : ℕ} (c : false ≡ clash (marked s) n (facts s)) {parens marks shadows places : List ℕ} (I : BookIndex n (partIn (facts s)) parens marks shadows places nodes shadowed) where
     free : Accepted n nodes shadowed ≡ byRuns s n
-    free = accepts s n (own-count sound) nodes shadowed c (Z .0) (Z .1)
+    free = accepts s n (own-count sound) nodes shadowed c (I .nodes-are) (I .shadowed-are)
 
     pub part-refused :
         (r : Refusal) (i : ℕ) (d : Replicated) → d ≡ record { outcome = Refused r i; window = w } → Refused r i ≡ byPart w log (Accepted n nodes shadowed) → Judged s n w log out d out

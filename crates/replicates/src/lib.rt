@@ -218,7 +218,7 @@ fn refuse(refusal: Refusal, place: usize, window: Window) -> Replicated
     }
 }
 
-// Row 14, rows 20 and 21, and the bytes, for a book that passes the rows before.
+// Row 14, rows 20 and 21, and the bytes, for a book that passes the rows before. The index is written for its counts alone.
 fn judge(
     book: &[u8],
     n: usize,
@@ -237,7 +237,24 @@ fn judge(
     closure::marking::mark_voids(book, &mut voids);
     let mut order = [0u16; matrices::ROWS];
     let mut lead = [0u16; matrices::ROWS];
-    let settled = contradiction::settle_alone(book, n, &voids, e, &mut order, &mut lead, d, t);
+    let mut parens = [0u8; index::PARENTHESES_BYTES];
+    let mut marks = [0u8; index::MARKS_BYTES];
+    let mut shadows = [0u16; index::SHADOWS];
+    let mut places = [0u16; index::PLACES];
+    let settled = contradiction::settle(
+        book,
+        n,
+        &voids,
+        e,
+        &mut order,
+        &mut lead,
+        d,
+        t,
+        &mut parens,
+        &mut marks,
+        &mut shadows,
+        &mut places,
+    );
     match settled {
         Settled::Clash(place) => refuse(Refusal::Contradiction, place, window),
         Settled::Free(nodes, shadowed) => {

@@ -2,6 +2,7 @@
 use mathlib.Core.Path.{refl, sym, _∙_}
 use Rattle.records.proofs.Accepted.{accepted}
 use Rattle.closure.proofs.VoidRows.{accepted-markable}
+use Rattle.contradiction.proofs.SettlingLaws.{row-free, row-clash}
 use Rattle.answers.proofs.Judges.{settleable-at, cleared-at, judged-clashed, judged-accepted}
 use Rattle.answers.proofs.judge_in.Statement.{statement}
 use Rattle.answers.proofs.judge_in.Tie as tie
@@ -33,8 +34,8 @@ slice-aggregate-answer-all c = sym (c .before .before .before .before .before .b
 answer-all-requires : tie.Need-answer-all-requires
 answer-all-requires c κs =
     let s = c .before .before .before .before .before .before .before .before .before .before .before .before .before .before .before .before .before .before .before .before .before .before .before .before .before .before .before .before .before .before .before .before .before .before .before .before .before .before .before .before .before .before .pre in
-    let O = c .before .before .before .before .before .before .before .before .before .before .before .before .before .before .before .before .before .before .before .before .before .settle .ensures .0 .free _ _ (c .before .before .before .before .before .before .before .before .before .before .before .settled2 .given .1) in
-    record { sound = s .sound; void = c .before .before .before .before .before .before .before .before .before .before .before .before .before .before .before .before .before .before .before .before .before .before .before .before .before .before .before .before .before .before .before .before .before .mark-voids .ensures; free = O .is; fit = s .fit; rooms = s .answers-long; stepped = c .before .before .before .before .before .before .before .before .before .before .before .before .before .before .before .before .before .before .before .before .before .settle .ensures .1 .free _ _ (c .before .before .before .before .before .before .before .before .before .before .before .settled2 .given .1); parts = O .parts; toward = O .toward }
+    let O = c .before .before .before .before .before .before .before .before .before .before .before .before .before .before .before .before .before .before .before .before .before .settle .ensures .0 .free (row-free (c .before .before .before .before .before .before .before .before .before .before .before .settled2 .given .1)) in
+    record { sound = s .sound; void = c .before .before .before .before .before .before .before .before .before .before .before .before .before .before .before .before .before .before .before .before .before .before .before .before .before .before .before .before .before .before .before .before .before .mark-voids .ensures; free = O .is; fit = s .fit; rooms = s .answers-long; stepped = c .before .before .before .before .before .before .before .before .before .before .before .before .before .before .before .before .before .before .before .before .before .settle .ensures .1 .free (row-free (c .before .before .before .before .before .before .before .before .before .before .before .settled2 .given .1)); parts = O .parts; toward = O .toward }
 
 same-length : tie.Need-same-length
 same-length c = c .before .before .before .before .before .before .before .before .refuse-clash .kept .0 ∙ c .before .before .before .before .before .before .before .before .before .before .before .before .before .before .before .before .before .before .before .before .before .before .before .before .settle .kept .1 .1 .1 .1 .1 .1 .1 .1 .0
@@ -52,7 +53,7 @@ returns : tie.Need-returns
 returns c =
     let s = c .before .before .before .before .before .before .before .before .before .before .before .before .before .before .before .before .before .before .before .before .before .before .before .before .before .before .before .before .before .before .before .before .before .before .before .before .before .before .before .before .before .before .before .before .before .pre in
     let S = c .before .before .before .before .before .before .before .before .before .before .before .before .before .before .before .before .before .before .before .before .before .before .before .before .settle in
-    judged-clashed _ _ _ _ s _ _ _ _ _ (c .before .before .before .before .before .before .before .before .refuse-clash .ensures .0) (rw (c .before .before .before .before .before .before .before .before .before .before .before .before .before .before .before .before .before .before .before .before .before .before .before .before .before .before .before .before .before .before .before .before .before .before .before .before .mark-voids .ensures .1) at (S .ensures .0 .clash _ (c .before .before .before .before .before .before .before .before .before .before .before .before .before .before .settled .given .1)))
+    judged-clashed _ _ _ _ s _ _ _ _ _ (c .before .before .before .before .before .before .before .before .refuse-clash .ensures .0) (rw (c .before .before .before .before .before .before .before .before .before .before .before .before .before .before .before .before .before .before .before .before .before .before .before .before .before .before .before .before .before .before .before .before .before .before .before .before .mark-voids .ensures .1) at (S .ensures .0 .clash _ (row-clash (c .before .before .before .before .before .before .before .before .before .before .before .before .before .before .settled .given .1))))
     (cleared-at (S .kept .1 .1 .1 .1 .1 .1 .1 .1 .0 ∙ s .parens-long) (S .kept .1 .1 .1 .1 .1 .1 .1 .1 .1 .0 ∙ s .marks-long) (S .kept .1 .1 .1 .1 .1 .1 .1 .1 .1 .1 .0 ∙ s .shadows-long) (S .kept .1 .1 .1 .1 .1 .1 .1 .1 .1 .1 .1 .0 ∙ s .places-long) (c .before .before .before .before .before .before .before .before .refuse-clash .ensures .1))
 
 same-length-5 : tie.Need-same-length-5
@@ -75,7 +76,7 @@ returns-2 c =
     let s = c .before .before .before .before .before .before .before .before .before .before .before .before .before .before .before .before .before .before .before .before .before .before .before .before .before .before .before .before .before .before .before .before .before .before .before .before .before .before .before .before .before .before .before .before .before .pre in
     let S = c .before .before .before .before .before .before .before .before .before .before .before .before .before .before .before .before .before .before .before .before .before .before .before .before .settle in
     judged-accepted _ _ _ _ s _ _ _ _ _ _ _ _ _ (S .kept .1 .1 .1 .1 .1 .1 .1 .1 .0 ∙ s .parens-long) (S .kept .1 .1 .1 .1 .1 .1 .1 .1 .1 .0 ∙ s .marks-long) (S .kept .1 .1 .1 .1 .1 .1 .1 .1 .1 .1 .0 ∙ s .shadows-long) (S .kept .1 .1 .1 .1 .1 .1 .1 .1 .1 .1 .1 .0 ∙ s .places-long)
-    (rw (c .before .before .before .before .before .before .before .before .before .before .before .before .before .before .before .before .before .before .before .before .before .before .before .before .before .before .before .before .before .before .before .before .before .before .before .before .mark-voids .ensures .1) at (S .ensures .0 .free _ _ (c .before .before .before .before .before .before .before .before .before .before .before .before .before .before .settled2 .given .1))) (S .ensures .2 .free _ _ (c .before .before .before .before .before .before .before .before .before .before .before .before .before .before .settled2 .given .1)) (c .before .before .answer-all .ensures)
+    (rw (c .before .before .before .before .before .before .before .before .before .before .before .before .before .before .before .before .before .before .before .before .before .before .before .before .before .before .before .before .before .before .before .before .before .before .before .before .mark-voids .ensures .1) at (S .ensures .0 .free (row-free (c .before .before .before .before .before .before .before .before .before .before .before .before .before .before .settled2 .given .1)))) (S .ensures .2 .free _ _ (c .before .before .before .before .before .before .before .before .before .before .before .before .before .before .settled2 .given .1)) (c .before .before .answer-all .ensures)
 
 pub judge-in-spec : {M : Type 1} → statement M
 judge-in-spec =

@@ -2,6 +2,7 @@
 use mathlib.Core.Path.{refl, sym, _∙_}
 use Rattle.lists.specs.Tab.{tab}
 use Rattle.records.specs.Claimed.{answersTo}
+use Rattle.contradiction.proofs.SettlingLaws.{row-free, row-clash}
 use Rattle.answers.proofs.Judges.{settleable-at, cleared-at}
 use Rattle.answers.proofs.Judges as answers
 use Rattle.catalog.proofs.Books.{places-are}
@@ -32,7 +33,7 @@ fill-requires c κs =
     let P = c .before .before .before .before .before .before .before .before .before .before .before .before .before .before .before .before .before .before .before .before .before .before .before .before .before .before .before .before .before .before .before .before .before .before .before .before .before .before .before .pre in
     let X = P .1 .exact in
     let S = c .before .before .before .before .before .before .before .before .before .before .before .before .before .before .before .before .before .before .before .before .before .settle in
-    let O = S .ensures .1 .free _ _ (c .before .before .before .before .before .before .before .before .before .before .settled2 .given .1) in (
+    let O = S .ensures .1 .free (row-free (c .before .before .before .before .before .before .before .before .before .before .settled2 .given .1)) in (
       P .0,
       record { sound = P .1 .sound; void = S .ensures .0; free = O .is; parts = O .parts; toward = O .toward; placed = places-are _ _ (P .1 .sound) (S .ensures .2 .free _ _ (c .before .before .before .before .before .before .before .before .before .before .settled2 .given .1)) (S .kept .1 .1 .1 .1 .1 .1 .1 .1 .1 .0 ∙ X .places-long) },
       P .1 .roomy,
@@ -55,7 +56,7 @@ returns c =
     let X = c .before .before .before .before .before .before .before .before .before .before .before .before .before .before .before .before .before .before .before .before .before .before .before .before .before .before .before .before .before .before .before .before .before .before .before .before .before .before .before .before .before .before .before .pre .1 .exact in
     let S = c .before .before .before .before .before .before .before .before .before .before .before .before .before .before .before .before .before .before .before .before .before .before .before .before .before .settle in
     judged-refused _ _ _ _ _
-    (answers.judged-refused _ _ _ _ X _ _ _ _ _ (rw (S .ensures .0 .1) at (S .ensures .1 .clash _ (c .before .before .before .before .before .before .before .before .before .before .before .before .before .before .settled .given .1)))
+    (answers.judged-refused _ _ _ _ X _ _ _ _ _ (rw (S .ensures .0 .1) at (S .ensures .1 .clash _ (row-clash (c .before .before .before .before .before .before .before .before .before .before .before .before .before .before .settled .given .1))))
     (cleared-at (S .kept .1 .1 .1 .1 .1 .1 .0 ∙ X .parens-long) (S .kept .1 .1 .1 .1 .1 .1 .1 .0 ∙ X .marks-long) (S .kept .1 .1 .1 .1 .1 .1 .1 .1 .0 ∙ X .shadows-long) (S .kept .1 .1 .1 .1 .1 .1 .1 .1 .1 .0 ∙ X .places-long) (c .before .before .before .before .before .before .before .before .clear-index .ensures)))
 
 same-length-5 : tie.Need-same-length-5
@@ -89,7 +90,7 @@ returns-2 c =
     let S = c .before .before .before .before .before .before .before .before .before .before .before .before .before .before .before .before .before .before .before .before .before .before .before .before .before .before .before .before .before .before .settle in
     judged-written _ _ _ _ _
     (answers.judged-accepted _ _ _ _ X _ _ _ _ _ _ _ _ _ (S .kept .1 .1 .1 .1 .1 .1 .0 ∙ X .parens-long) (S .kept .1 .1 .1 .1 .1 .1 .1 .0 ∙ X .marks-long) (S .kept .1 .1 .1 .1 .1 .1 .1 .1 .0 ∙ X .shadows-long) (S .kept .1 .1 .1 .1 .1 .1 .1 .1 .1 .0 ∙ X .places-long)
-    (rw (S .ensures .0 .1) at (S .ensures .1 .free _ _ (c .before .before .before .before .before .before .before .before .before .before .before .before .before .before .before .before .before .before .before .settled2 .given .1))) (S .ensures .2 .free _ _ (c .before .before .before .before .before .before .before .before .before .before .before .before .before .before .before .before .before .before .before .settled2 .given .1)) refl)
+    (rw (S .ensures .0 .1) at (S .ensures .1 .free (row-free (c .before .before .before .before .before .before .before .before .before .before .before .before .before .before .before .before .before .before .before .settled2 .given .1)))) (S .ensures .2 .free _ _ (c .before .before .before .before .before .before .before .before .before .before .before .before .before .before .before .before .before .before .before .settled2 .given .1)) refl)
     (c .before .before .before .before .before .before .before .before .fill .ensures)
 
 pub judge-spec : {M : Type 1} → statement M

@@ -5,9 +5,8 @@ use Prim.Native.Nat.{ℕ}
 use lib.ListN.{length-replicate}
 use lib.Seq.{length-take-le}
 use Rattle.records.proofs.Keeps.{picked-sheets, sheets-shorter}
-use Rattle.contradiction.proofs.SettlingLaws.{settleable-alone}
 use Rattle.claims.proofs.Counts.{own-count}
-use Rattle.claims.proofs.Sheets.{book-short, sheets-taken, sheets-settleable, sheets-opened}
+use Rattle.claims.proofs.Sheets.{book-short, sheets-taken, sheets-bounded, sheets-opened}
 use Rattle.chain_writing.proofs.Replies.{ground-of, free-by}
 use native.Mathlib.Omega.{arith}
 use Rattle.chain_writing.proofs.write_restricted.Statement.{statement}
@@ -26,10 +25,10 @@ slice-aggregate-run : tie.Need-slice-aggregate-run
 slice-aggregate-run c = sym (length-take-le _ _ (array-share-prefix-kept (c .before)))
 
 settle-alone-requires : tie.Need-settle-alone-requires
-settle-alone-requires c κs = let K = c .before .before .before .before .before .before .before .keep-sheets in let run = sheets-taken _ _ _ (K .ensures .0) (K .ensures .1) in (settleable-alone (sheets-settleable _ (own-count (c .before .before .before .before .before .before .before .before .before .before .before .before .pre .0)) run), c .before .before .before .before .before .before .before .before .before .before .before .before .pre .1 .0)
+settle-alone-requires c κs = let K = c .before .before .before .before .before .before .before .keep-sheets in let run = sheets-taken _ _ _ (K .ensures .0) (K .ensures .1) in (sheets-bounded _ (own-count (c .before .before .before .before .before .before .before .before .before .before .before .before .pre .0)) run, c .before .before .before .before .before .before .before .before .before .before .before .before .pre .1 .0)
 
 edges-requires : tie.Need-edges-requires
-edges-requires c κs = let K = c .before .before .before .before .before .before .before .before .before .keep-sheets in let run = sheets-taken _ _ _ (K .ensures .0) (K .ensures .1) in (sheets-settleable _ (own-count (c .before .before .before .before .before .before .before .before .before .before .before .before .before .before .pre .0)) run .bounded, search needs)
+edges-requires c κs = let K = c .before .before .before .before .before .before .before .before .before .keep-sheets in let run = sheets-taken _ _ _ (K .ensures .0) (K .ensures .1) in (sheets-bounded _ (own-count (c .before .before .before .before .before .before .before .before .before .before .before .before .before .before .pre .0)) run, search needs)
 
 write-found-requires : tie.Need-write-found-requires
 write-found-requires c κs = let K = c .before .before .before .before .before .before .before .before .before .before .before .before .before .before .keep-sheets in let T = c .before .before .before .before .before .before .settle-alone in let run = sheets-taken _ _ _ (K .ensures .0) (K .ensures .1) in let O = sheets-opened _ (own-count (c .before .before .before .before .before .before .before .before .before .before .before .before .before .before .before .before .before .before .before .pre .0)) run _ (c .before .before .before .before .before .before .before .before .before .before .before .before .before .before .before .before .before .before .before .pre .1 .0 .whole) (free-by _ _ _ (c .before .before .before .before .before .before .before .before .before .before .before .before .before .before .before .before .before .before .before .pre .1) (c .before .before .before .before .before .before .before .before .before .before .before .before .before .before .before .before .before .before .before .pre .2)) (T .result) (T .ensures .0) in (ground-of _ _ _ _ _ (c .before .before .before .before .before .before .before .before .before .before .before .before .before .before .before .before .before .before .before .pre .0) (c .before .before .before .before .before .before .before .before .before .before .before .before .before .before .before .before .before .before .before .pre .1) (run ∙ sym (picked-sheets _ _ (c .before .before .before .before .before .before .before .before .before .before .before .before .before .before .before .before .before .before .before .pre .3))) O (c .before .before .before .before .edges .ensures), c .before .before .before .before .before .before .before .before .before .before .before .before .before .before .before .before .before .before .before .pre .4, c .before .before .before .before .before .before .before .before .before .before .before .before .before .before .before .before .before .before .before .pre .5, c .before .before .before .before .before .before .before .before .before .before .before .before .before .before .before .before .before .before .before .pre .6)

@@ -5,8 +5,7 @@ use mathlib.Core.Path.{_≡_, sym}
 use lib.ListN.{length-replicate}
 use lib.Seq.{length-take-le}
 use Rattle.records.proofs.Keeps.{sheets-shorter}
-use Rattle.contradiction.proofs.SettlingLaws.{settleable-alone}
-use Rattle.claims.proofs.Sheets.{sheets-taken, book-short, sheets-settleable, sheets-stepped, sheets-answered}
+use Rattle.claims.proofs.Sheets.{sheets-taken, book-short, sheets-bounded, sheets-stepped, sheets-answered}
 use Rattle.claims.proofs.answer_restricted.Statement.{statement}
 use Rattle.claims.proofs.answer_restricted.Tie as tie
 
@@ -37,7 +36,7 @@ settle-alone-requires c κs =
     let s = c .before .before .before .before .before .before .before .before .before .before .before .before .before .pre in
     let K = c .before .before .before .before .before .before .before .keep-sheets in
     let run = sheets-taken _ _ _ (K .ensures .0) (K .ensures .1) in
-    (settleable-alone (sheets-settleable _ (s .sound) run), s .void)
+    (sheets-bounded _ (s .sound) run, s .void)
 
 complete-requires : tie.Need-complete-requires
 complete-requires c κs =
@@ -45,14 +44,14 @@ complete-requires c κs =
     let K = c .before .before .before .before .before .before .before .before .before .before .before .before .before .before .before .before .before .keep-sheets in
     let T = c .before .before .before .before .before .before .before .before .before .settle-alone in
     let run = sheets-taken _ _ _ (K .ensures .0) (K .ensures .1) in
-    (sheets-settleable _ (s .sound) run .bounded, s .void, sheets-stepped _ (s .sound) run _ (s .void .whole) (s .free) (T .result) (T .ensures .0) (T .ensures .1), c .before .before .complete-arg7 .given .0 .1, c .before .complete-arg8 .given .0 .1, c .complete-arg9 .given .0 .1)
+    (sheets-bounded _ (s .sound) run, s .void, sheets-stepped _ (s .sound) run _ (s .void .whole) (s .free) (T .result) (T .ensures .0) (T .ensures .1), c .before .before .complete-arg7 .given .0 .1, c .before .complete-arg8 .given .0 .1, c .complete-arg9 .given .0 .1)
 
 answer-each-requires : tie.Need-answer-each-requires
 answer-each-requires c κs =
     let s = c .before .before .before .before .before .before .before .before .before .before .before .before .before .before .before .before .before .before .before .before .before .before .before .before .before .before .before .before .before .before .pre in
     let K = c .before .before .before .before .before .before .before .before .before .before .before .before .before .before .before .before .before .before .before .before .before .before .before .before .keep-sheets in
     let run = sheets-taken _ _ _ (K .ensures .0) (K .ensures .1) in
-    record { n = _; small = sheets-settleable _ (s .sound) run .bounded .fits; fit = s .fit; rooms = s .rooms; voids-sized = s .void .sized }
+    record { n = _; small = sheets-bounded _ (s .sound) run .fits; fit = s .fit; rooms = s .rooms; voids-sized = s .void .sized }
 
 same-length : tie.Need-same-length
 same-length c = c .before .before .answer-each .kept .1 .1 .1 .1 .1 .1 .1 .1 .0

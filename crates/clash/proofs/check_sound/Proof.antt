@@ -2,7 +2,7 @@
 use mathlib.Core.Path.{_∙_}
 use Rattle.records.proofs.Accepted.{accepted}
 use Rattle.closure.proofs.VoidRows.{accepted-markable}
-use Rattle.contradiction.proofs.SettlingLaws.{settleable, settleable-alone}
+use Rattle.contradiction.proofs.SettlingLaws.{settleable}
 use Rattle.clash.proofs.Replies.{placed, checked-clash, checked-free}
 use borrow.Author.Needs.{needs}
 use Rattle.clash.proofs.check_sound.Statement.{statement}
@@ -18,7 +18,7 @@ slice-aggregate-settle-alone : tie.Need-slice-aggregate-settle-alone
 slice-aggregate-settle-alone c = search needs
 
 settle-alone-requires : tie.Need-settle-alone-requires
-settle-alone-requires c κs = (settleable-alone (settleable _ _ (c .before .before .before .before .before .before .before .before .before .before .before .pre)), c .before .before .before .before .before .before .before .mark-voids .ensures .0)
+settle-alone-requires c κs = (settleable _ _ (c .before .before .before .before .before .before .before .before .before .before .before .pre) .bounded, c .before .before .before .before .before .before .before .mark-voids .ensures .0)
 
 enum-told : tie.Need-enum-told
 enum-told c = search needs
@@ -33,7 +33,7 @@ check-behind-requires : tie.Need-check-behind-requires
 check-behind-requires c κs = placed _ _ (c .before .before .before .before .before .before .before .before .before .before .before .before .before .before .before .before .pre) (c .before .before .before .before .before .before .before .before .before .before .before .before .mark-voids .ensures) _ (c .before .before .before .before .settle-alone .ensures .0 .clash _ (c .before .before .settled .given .1))
 
 returns : tie.Need-returns
-returns c = checked-free _ _ _ (c .before .before .before .before .before .before .before .before .before .before .before .before .before .before .pre) (c .before .before .before .before .before .before .before .before .before .before .mark-voids .ensures) (c .before .before .settle-alone .ensures .0 .free _ _ (c .enum-told .given .1))
+returns c = checked-free _ _ _ (c .before .before .before .before .before .before .before .before .before .before .before .before .before .before .pre) (c .before .before .before .before .before .before .before .before .before .before .mark-voids .ensures) (c .before .before .settle-alone .ensures .0 .free (c .enum-told .given .1))
 
 returns-2 : tie.Need-returns-2
 returns-2 c = c .check-behind .ensures ∙ checked-clash _ _ _ (c .before .before .before .before .before .before .before .before .before .before .before .before .before .before .before .before .before .pre) (c .before .before .before .before .before .before .before .before .before .before .before .before .before .mark-voids .ensures) _ (c .before .before .before .before .before .settle-alone .ensures .0 .clash _ (c .before .before .before .settled .given .1))

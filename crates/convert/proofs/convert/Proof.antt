@@ -42,7 +42,7 @@ same-length c = search needs
 
 returns-4 : tie.Need-returns-4
 returns-4 c =
-    by-free _ _ (c .before .before .before .before .before .before .before .before .before .before .before .before .before .before .if1 .left) _ (sym (c .before .before .before .before .before .before .before .before .before .before .before .before .before .check-former .ensures) ∙ c .before .before .before .before .before .before .before .before .before .before .before .checked2 .given .1) (λ k. c .before .before .before .before .before .before .before .before .before .before .before .before .before .before .before .before .shared-slice-known .given k .fits) (c .before .before .before .before .before .before .settle .ensures .free _ _ (c .before .before .before .before .enum-told .given .1)) _ _ (c .before .before .write-book .ensures .0) (c .before .before .write-book .ensures .1)
+    by-free _ _ (c .before .before .before .before .before .before .before .before .before .before .before .before .before .before .if1 .left) _ (sym (c .before .before .before .before .before .before .before .before .before .before .before .before .before .check-former .ensures) ∙ c .before .before .before .before .before .before .before .before .before .before .before .checked2 .given .1) (λ k. c .before .before .before .before .before .before .before .before .before .before .before .before .before .before .before .before .shared-slice-known .given k .fits) (c .before .before .before .before .before .before .settle .ensures .free (c .before .before .before .before .enum-told .given .1)) _ _ (c .before .before .write-book .ensures .0) (c .before .before .write-book .ensures .1)
 
 pub convert-spec : {M : Type 1} → statement M
 convert-spec =

@@ -1,8 +1,7 @@
 -- `convert::settle` meets its contract. Assumes nothing.
 use borrow.Author.Needs.{needs}
 use Rattle.closure.proofs.VoidRows.{no-voids}
-use Rattle.contradiction.proofs.SettlingLaws.{settleable-alone}
-use Rattle.convert.proofs.Writes.{no-marks, settleable-former}
+use Rattle.convert.proofs.Writes.{no-marks, former-bounded}
 use Rattle.convert.proofs.settle.Statement.{statement}
 use Rattle.convert.proofs.settle.Tie as tie
 
@@ -10,10 +9,10 @@ slice-aggregate-settle-alone : tie.Need-slice-aggregate-settle-alone
 slice-aggregate-settle-alone c = search needs
 
 settle-alone-requires : tie.Need-settle-alone-requires
-settle-alone-requires c κs = (settleable-alone (settleable-former _ _ (c .before .before .before .before .before .before .before .pre)), no-voids)
+settle-alone-requires c κs = (former-bounded _ _ (c .before .before .before .before .before .before .before .pre), no-voids)
 
 returns : tie.Need-returns
-returns c = let S = c .settle-alone .ensures .0 in record { free = λ a b q. rw no-marks at (S .free a b q .is); clash = λ p q. rw no-marks at (S .clash p q) }
+returns c = let S = c .settle-alone .ensures .0 in record { free = λ q. rw no-marks at (S .free q .is); clash = λ p q. rw no-marks at (S .clash p q) }
 
 pub settle-spec : {M : Type 1} → statement M
 settle-spec =

@@ -28,7 +28,7 @@ slice-aggregate-contents-by-4 : tie.Need-slice-aggregate-contents-by-4
 slice-aggregate-contents-by-4 c = search needs
 
 contents-by-requires-2 : tie.Need-contents-by-requires-2
-contents-by-requires-2 c κs = let A = c .before .before .before .before .before .before .before .before .before .before in (A .pre .0, A .pre .1, A .pre .2, A .pre .3, omega (arith, A .pre .1, length-replicate {A = ℕ} 18432 0), omega (arith, A .pre .1, length-replicate {A = ℕ} 18432 0))
+contents-by-requires-2 c κs = let A = c .before .before .before .before .before .before .before .before .before .before in (A .pre .0, A .pre .1, A .pre .2, A .pre .3, omega (arith, A .pre .1, length-replicate {A = ℕ} 10240 0), omega (arith, A .pre .1, length-replicate {A = ℕ} 10240 0))
 
 same-length-2 : tie.Need-same-length-2
 same-length-2 c = search needs

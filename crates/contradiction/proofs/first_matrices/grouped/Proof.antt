@@ -1,8 +1,8 @@
--- `opening::grouped` meets its contract: the search reads the stored PARTs. Assumes nothing.
+-- `first_matrices::grouped` meets its contract: the search reads the stored PARTs. Assumes nothing.
 use borrow.Author.Needs.{needs}
 use Rattle.contradiction.proofs.GroupIndex.{edged, searchable}
-use Rattle.contradiction.proofs.opening.grouped.Statement.{statement}
-use Rattle.contradiction.proofs.opening.grouped.Tie as tie
+use Rattle.contradiction.proofs.first_matrices.grouped.Statement.{statement}
+use Rattle.contradiction.proofs.first_matrices.grouped.Tie as tie
 
 edges-requires : tie.Need-edges-requires
 edges-requires c κs = search needs

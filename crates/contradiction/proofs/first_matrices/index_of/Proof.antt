@@ -1,4 +1,4 @@
--- `opening::index_of` meets its contract: the matrix has the pairs between groups, and pieces get the places of their groups. Assumes nothing.
+-- `first_matrices::index_of` meets its contract: the matrix has the pairs between groups, and pieces get the places of their groups. Assumes nothing.
 use Prim.Native.Nat.{ℕ, _<_, _≤_}
 use mathlib.Core.Path.{_≡_, sym}
 use lib.ListN.{length-replicate}
@@ -6,8 +6,8 @@ use native.Mathlib.Omega.{arith}
 use Rattle.contradiction.proofs.GroupIndex.{named-below, buildable}
 use Rattle.contradiction.proofs.Parts.{index-written}
 use Rattle.contradiction.proofs.Halving.{facts-roomy}
-use Rattle.contradiction.proofs.opening.index_of.Statement.{statement}
-use Rattle.contradiction.proofs.opening.index_of.Tie as tie
+use Rattle.contradiction.proofs.first_matrices.index_of.Statement.{statement}
+use Rattle.contradiction.proofs.first_matrices.index_of.Tie as tie
 
 -- what fits 2,048 places fits an array of 2,048
 fits-all : {n k : ℕ} → n ≤ 2048 → k ≡ 2048 → n ≤ k

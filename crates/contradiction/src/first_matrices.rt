@@ -1,4 +1,4 @@
-// The first half of a closure: the groups of a run, its index, its steps, D and T, and whether it is contradictory.
+// The first two matrices of a run, D and T, with its groups and steps, and its index where one is asked for; and whether it is contradictory.
 ghost use mathlib.Core.Path.{_≡_};
 ghost use Prim.Native.Nat.{_/_};
 ghost use lib.ListN.{length};
@@ -13,7 +13,7 @@ ghost use Rattle.closure.specs.Stepped.{Stepped};
 ghost use Rattle.records.specs.PartIn.{partIn};
 ghost use Rattle.contradiction.specs.Numbered.{Numbered};
 ghost use Rattle.contradiction.specs.Opened.{Opened};
-ghost use Rattle.contradiction.specs.Settleable.{Settleable, Sizes};
+ghost use Rattle.contradiction.specs.Settleable.{Settleable};
 use matrices::Matrix;
 use matrices::RowNumbers;
 
@@ -55,7 +55,7 @@ fn index_of(
     counts
 }
 
-// What the first half of a closure finds.
+// What the first half of a closure finds with an index: its counts, and whether the run is contradictory.
 pub struct Begun {
     pub nodes: usize,
     pub shadows: usize,
@@ -95,7 +95,7 @@ pub fn begin(
     }
 }
 
-// The same with an index of its own, which is dropped: it has room for the records of two books.
+// The same without an index: D is made from the steps.
 pub fn begin_alone(
     run: &[u8],
     n: usize,
@@ -105,31 +105,19 @@ pub fn begin_alone(
     lead: &mut RowNumbers,
     d: &mut Matrix,
     t: &mut Matrix,
-) -> Begun
-    requires { ⌜ Settleable n (now run) 4608 2304 16384 2048 × Voids (now voids) ⌝ }
-    ensures { λ r. ⌜ Opened (voidOf (now (voids .entry))) n (facts (now (run .entry))) (now (d .exit)) (now (t .exit)) (r .clash) × Stepped n (facts (now (run .entry))) (now (e .exit)) (now (order .exit)) (now (lead .exit)) × Sizes n (now (run .entry)) (r .nodes) (r .shadows) ⌝ }
+) -> bool
+    requires { ⌜ Bounded n (facts (now run)) × Voids (now voids) ⌝ }
+    ensures { λ r. ⌜ Opened (voidOf (now (voids .entry))) n (facts (now (run .entry))) (now (d .exit)) (now (t .exit)) r × Stepped n (facts (now (run .entry))) (now (e .exit)) (now (order .exit)) (now (lead .exit)) ⌝ }
 {
-    let mut parens = [0u8; 4608];
-    let mut marks = [0u8; 2304];
-    let mut shadows = [0u16; 2 * index::SHADOWS];
-    let mut places = [0u16; index::PLACES];
-    begin(
-        run,
-        n,
-        voids,
-        e,
-        order,
-        lead,
-        d,
-        t,
-        &mut parens,
-        &mut marks,
-        &mut shadows,
-        &mut places,
-    )
+    let mut number = [0u16; matrices::ROWS];
+    grouped(run, n, e, &mut number, lead, order);
+    closure::steps(run, lead, n, e);
+    closure::part_rows(n, e, order, lead, d);
+    closure::meeting(run, n, voids, e, order, lead, t);
+    verdicts::clashes(run, voids, d, t)
 }
 
-// Whether a run of up to the records of two books is contradictory. The matrices are scratch.
+// Whether a run is contradictory. The matrices are scratch.
 pub fn contradicts(
     run: &[u8],
     n: usize,
@@ -138,11 +126,10 @@ pub fn contradicts(
     d: &mut Matrix,
     t: &mut Matrix,
 ) -> bool
-    requires { ⌜ Settleable n (now run) 4608 2304 16384 2048 × Voids (now voids) ⌝ }
+    requires { ⌜ Bounded n (facts (now run)) × Voids (now voids) ⌝ }
     ensures { λ r. ⌜ r ≡ clash (voidOf (now (voids .entry))) n (facts (now (run .entry))) ⌝ }
 {
     let mut order = [0u16; matrices::ROWS];
     let mut lead = [0u16; matrices::ROWS];
-    let begun = begin_alone(run, n, voids, e, &mut order, &mut lead, d, t);
-    begun.clash
+    begin_alone(run, n, voids, e, &mut order, &mut lead, d, t)
 }

@@ -1,4 +1,4 @@
--- `settling::contradiction` meets its contract: the invariant is `Halving`. Assumes nothing.
+-- `row_14::contradiction` meets its contract: the invariant is `Halving`. Assumes nothing.
 use borrow.Author.Needs.{needs}
 use native.Mathlib.Omega.{arith}
 use Prim.Native.Nat.{_+_, _*_, _/_, _-_, _≤_}
@@ -6,9 +6,9 @@ use mathlib.Core.Path.{sym}
 use lib.ListN.{length}
 use lib.Seq.{length-take-le}
 use Rattle.closure.specs.Void.{voidOf}
-use Rattle.contradiction.proofs.Halving.{run-bounded, run-roomy, Halving, halving-start, halving-high, halving-low, halving-done}
-use Rattle.contradiction.proofs.settling.contradiction.Statement.{statement}
-use Rattle.contradiction.proofs.settling.contradiction.Tie as tie
+use Rattle.contradiction.proofs.Halving.{run-bounded, Halving, halving-start, halving-high, halving-low, halving-done}
+use Rattle.contradiction.proofs.row_14.contradiction.Statement.{statement}
+use Rattle.contradiction.proofs.row_14.contradiction.Tie as tie
 
 abbrev Inv-loop : tie.InvT-loop
 Inv-loop book n voids e₀ d₀ t₀ low₀ high₀ e d t low high = Halving (voidOf voids) n book low high
@@ -17,7 +17,7 @@ abbrev μ-loop : tie.MeasureT-loop
 μ-loop book n voids e₀ d₀ t₀ low₀ high₀ e d t low high = high - low
 
 loop-holds : tie.Need-loop-holds Inv-loop μ-loop
-loop-holds c = halving-start _ _ _ (c .before .before .pre .0 .bounded) (c .before .before .pre .1 .whole) (c .before .before .pre .2)
+loop-holds c = halving-start _ _ _ (c .before .before .pre .0) (c .before .before .pre .1 .whole) (c .before .before .pre .2)
 
 add-loop : tie.Need-add-loop Inv-loop μ-loop
 add-loop c = search needs
@@ -41,7 +41,7 @@ contradicts-requires c κs =
     let mid = (L .low + L .high) / 2 in
     let up = L .inv .upto in
     let fits : 6 * mid ≤ length s = omega arith in
-    (record { bounded = run-bounded s mid fits (c .before .before .before .before .before .before .before .before .pre .0 .bounded); roomy = run-roomy s mid fits (c .before .before .before .before .before .before .before .before .pre .0 .roomy) }, c .before .before .before .before .before .before .before .before .pre .1)
+    (run-bounded s mid fits (c .before .before .before .before .before .before .before .before .pre .0), c .before .before .before .before .before .before .before .before .pre .1)
 
 loop-less : tie.Need-loop-less Inv-loop μ-loop
 loop-less c = search needs
@@ -64,7 +64,7 @@ loop-again-2 c =
 returns : tie.Need-returns Inv-loop μ-loop
 returns c =
     let L = c .before .loop in
-    halving-done _ _ _ (L .low) (L .high) (c .before .before .before .before .pre .0 .bounded) (c .before .before .before .before .pre .1 .whole) (omega arith) (L .inv)
+    halving-done _ _ _ (L .low) (L .high) (c .before .before .before .before .pre .0) (c .before .before .before .before .pre .1 .whole) (omega arith) (L .inv)
 
 pub contradiction-spec : {M : Type 1} → statement M
 contradiction-spec =

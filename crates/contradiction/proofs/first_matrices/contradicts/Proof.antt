@@ -1,7 +1,7 @@
--- `opening::contradicts` meets its contract. Assumes nothing.
+-- `first_matrices::contradicts` meets its contract. Assumes nothing.
 use borrow.Author.Needs.{needs}
-use Rattle.contradiction.proofs.opening.contradicts.Statement.{statement}
-use Rattle.contradiction.proofs.opening.contradicts.Tie as tie
+use Rattle.contradiction.proofs.first_matrices.contradicts.Statement.{statement}
+use Rattle.contradiction.proofs.first_matrices.contradicts.Tie as tie
 
 begin-alone-requires : tie.Need-begin-alone-requires
 begin-alone-requires c κs = search needs

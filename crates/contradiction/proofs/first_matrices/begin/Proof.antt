@@ -1,9 +1,9 @@
--- `opening::begin` meets its contract: one field for each call. Assumes nothing.
+-- `first_matrices::begin` meets its contract: one field for each call. Assumes nothing.
 use Rattle.closure.proofs.Holding.{below-2048}
 use Rattle.contradiction.proofs.Parts.{few-nodes, index-stored, parts-hold, led, steps-hold}
 use Rattle.contradiction.proofs.Halving.{facts-roomy, roomy-same}
-use Rattle.contradiction.proofs.opening.begin.Statement.{statement}
-use Rattle.contradiction.proofs.opening.begin.Tie as tie
+use Rattle.contradiction.proofs.first_matrices.begin.Statement.{statement}
+use Rattle.contradiction.proofs.first_matrices.begin.Tie as tie
 
 grouped-requires : tie.Need-grouped-requires
 grouped-requires c κs = c .before .before .before .before .before .before .before .before .before .before .pre .0 .bounded

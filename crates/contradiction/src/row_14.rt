@@ -1,4 +1,4 @@
-// Row 14 of a run: its groups, its index, its first two matrices, and whether and where it is contradictory.
+// Row 14 of a run: whether it is contradictory, and at which record; with its first two matrices, its steps, and its index where one is asked for.
 ghost use mathlib.Core.Path.{_≡_};
 ghost use mathlib.Core.Bool.{true};
 ghost use Prim.Native.Nat.{_+_, _/_};
@@ -8,8 +8,9 @@ ghost use Rattle.rules.specs.Entries.{shortestClash};
 ghost use Rattle.records.specs.Facts.{entries, facts};
 ghost use Rattle.closure.specs.Void.{voidOf, Voids};
 ghost use Rattle.contradiction.specs.Settleable.{Settleable};
-ghost use Rattle.contradiction.specs.Settled.{Settles, Steps, Sized, Indexes};
-use crate::opening;
+ghost use Rattle.closure.specs.Bounded.{Bounded};
+ghost use Rattle.contradiction.specs.Settled.{row, Settles, Steps, Indexes};
+use crate::first_matrices;
 use matrices::Matrix;
 use matrices::RowNumbers;
 
@@ -23,7 +24,7 @@ fn contradiction(
     d: &mut Matrix,
     t: &mut Matrix,
 ) -> usize
-    requires { ⌜ Settleable n (now book) 4608 2304 16384 2048 × Voids (now voids) × (clash (voidOf (now voids)) n (facts (now book)) ≡ true) ⌝ }
+    requires { ⌜ Bounded n (facts (now book)) × Voids (now voids) × (clash (voidOf (now voids)) n (facts (now book)) ≡ true) ⌝ }
     ensures { λ r. ⌜ r + 1 ≡ shortestClash (voidOf (now (voids .entry))) n (entries (now (book .entry))) ⌝ }
 {
     let mut low: usize = 0;
@@ -31,7 +32,7 @@ fn contradiction(
     while low + 1 < high {
         let mid = (low + high) / 2;
         let end = 6 * mid;
-        if opening::contradicts(&book[..end], n, voids, e, d, t) {
+        if first_matrices::contradicts(&book[..end], n, voids, e, d, t) {
             high = mid;
             continue;
         }
@@ -40,7 +41,13 @@ fn contradiction(
     low
 }
 
-// What row 14 says of a run: free, with the counts of nodes and shadows of its index; or contradictory, with the place.
+// What row 14 says of a run: free; or contradictory, with the place.
+pub enum Row14 {
+    Free,
+    Clash(usize),
+}
+
+// The same with an index: its counts of nodes and shadows, where the run is free.
 pub enum Settled {
     Free(usize, usize),
     Clash(usize),
@@ -62,9 +69,9 @@ pub fn settle(
     places: &mut [u16],
 ) -> Settled
     requires { ⌜ Settleable n (now run) (length (now parens)) (length (now marks)) (length (now shadows)) (length (now places)) × Voids (now voids) ⌝ }
-    ensures { λ r. ⌜ Settles (voidOf (now (voids .entry))) n (now (run .entry)) (now (d .exit)) (now (t .exit)) r × Steps n (now (run .entry)) (now (e .exit)) (now (order .exit)) (now (lead .exit)) r × Indexes n (now (run .entry)) (now (parens .exit)) (now (marks .exit)) (now (shadows .exit)) (now (places .exit)) r ⌝ }
+    ensures { λ r. ⌜ Settles (voidOf (now (voids .entry))) n (now (run .entry)) (now (d .exit)) (now (t .exit)) (row r) × Steps n (now (run .entry)) (now (e .exit)) (now (order .exit)) (now (lead .exit)) (row r) × Indexes n (now (run .entry)) (now (parens .exit)) (now (marks .exit)) (now (shadows .exit)) (now (places .exit)) r ⌝ }
 {
-    let begun = opening::begin(
+    let begun = first_matrices::begin(
         run,
         n,
         voids,
@@ -84,7 +91,7 @@ pub fn settle(
     Settled::Free(begun.nodes, begun.shadows)
 }
 
-// The same for callers that need no index.
+// Settles row 14 for a caller that wants no index.
 pub fn settle_alone(
     run: &[u8],
     n: usize,
@@ -94,13 +101,12 @@ pub fn settle_alone(
     lead: &mut RowNumbers,
     d: &mut Matrix,
     t: &mut Matrix,
-) -> Settled
-    requires { ⌜ Settleable n (now run) 4608 2304 16384 2048 × Voids (now voids) ⌝ }
-    ensures { λ r. ⌜ Settles (voidOf (now (voids .entry))) n (now (run .entry)) (now (d .exit)) (now (t .exit)) r × Steps n (now (run .entry)) (now (e .exit)) (now (order .exit)) (now (lead .exit)) r × Sized n (now (run .entry)) r ⌝ }
+) -> Row14
+    requires { ⌜ Bounded n (facts (now run)) × Voids (now voids) ⌝ }
+    ensures { λ r. ⌜ Settles (voidOf (now (voids .entry))) n (now (run .entry)) (now (d .exit)) (now (t .exit)) r × Steps n (now (run .entry)) (now (e .exit)) (now (order .exit)) (now (lead .exit)) r ⌝ }
 {
-    let begun = opening::begin_alone(run, n, voids, e, order, lead, d, t);
-    if begun.clash {
-        return Settled::Clash(contradiction(run, n, voids, e, d, t));
+    if first_matrices::begin_alone(run, n, voids, e, order, lead, d, t) {
+        return Row14::Clash(contradiction(run, n, voids, e, d, t));
     }
-    Settled::Free(begun.nodes, begun.shadows)
+    Row14::Free
 }
