@@ -1,5 +1,5 @@
 /* Two calls in plain C for the one kind of claim that is measured: the chain to a PART along the stored PARTs, and the chain behind a record that says a part and its container
-   APART. Hops are found breadth first; both come behind a whole index call, as the library's do. */
+   APART. Hops are found breadth first; both come behind the book's rows without an index, as the library's do. */
 #ifndef PARTIAL_H
 #define PARTIAL_H
 
@@ -59,18 +59,9 @@ static unsigned plain_part(const uint8_t *book, unsigned records, unsigned piece
     return m;
 }
 
-static uint8_t plain_parentheses[PIECEBOOK_PARENTHESES], plain_marks[PIECEBOOK_MARKS];
-static uint16_t plain_shadows[PIECEBOOK_SHADOWS], plain_places[PIECEBOOK_PLACES];
-
-static piecebook_result plain_judged(piecebook_workspace *w, const uint8_t *book, size_t book_length)
-{
-    return plain_index_with(book, book_length, plain_parentheses, PIECEBOOK_PARENTHESES, plain_marks, PIECEBOOK_MARKS, plain_shadows, PIECEBOOK_SHADOWS,
-                            plain_places, PIECEBOOK_PLACES, w->e, w->d, w->t, w->u, w->p, w->q);
-}
-
 static piecebook_chain_result plain_chain(piecebook_workspace *w, const uint8_t *book, size_t book_length, const uint8_t *claim, uint8_t *steps)
 {
-    piecebook_result r = plain_judged(w, book, book_length);
+    piecebook_result r = plain_judge_with(book, book_length, w->e, w->d, w->t);
     unsigned m = r.number != 0 ? 0 : plain_part(book, book_length / 6, r.pieces, number(claim + 2), number(claim + 4), steps);
     return (piecebook_chain_result){r.number, r.place, m == 0 ? 0 : PIECEBOOK_FOLLOWS, m};
 }
@@ -78,7 +69,7 @@ static piecebook_chain_result plain_chain(piecebook_workspace *w, const uint8_t 
 /* The part PART of the container, the part MEETS itself (e'), so it MEETS the container (c'). */
 static piecebook_clash_result plain_clash(piecebook_workspace *w, const uint8_t *book, size_t book_length, unsigned pieces, uint8_t *steps)
 {
-    piecebook_result r = plain_judged(w, book, book_length);
+    piecebook_result r = plain_judge_with(book, book_length, w->e, w->d, w->t);
     const uint8_t *clashing = book + 6 * r.place;
     unsigned a = number(clashing + 2), b = number(clashing + 4), m = plain_part(book, r.place, pieces, a, b, steps);
     m = put_step(steps, m, 9, PIECEBOOK_MEETS, a, a, 0, 0);

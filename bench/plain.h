@@ -17,6 +17,7 @@ extern __typeof__(piecebook_fact_between) plain_fact_between;
 extern __typeof__(piecebook_subtree) plain_subtree;
 extern __typeof__(piecebook_replicates_with) plain_replicates_with;
 extern __typeof__(piecebook_compare_with) plain_compare_with;
+piecebook_result plain_judge_with(const uint8_t *book, size_t book_length, uint64_t *e, uint64_t *d, uint64_t *t);
 extern __typeof__(piecebook_chain_check_with) plain_chain_check_with;
 extern __typeof__(piecebook_clash_check_with) plain_clash_check_with;
 extern __typeof__(piecebook_read_text) plain_read_text;

@@ -6,7 +6,7 @@ use mathlib.Core.List.{List, [], _∷_}
 use native.Mathlib.Decide.{ℕ-discrete}
 use native.Mathlib.Omega.{arith}
 use lib.ListN.{length, take}
-use lib.Seq.{take-length, length-take-le}
+use lib.Seq.{take-length}
 use Rattle.lists.proofs.Bools.{not-true}
 use Rattle.rules.specs.Follows.{clash}
 use Rattle.rules.specs.Entries.{Entry, fact, none, factsOf, shortestClash}
