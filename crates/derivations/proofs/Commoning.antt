@@ -17,8 +17,7 @@ use Rattle.chain_format.specs.Citing.{Cited, citing}
 use Rattle.chain_format.specs.Twice.{alike}
 use Rattle.chain_format.proofs.Showing.{Ends, straight, swapped, showing-ends, ends-show}
 use Rattle.derivations.specs.Written.{Put}
-use Rattle.derivations.specs.Hops.{Way, arrived, onward, Reaches, Sourced}
-use Rattle.derivations.specs.Queue.{Hopped}
+use Rattle.derivations.specs.Hops.{Way, arrived, onward, Reaches, Hopped, Sourced}
 use Rattle.derivations.specs.Sources.{Sources}
 use Rattle.derivations.specs.Climbs.{Contained}
 use Rattle.derivations.specs.Distinct.{Distinct, Upward, begun, higher}

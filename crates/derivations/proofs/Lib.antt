@@ -4,8 +4,7 @@ pub mod Distincts
 pub mod Hopping
 pub mod Risings
 pub mod Climbing
-pub mod Queues
-pub mod Spreads
+pub mod Towards
 pub mod Sourcing
 pub mod Linked
 pub mod Joining

@@ -18,8 +18,7 @@ use Rattle.records.specs.Record.{records}
 use Rattle.records.specs.Facts.{facts}
 use Rattle.records.specs.Kept.{picked}
 use Rattle.chain_format.proofs.Citings.{picked-cited}
-use Rattle.derivations.specs.Hops.{Hop, recorded, crowned, Way, arrived, onward, Reaches, Sourced}
-use Rattle.derivations.specs.Queue.{Met, Hopped}
+use Rattle.derivations.specs.Hops.{Hop, recorded, crowned, Way, arrived, onward, Reaches, Met, Hopped, Sourced}
 use Rattle.derivations.specs.Sources.{Says, Sources, Stepped}
 use Rattle.derivations.specs.Climbs.{Contained}
 use Rattle.derivations.specs.Distinct.{Upward, begun, higher}

@@ -4,8 +4,9 @@ use mathlib.Core.Path.{_≡_}
 use mathlib.Core.Bool.{Bool, true, false}
 use mathlib.Core.List.{List}
 use lib.Dec.{eqb}
-use lib.ListN.{getD}
+use lib.ListN.{length, getD}
 use Rattle.rules.specs.Fact.{PART}
+use Rattle.matrices.specs.Matrix.{bitOf}
 use Rattle.chain_format.specs.Citing.{Cited, fact, none}
 use Rattle.chain_format.specs.declared.steps.Step.{Step}
 
@@ -22,6 +23,18 @@ pub data Way (hop : List ℕ) (k : ℕ) : ℕ → ℕ → Type 0 where
 -- at most so many do
 abbrev pub Reaches : List ℕ → ℕ → ℕ → ℕ → Type 0
 Reaches hop k x most = (l : ℕ) × (l ≤ most) × Way hop k x l
+
+-- 2048 stands for the hop of a piece that is not met
+abbrev pub Met : List ℕ → ℕ → Type 0
+Met hop x = getD hop x 0 ≡ 2048 → ⊥
+
+-- every piece from which steps of e lead up to k is met, and hops lead from it to k
+pub record Hopped (n : ℕ) (e : List ℕ) (k : ℕ) (hop : List ℕ) : Type 0 where
+  pub sized : length hop ≡ 2048
+  pub start : Met hop k
+  pub parts : (x y : ℕ) → y < n → Met hop y → x < n → bitOf e y x ≡ true → Met hop x
+  pub ways : (x : ℕ) → x < n → Met hop x → Reaches hop k x 2047
+  pub steps : (x : ℕ) → x < n → Met hop x → (x ≡ k → ⊥) → (getD hop x 0 < n) × (bitOf e (getD hop x 0) x ≡ true)
 
 -- each hop of a way to k is one that the entries es say, about the pieces below n
 pub record Sourced (n : ℕ) (es : List Cited) (hop source : List ℕ) (k : ℕ) : Type 0 where

@@ -1,12 +1,12 @@
 // Each piece's next hop towards piece k, breadth first from k, so that circles lead nowhere twice.
 ghost use mathlib.Core.Path.{_≡_};
-ghost use Prim.Native.Nat.{ℕ, _<_, _≤_};
-ghost use lib.ListN.{length, getD};
+ghost use Prim.Native.Nat.{_<_, _≤_};
+ghost use lib.ListN.{length};
 ghost use Rattle.rules.specs.Fact.{AllWithin};
 ghost use Rattle.records.specs.Record.{records};
 ghost use Rattle.records.specs.Facts.{facts};
 ghost use Rattle.records.specs.Kept.{picked};
-ghost use Rattle.derivations.specs.Queue.{Queue, Spread, Hopped};
+ghost use Rattle.derivations.specs.Hops.{Hopped};
 ghost use Rattle.derivations.specs.Sources.{Sources};
 ghost use Rattle.matrices.specs.Matrix.{IsMatrix};
 use numbers::shorts;
@@ -15,48 +15,13 @@ use records::Record;
 // What stands for no record in a list of records.
 pub const NO_RECORD: usize = 65535;
 
-// One round: the parts of the piece at place `head` that are not met yet go to the end of the queue, whose new end is returned.
-fn spread(
-    n: usize,
-    head: usize,
-    e: &[u64],
-    hop: &mut [u16],
-    order: &mut [u16],
-    tail: usize,
-) -> usize
-    requires { ⌜ (IsMatrix (now e)) × (head < tail) × Queue n (now e) (now hop) (now order) tail ⌝ }
-    ensures { λ r. ⌜ Spread n (now (e .entry)) (getD (now (order .entry)) head 0) (now (hop .entry)) (now (order .entry)) tail (now (hop .exit)) (now (order .exit)) r ⌝ }
-{
-    let c = shorts::wide(order[head]);
-    let mut end = tail;
-    let mut p = matrices::next_bit(e, c, 0);
-    while p < n {
-        if hop[p] != index::NONE {
-            p = matrices::next_bit(e, c, p + 1);
-            continue;
-        }
-        hop[p] = shorts::narrow(c);
-        order[end] = shorts::narrow(p);
-        end += 1;
-        p = matrices::next_bit(e, c, p + 1);
-    }
-    end
-}
-
 // The hops towards k along the steps in the matrix e: bit x of row y for "x is part of y".
 pub fn find_hops(k: usize, n: usize, e: &[u64], hop: &mut [u16], order: &mut [u16])
     requires { ⌜ (IsMatrix (now e)) × (n ≤ 2048) × (k < n) × (length (now hop) ≡ 2048) × (length (now order) ≡ 2048) ⌝ }
     ensures { λ _. ⌜ Hopped n (now (e .entry)) k (now (hop .exit)) ⌝ }
 {
     shorts::fill(hop, index::NONE);
-    hop[k] = shorts::narrow(k);
-    order[0] = shorts::narrow(k);
-    let mut head: usize = 0;
-    let mut tail: usize = 1;
-    while head < tail {
-        tail = spread(n, head, e, hop, order, tail);
-        head += 1;
-    }
+    index::search_from(k, n, e, hop, order);
 }
 
 // The number of a record that says each piece's hop and may be cited; 65535 where there is none. One pass over the records.

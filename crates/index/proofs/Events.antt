@@ -104,7 +104,7 @@ module _ (n : ℕ) (edge : ℕ → ℕ → Bool) where
   rest c p = events (onward c p) ++ (leave ∷ upward n c)
 
   module _ (B : Book n edge) where
-    pub none-low : (c p : ℕ) → p < 1 → edge p c ≡ false
+    none-low : (c p : ℕ) → p < 1 → edge p c ≡ false
     none-low c p h = go (which (edge p c))
       where
         go : (edge p c ≡ true) ⊎ (edge p c ≡ false) → edge p c ≡ false

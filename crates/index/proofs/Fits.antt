@@ -1,6 +1,5 @@
 -- Sums and bounds of small numbers, stated apart so that a need that asks one reads no more than it hands over. Assumes nothing.
-use Prim.Native.Nat.{ℕ, _+_, _*_, _-_, _≤_, _<_}
-use mathlib.Core.Path.{_≡_}
+use Prim.Native.Nat.{ℕ, _+_, _*_, _≤_, _<_}
 use native.Mathlib.Omega.{arith}
 use mir.Syntax.{w8, w64}
 use mir.Val.{Fits}
@@ -22,12 +21,6 @@ count-small x h = omega arith
 
 pub small-count : (x : ℕ) → x ≤ 2048 → x ≤ 65536
 small-count x h = omega arith
-
-pub one-low : 1 ≤ 2048
-one-low = omega arith
-
-pub room : (t u n k : ℕ) → t + u ≡ n → n ≤ k → t + u ≤ k
-room t u n k e l = omega arith
 
 pub byte : (x : ℕ) → Fits w8 x → x < 256
 byte x h = omega arith

@@ -97,6 +97,11 @@ pub wide : (n : ℕ) (m : List ℕ) (q c : ℕ) → n ≤ c → pairOf n m q c �
 unfolding pairOf
 wide n m q c l = rw (le-ltb c n l, and-false (ltb q n))
 
+-- of the n pieces the bits say the pairs
+pub low : (n : ℕ) (m : List ℕ) (q c : ℕ) → q < n → c < n → pairOf n m q c ≡ bitOf m c q
+unfolding pairOf
+low n m q c l k = rw (lt-ltb q n l, lt-ltb c n k)
+
 module _ (n : ℕ) (m : List ℕ) where
   -- the join of q, and whether it is made when the pieces below p have been looked at
   abbrev join : ℕ → ℕ → ℕ → Bool
@@ -159,14 +164,10 @@ module _ (n : ℕ) (m : List ℕ) where
 
   -- ## All joins are made
 
-  low : (m : List ℕ) (q c : ℕ) → q < n → c < n → pairOf n m q c ≡ bitOf m c q
-  unfolding pairOf
-  low m q c l k = rw (lt-ltb q n l, lt-ltb c n k)
-
   joined-low : (q c : ℕ) → q < n → c < n → joined n (pairOf n m) q c ≡ (bitOf m c q || join n c q)
   unfolding joined
   joined-low q c l k =
-      rw (low m q c l k) (ap (λ (t : Bool). bitOf m c q || (eqb c 0 && (ltb 0 q && (ltb q n && not t)))) (below-same (pairOf n m q) (λ c. bitOf m c q) n (λ c k. low m q c l k)))
+      rw (low n m q c l k) (ap (λ (t : Bool). bitOf m c q || (eqb c 0 && (ltb 0 q && (ltb q n && not t)))) (below-same (pairOf n m q) (λ c. bitOf m c q) n (λ c k. low n m q c l k)))
 
   joined-high : (q c : ℕ) → n ≤ q → joined n (pairOf n m) q c ≡ false
   unfolding joined
@@ -180,7 +181,7 @@ module _ (n : ℕ) (m : List ℕ) where
   join-done small m′ p e S = record { pair = λ q c. at q c (decLt q n) (decLt c n) }
     where
       at : (q c : ℕ) → Dec (q < n) → Dec (c < n) → pairOf n m′ q c ≡ joined n (pairOf n m) q c
-      at q c (yes l) (yes k) = low m′ q c l k ∙ (rw e at (S .each c q (omega arith))) ∙ sym (joined-low q c l k)
+      at q c (yes l) (yes k) = low n m′ q c l k ∙ (rw e at (S .each c q (omega arith))) ∙ sym (joined-low q c l k)
       at q c (yes l) (no k) = wide n m′ q c (omega arith) ∙ sym (joined-wide q c (omega arith) (omega arith))
       at q c (no l) k = high n m′ q c (omega arith) ∙ sym (joined-high q c (omega arith))
 

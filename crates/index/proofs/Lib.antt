@@ -13,7 +13,7 @@ pub mod Matrices
 pub mod Events
 pub mod Fits
 mod Nexts
-mod Queue
+pub mod Queue
 mod Rounds
 mod Written
 pub mod Walking

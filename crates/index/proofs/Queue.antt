@@ -1,4 +1,4 @@
--- What the code of the breadth-first walk works on: parents, with 2048 for a piece that is not met yet, and the queue in a list with a head and a tail. Assumes nothing.
+-- One round of the breadth-first search, part by part: parents, with 2048 for a piece that is not met yet, and the queue in a list with a tail. Assumes nothing.
 use mathlib.Core.Path.{_≡_, refl, sym, ap, _∙_}
 use mathlib.Core.Logic.{_⊎_, inl, inr}
 use mathlib.Core.Bool.{Bool, true, false, not, _&&_, true≢false, and-false}
@@ -45,6 +45,20 @@ keep-keep f g (x ∷ xs) = go (which (f x)) (which (g x)) (keep-keep f g xs)
 wrote : (b : List ℕ) (at v : ℕ) (es xs : List ℕ) → at < length b → take at b ++ (v ∷ es) ≡ xs → take (at + 1) (set b at v) ++ es ≡ xs
 wrote b at v es xs l h = rw (add-one at, take-suc-set b at v l, append-assoc (take at b) (v ∷ []) es) h
 
+-- ## Met or not
+
+module _ (par : List ℕ) (q : ℕ) where
+  pub fresh-is : getD par q 0 ≡ 2048 → fresh par q ≡ true
+  unfolding fresh
+  fresh-is e = eq-eqb (getD par q 0) 2048 e
+
+  pub met-is : (getD par q 0 ≡ 2048 → ⊥) → fresh par q ≡ false
+  unfolding fresh
+  met-is o = ne-eqb (getD par q 0) 2048 o
+
+  pub is-met : fresh par q ≡ false → getD par q 0 ≡ 2048 → ⊥
+  is-met f e = true≢false (sym (fresh-is e) ∙ f)
+
 -- ## One round: the parts of c that are not met yet
 
 -- the parents when the pieces below p have been looked at
@@ -56,12 +70,11 @@ unfoldable pub coming : ℕ → (ℕ → ℕ → Bool) → List ℕ → ℕ → 
 coming n edge par c p = keep (λ q. edge q c) (keep (fresh par) (range p (n - p)))
 
 pub record Spreading (n : ℕ) (edge : ℕ → ℕ → Bool) (c : ℕ) (par₀ : List ℕ) (ord₀ : List ℕ) (tail₀ : ℕ) (par ord : List ℕ) (tail p : ℕ) : Type 0 where
-  pub low : 1 ≤ p
   pub parLength : length par ≡ length par₀
   pub ordLength : length ord ≡ length ord₀
   pub parents : (q : ℕ) → getD par q 0 ≡ after edge par₀ c p q
-  pub queued : take tail ord ++ coming n edge par₀ c p ≡ take tail₀ ord₀ ++ coming n edge par₀ c 1
-  pub count : tail + length (coming n edge par₀ c p) ≡ tail₀ + length (coming n edge par₀ c 1)
+  pub queued : take tail ord ++ coming n edge par₀ c p ≡ take tail₀ ord₀ ++ coming n edge par₀ c 0
+  pub count : tail + length (coming n edge par₀ c p) ≡ tail₀ + length (coming n edge par₀ c 0)
 
 module _ (edge : ℕ → ℕ → Bool) (par : List ℕ) (c : ℕ) where
   after-hit : (p q : ℕ) → q < p → fresh par q ≡ true → edge q c ≡ true → after edge par c p q ≡ c
@@ -83,12 +96,12 @@ module _ (edge : ℕ → ℕ → Bool) (par : List ℕ) (c : ℕ) where
       pick b = elim (b && (fresh par q && edge q c)) [ true ↦ c | false ↦ getD par q 0 ]
 
 module _ (n : ℕ) (edge : ℕ → ℕ → Bool) (c : ℕ) (par₀ ord₀ : List ℕ) (tail₀ : ℕ) where
-  pub spread-start : 1 ≤ n → edge 0 c ≡ false → Spreading n edge c par₀ ord₀ tail₀ par₀ ord₀ tail₀ 1
-  spread-start l z = record { low = omega arith; parLength = refl; ordLength = refl; parents = λ q. sym (at q); queued = refl; count = refl }
-    where
-      at : (q : ℕ) → after edge par₀ c 1 q ≡ getD par₀ q 0
-      at zero = after-miss edge par₀ c 1 0 (rw z (and-false (fresh par₀ 0)))
-      at (suc q) = after-from edge par₀ c 1 (suc q) (omega arith)
+  pub spread-start : Spreading n edge c par₀ ord₀ tail₀ par₀ ord₀ tail₀ 0
+  spread-start = record { parLength = refl; ordLength = refl; parents = λ q. sym (after-from edge par₀ c 0 q (omega arith)); queued = refl; count = refl }
+
+  all-coming : coming n edge par₀ c 0 ≡ keep (λ q. edge q c) (unmet n par₀)
+  unfolding coming unmet
+  all-coming = let d : n - 0 ≡ n = omega arith in rw d
 
   none-coming : (p : ℕ) → n ≤ p → coming n edge par₀ c p ≡ []
   unfolding coming range tab keep
@@ -126,46 +139,32 @@ module _ (n : ℕ) (edge : ℕ → ℕ → Bool) (c : ℕ) (par₀ ord₀ : List
         go l (inl t) = rw (open-range p l, keep-yes (fresh par₀) p tl t, keep-no (λ q. edge q c) p (keep (fresh par₀) tl) (rw (same-fresh, t) at h))
         go l (inr t) = rw (open-range p l, keep-no (fresh par₀) p tl t)
 
-    -- p is queued
-    pub spread-take : p < n → getD par p 0 ≡ 2048 → edge p c ≡ true → tail₀ + length (unmet n par₀) ≤ length ord₀ → n ≤ length par₀
-        → (tail < length ord) × Spreading n edge c par₀ ord₀ tail₀ (set par p c) (set ord tail p) (tail + 1) (p + 1)
-    spread-take l w g room room′ = (
-      a,
-      record {
-        low = omega arith;
-        parLength = length-set par p c ∙ S .parLength;
-        ordLength = length-set ord tail p ∙ S .ordLength;
-        parents = λ q. at q (ℕ-discrete q p);
-        queued = wrote ord tail p (coming n edge par₀ c (p + 1)) (take tail₀ ord₀ ++ coming n edge par₀ c 1) a (rw come at (S .queued));
-        count = omega (arith, ap length come, S .count);
-      },
-    )
-      where
-        f : fresh par p ≡ true
-        f = unfold fresh in eq-eqb (getD par p 0) 2048 w
+    -- p is queued, and there is room for it
+    module _ (l : p < n) (w : getD par p 0 ≡ 2048) (g : edge p c ≡ true) (small : n ≤ 2048) (long : length par₀ ≡ 2048) (long′ : length ord₀ ≡ 2048) (room : tail₀ + length (unmet n par₀) ≤ 2048) where
+      come : coming n edge par₀ c p ≡ p ∷ coming n edge par₀ c (p + 1)
+      come = come-yes l (fresh-is par p w) g
 
-        come : coming n edge par₀ c p ≡ p ∷ coming n edge par₀ c (p + 1)
-        come = come-yes l f g
+      pub spread-room : tail < 2048
+      spread-room = omega (arith, ap length come, S .count, ap length all-coming, keep-lengths (λ q. edge q c) (unmet n par₀))
 
-        all : length (coming n edge par₀ c 1) ≤ length (unmet n par₀)
-        all = unfold coming unmet in omega (arith, keep-lengths (λ q. edge q c) (keep (fresh par₀) (range 1 (n - 1))))
-
-        a : tail < length ord
-        a = omega (arith, ap length come, S .count, S .ordLength, all)
-
-        at : (q : ℕ) → Dec (q ≡ p) → getD (set par p c) q 0 ≡ after edge par₀ c (p + 1) q
-        at q (yes x) = rw x (getD-set-same par p c 0 (omega (arith, S .parLength)) ∙ sym (after-hit edge par₀ c (p + 1) p (omega arith) (sym same-fresh ∙ f) g))
-        at q (no x) = getD-set-other par p q c 0 x ∙ S .parents q ∙ sym (after-other edge par₀ c p q x)
-
-    -- and there is room for it
-    pub spread-room : p < n → getD par p 0 ≡ 2048 → edge p c ≡ true → tail₀ + length (unmet n par₀) ≤ length ord₀ → n ≤ length par₀ → length ord₀ ≡ 2048 → tail < 2048
-    spread-room l w g room room′ e = omega (arith, spread-take l w g room room′ .0, S .ordLength)
+      pub spread-take : Spreading n edge c par₀ ord₀ tail₀ (set par p c) (set ord tail p) (tail + 1) (p + 1)
+      spread-take =
+          record {
+            parLength = length-set par p c ∙ S .parLength;
+            ordLength = length-set ord tail p ∙ S .ordLength;
+            parents = λ q. at q (ℕ-discrete q p);
+            queued = wrote ord tail p (coming n edge par₀ c (p + 1)) (take tail₀ ord₀ ++ coming n edge par₀ c 0) (omega (arith, spread-room, S .ordLength)) (rw come at (S .queued));
+            count = omega (arith, ap length come, S .count);
+          }
+        where
+          at : (q : ℕ) → Dec (q ≡ p) → getD (set par p c) q 0 ≡ after edge par₀ c (p + 1) q
+          at q (yes x) = rw x (getD-set-same par p c 0 (omega (arith, S .parLength)) ∙ sym (after-hit edge par₀ c (p + 1) p (omega arith) (sym same-fresh ∙ fresh-is par p w) g))
+          at q (no x) = getD-set-other par p q c 0 x ∙ S .parents q ∙ sym (after-other edge par₀ c p q x)
 
     -- or passed over
     pub spread-pass : ((fresh par p && edge p c) ≡ false) → Spreading n edge c par₀ ord₀ tail₀ par ord tail (p + 1)
     spread-pass f =
         record {
-          low = omega arith;
           parLength = S .parLength;
           ordLength = S .ordLength;
           parents = λ q. at q (ℕ-discrete q p);
@@ -194,10 +193,7 @@ module _ (n : ℕ) (edge : ℕ → ℕ → Bool) (c : ℕ) (par₀ ord₀ : List
   -- a part that was met before
   pub spread-met : (p : ℕ) (par ord : List ℕ) (tail : ℕ) → Spreading n edge c par₀ ord₀ tail₀ par ord tail p → (getD par p 0 ≡ 2048 → ⊥)
       → Spreading n edge c par₀ ord₀ tail₀ par ord tail (p + 1)
-  spread-met p par ord tail S f = spread-pass par ord tail p S (rw seen)
-    where
-      seen : fresh par p ≡ false
-      seen = unfold fresh in ne-eqb (getD par p 0) 2048 f
+  spread-met p par ord tail S f = spread-pass par ord tail p S (rw (met-is par p f))
 
   -- ## The round is over
 
@@ -223,15 +219,15 @@ module _ (n : ℕ) (edge : ℕ → ℕ → Bool) (c : ℕ) (par₀ ord₀ : List
         go (inr f) g = let w = stay (rw f) in old f w (turn (getD par₀ q 0) w ∙ (unfold fresh in f))
 
     pub spread-done : Spread n edge c par₀ ord₀ tail₀ par ord tail
-    unfolding coming unmet
+    unfolding unmet
     spread-done =
         record {
           parLength = S .parLength;
           ordLength = S .ordLength;
-          queued = sym (append-nil (take tail ord)) ∙ rw (none-coming p l) at (S .queued);
-          count = omega (arith, ap length (none-coming p l), S .count);
-          left = keep-same (fresh par) (λ q. fresh par₀ q && not (edge q c)) (range 1 (n - 1)) (λ q m. let b = range-mem 1 (n - 1) m in agree q (cases q (omega arith)))
-              ∙ sym (keep-keep (fresh par₀) (λ q. not (edge q c)) (range 1 (n - 1)));
+          queued = sym (append-nil (take tail ord)) ∙ rw (none-coming p l, all-coming) at (S .queued);
+          count = omega (arith, ap length (none-coming p l), ap length all-coming, S .count);
+          left = keep-same (fresh par) (λ q. fresh par₀ q && not (edge q c)) (range 0 n) (λ q m. agree q (cases q (omega (arith, range-mem 0 n m))))
+              ∙ sym (keep-keep (fresh par₀) (λ q. not (edge q c)) (range 0 n));
           stays = λ q h f. stay q f (cases q h);
           settled = λ q h f. settle q f (cases q h);
         }

@@ -71,7 +71,7 @@ module _ (n : ℕ) (edge : ℕ → ℕ → Bool) where
         let lt = B .lower (suc p) (c .0) (c .1) in
         closed n (0 ∷ []) (range 1 (n - 1)) fits (met-below k (c .0) (omega arith) (B .whole (suc p) (c .0) (c .1))) (c .1) (mem-range 1 (n - 1) (suc p) (omega arith) (omega arith))
 
-    pub met : (p : ℕ) → p < n → p ∈ order n edge
+    met : (p : ℕ) → p < n → p ∈ order n edge
     met p l = met-below (suc (B .level p)) p (omega arith) l
 
     pub parent-edge : (p : ℕ) → 0 < p → p < n → edge p (parent n edge p) ≡ true

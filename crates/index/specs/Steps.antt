@@ -2,17 +2,17 @@
 use mathlib.Core.Path.{_≡_}
 use mathlib.Core.Logic.{_⊎_}
 use mathlib.Core.Bool.{Bool, true, false, not}
-use mathlib.Core.List.{List, _++_}
-use Prim.Native.Nat.{ℕ, _+_, _-_, _<_, _≤_}
+use mathlib.Core.List.{List, [], _∷_, _++_}
+use Prim.Native.Nat.{ℕ, _+_, _<_, _≤_}
 use lib.Dec.{eqb}
 use lib.ListN.{length, getD, take}
 use Rattle.lists.specs.Any.{anyBelow}
 use Rattle.parentheses.specs.Bits.{bits}
 use Rattle.lists.specs.Tally.{num}
 use Rattle.matrices.specs.Matrix.{bitOf}
-use Rattle.lists.specs.Numbers.{range, keep}
+use Rattle.lists.specs.Numbers.{range, keep, find}
 use Rattle.index.specs.Pairs.{joined, Book}
-use Rattle.index.specs.Breadth.{parent}
+use Rattle.index.specs.Breadth.{breadth, parent}
 use Rattle.index.specs.Parts.{place, marks, shadows}
 use Rattle.index.specs.Index.{parenthesesOf, visitsOf, Room}
 use Rattle.index.specs.Matrix.{pairOf}
@@ -51,7 +51,7 @@ unfoldable pub fresh : List ℕ → ℕ → Bool
 fresh par p = eqb (getD par p 0) 2048
 
 unfoldable pub unmet : ℕ → List ℕ → List ℕ
-unmet n par = keep (fresh par) (range 1 (n - 1))
+unmet n par = keep (fresh par) (range 0 n)
 
 -- one round: the parts of c that were not met have c for their parent, and stand at the end of the queue
 pub record Spread (n : ℕ) (edge : ℕ → ℕ → Bool) (c : ℕ) (par₀ ord₀ : List ℕ) (tail₀ : ℕ) (par ord : List ℕ) (tail : ℕ) : Type 0 where
@@ -63,6 +63,26 @@ pub record Spread (n : ℕ) (edge : ℕ → ℕ → Bool) (c : ℕ) (par₀ ord�
   pub stays : (q : ℕ) → q < n → fresh par q ≡ true → (fresh par₀ q ≡ true) × (edge q c ≡ false)
   pub settled : (q : ℕ) → q < n → fresh par q ≡ false
       → ((fresh par₀ q ≡ true) × (edge q c ≡ true) × (getD par q 0 ≡ c)) ⊎ ((fresh par₀ q ≡ false) × (getD par q 0 ≡ getD par₀ q 0))
+
+-- the pieces in the order in which they are met from k
+unfoldable pub orderFrom : ℕ → (ℕ → ℕ → Bool) → ℕ → List ℕ
+orderFrom n edge k = breadth n edge n (k ∷ []) (keep (λ q. not (eqb q k)) (range 0 n))
+
+-- p has its parent: its first container in that order, met itself, and at a lower level
+pub record Hung (n : ℕ) (edge : ℕ → ℕ → Bool) (k : ℕ) (level : ℕ → ℕ) (par : List ℕ) (p : ℕ) : Type 0 where
+  pub piece : getD par p 0 < n
+  pub met : fresh par (getD par p 0) ≡ false
+  pub part : edge p (getD par p 0) ≡ true
+  pub lower : level (getD par p 0) < level p
+  pub first : getD par p 0 ≡ find (λ c. edge p c) (orderFrom n edge k)
+
+-- k is met, and so are the parts of what is met; each of these pieces but k has its parent, and their levels are below n
+pub record Searched (n : ℕ) (edge : ℕ → ℕ → Bool) (k : ℕ) (par : List ℕ) : Type 0 where
+  pub start : fresh par k ≡ false
+  pub parts : (p c : ℕ) → p < n → c < n → edge p c ≡ true → fresh par c ≡ false → fresh par p ≡ false
+  pub level : ℕ → ℕ
+  pub fits : (p : ℕ) → p < n → fresh par p ≡ false → level p < n
+  pub hung : (p : ℕ) → p < n → (p ≡ k → ⊥) → fresh par p ≡ false → Hung n edge k level par p
 
 -- every piece has its parent
 pub record Parented (n : ℕ) (edge : ℕ → ℕ → Bool) (par : List ℕ) : Type 0 where

@@ -1,11 +1,12 @@
-// The index of a book: pieces and places, the parent of each piece, and the places of pieces from those of their groups.
+// The index of a book: pieces and places, the breadth-first search, the parent of each piece, and the places of pieces from those of their groups.
 ghost use mathlib.Core.Path.{_≡_};
+ghost use mathlib.Core.Bool.{true};
 ghost use Prim.Native.Nat.{ℕ, _+_, _-_, _<_, _≤_};
 ghost use lib.ListN.{length, getD};
 ghost use Rattle.lists.specs.Tab.{tab};
 ghost use Rattle.parentheses.specs.Padded.{padded};
 ghost use Rattle.index.specs.Matrix.{pairOf};
-ghost use Rattle.index.specs.Steps.{Marked, Held, Sized, unmet, Spread, Parented, Zero, Resolvable, Resolved};
+ghost use Rattle.index.specs.Steps.{Marked, Held, Sized, fresh, unmet, Spread, Searched, Parented, Zero, Resolvable, Resolved};
 ghost use Rattle.matrices.specs.Matrix.{IsMatrix};
 pub use building::Counts;
 pub use building::build;
@@ -94,15 +95,15 @@ fn spread(
     n: usize,
     c: usize,
     edges: &[u64],
-    parent: &mut RowNumbers,
-    order: &mut RowNumbers,
+    parent: &mut [u16],
+    order: &mut [u16],
     tail: usize,
 ) -> usize
-    requires { ⌜ Sized n (now edges) (length (now parent)) (length (now order)) × (c < n) × (tail + length (unmet n (now parent)) ≤ length (now order)) × (length (now order) ≡ 2048) ⌝ }
+    requires { ⌜ (IsMatrix (now edges)) × (n ≤ 2048) × (c < n) × (length (now parent) ≡ 2048) × (length (now order) ≡ 2048) × (tail + length (unmet n (now parent)) ≤ 2048) ⌝ }
     ensures { λ r. ⌜ Spread n (pairOf n (now (edges .entry))) c (now (parent .entry)) (now (order .entry)) tail (now (parent .exit)) (now (order .exit)) r ⌝ }
 {
     let mut end = tail;
-    let mut p = matrices::next_bit(edges, c, 1);
+    let mut p = matrices::next_bit(edges, c, 0);
     while p < n {
         if parent[p] == crate::NONE {
             parent[p] = shorts::narrow(c);
@@ -116,20 +117,30 @@ fn spread(
     end
 }
 
-// The parent of each piece but 0, breadth first from 0. 2048 stands for none yet.
+// Breadth first from k: each piece met gets as its parent the piece from which it is met. 2048 stands for none, at first everywhere.
+pub fn search_from(k: usize, n: usize, edges: &[u64], parent: &mut [u16], order: &mut [u16])
+    requires { ⌜ (IsMatrix (now edges)) × (n ≤ 2048) × (k < n) × (length (now parent) ≡ 2048) × (length (now order) ≡ 2048) × ((q : ℕ) → q < n → fresh (now parent) q ≡ true) ⌝ }
+    ensures { λ _. ⌜ Searched n (pairOf n (now (edges .entry))) k (now (parent .exit)) ⌝ }
+{
+    parent[k] = shorts::narrow(k);
+    order[0] = shorts::narrow(k);
+    let mut head: usize = 0;
+    let mut tail: usize = 1;
+    while head < tail {
+        let c = shorts::wide(order[head]);
+        tail = spread(n, c, edges, parent, order, tail);
+        head += 1;
+    }
+}
+
+// The parent of each piece but 0, breadth first from 0.
 pub fn find_parents(n: usize, edges: &[u64]) -> RowNumbers
     requires { ⌜ Sized n (now edges) 2048 2048 ⌝ }
     ensures { λ r. ⌜ Parented n (pairOf n (now (edges .entry))) r ⌝ }
 {
     let mut parent = [crate::NONE; matrices::ROWS];
     let mut order = [0u16; matrices::ROWS];
-    let mut head: usize = 0;
-    let mut tail: usize = 1;
-    while head < tail {
-        let c = shorts::wide(order[head]);
-        tail = spread(n, c, edges, &mut parent, &mut order, tail);
-        head += 1;
-    }
+    search_from(0, n, edges, &mut parent, &mut order);
     parent
 }
 

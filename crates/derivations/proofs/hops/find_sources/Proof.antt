@@ -8,7 +8,7 @@ use borrow.Author.Needs.{needs}
 use borrow.Author.Tests.{not-true, not-false}
 use Rattle.derivations.specs.Sources.{Sources, Says}
 use Rattle.derivations.proofs.Sourcing.{part-said, says-part, said-ends, part-small, sources-none, sources-all, sources-skip, sources-store}
-use Rattle.derivations.proofs.Spreads.{filled-length, filled}
+use Rattle.derivations.proofs.Towards.{filled-length, filled}
 use Rattle.derivations.proofs.hops.find_sources.Statement.{statement}
 use Rattle.derivations.proofs.hops.find_sources.Tie as tie
 
