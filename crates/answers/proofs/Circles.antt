@@ -2,7 +2,7 @@
 use Prim.Native.Nat.{ℕ, _<_}
 use mathlib.Core.Path.{_≡_, refl}
 use mathlib.Core.Logic.{_↔_}
-use mathlib.Core.Bool.{true, _&&_}
+use mathlib.Core.Bool.{true}
 use mathlib.Core.List.{List}
 use Rattle.lists.proofs.Bools.{and-both, both-and}
 use Rattle.rules.specs.Fact.{PART, unmarked}
@@ -16,7 +16,7 @@ use Rattle.groups.specs.Groups.{lies, same}
 use Rattle.records.specs.PartIn.{partIn}
 use Rattle.contradiction.proofs.SettlingLaws.{settleable}
 use Rattle.outcomes.specs.Call.{pairsOf}
-use Rattle.answers.specs.Circles.{Circled, CirclesDerived}
+use Rattle.answers.specs.Circles.{CirclesDerived}
 
 module _ (s : List ℕ) (n : ℕ) (sound : bookCheck s ≡ book.Accepted n) where
   by-follows : (g h : ℕ) → lies n (pairsOf s) g h ≡ follows unmarked n (facts s) (PART g h)

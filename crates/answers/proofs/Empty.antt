@@ -1,11 +1,7 @@
 -- The empty book is the book with piece 0 alone: its outcome, its index and its answers, by computation. Assumes nothing.
-use Prim.Native.Nat.{ℕ}
 use mathlib.Core.Path.{_≡_, refl}
-use mathlib.Core.Bool.{false}
-use mathlib.Core.List.{List, [], _∷_, _++_}
+use mathlib.Core.List.{[]}
 use native.Mathlib.Omega.{arith}
-use lib.ListN.{replicate}
-use Rattle.lists.specs.Front.{front}
 use Rattle.lists.specs.Tab.{tab}
 use Rattle.lists.specs.Any.{any, anyBelow}
 use Rattle.lists.specs.First.{first}
@@ -17,7 +13,7 @@ use Rattle.records.specs.Record.{recordAt}
 use Rattle.records.specs.Refusal.{refusalNumber, scan}
 use Rattle.records.specs.Pieces.{piecesUpTo, stated, largest}
 use Rattle.records.specs.Check.{checkBy, claimAt, claimsCheck}
-use Rattle.records.specs.Facts.{entryOf, entries}
+use Rattle.records.specs.Facts.{entries}
 use Rattle.records.specs.Kept.{picked}
 use Rattle.records.specs.Marked.{marked}
 use Rattle.records.specs.declared.Refusal.{Refusal}
@@ -36,11 +32,9 @@ use Rattle.lists.specs.Tally.{tally}
 use Rattle.records.specs.PartIn.{partIn}
 use Rattle.parentheses.specs.Forest.{enc}
 use Rattle.parentheses.specs.Padded.{padded}
-use Rattle.outcomes.specs.Lent.{Lent, lent, shortLent}
 use Rattle.records.specs.Claimed.{claimed, answersTo}
 use Rattle.outcomes.specs.Call.{byRuns, byClaims, byBook, outcome, indexed, left}
 use Rattle.outcomes.specs.Outcome.{number}
-use Rattle.outcomes.specs.declared.Outcome.{Outcome}
 use Rattle.outcomes.specs.declared.Outcome.the-variants.{Accepted, Refused}
 use Rattle.answers.specs.Empty.{EmptyOutcome, EmptyLeft, EmptyAnswers, NeverTwo}
 

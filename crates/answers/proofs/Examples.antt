@@ -31,8 +31,8 @@ use Rattle.groups.specs.Groups as groups
 use Rattle.groups.specs.Index.{edges, bookVisits}
 use Rattle.records.specs.PartIn.{partIn}
 use Rattle.records.specs.Claimed.{claimed, answersTo}
-use Rattle.outcomes.specs.Lent.{Lent, shortLent}
-use Rattle.outcomes.specs.Call.{byRuns, byClaims, byBook, outcome, indexed, cleared, left}
+use Rattle.outcomes.specs.Lent.{Lent}
+use Rattle.outcomes.specs.Call.{byRuns, byClaims, byBook, indexed, cleared, left}
 use Rattle.outcomes.specs.Fresh.{freshCall}
 use Rattle.outcomes.specs.declared.Outcome.{Outcome}
 use Rattle.outcomes.specs.declared.Outcome.the-variants.{Accepted, Refused}

@@ -1,6 +1,6 @@
 -- A call has the number and the place of the check that refuses. Assumes nothing.
 use Prim.Native.Nat.{ℕ, _-_, _<_}
-use mathlib.Core.Path.{_≡_, refl, ap, _∙_}
+use mathlib.Core.Path.{_≡_, refl}
 use mathlib.Core.Bool.{Bool, true, false}
 use mathlib.Core.List.{List}
 use native.Mathlib.Omega.{arith}
@@ -20,13 +20,12 @@ use Rattle.records.proofs.Rows.{refused-positive}
 use Rattle.records.specs.CheckNumbers.{bookNumber, bookPlace, bookPieces, claimsNumber, claimsPlace}
 use Rattle.index.specs.Parts as on
 use Rattle.groups.specs.Index.{bookVisits}
-use Rattle.outcomes.specs.Lent.{Lent, shortLent}
-use Rattle.outcomes.specs.Call.{pairsOf, byRuns, byClaims, byBook, outcome}
+use Rattle.outcomes.specs.Call.{pairsOf, byRuns, byClaims, byBook}
 use Rattle.outcomes.specs.Outcome.{number, place}
 use Rattle.outcomes.specs.Fresh.{freshCall}
 use Rattle.outcomes.specs.declared.Outcome.{Outcome}
 use Rattle.outcomes.specs.declared.Outcome.the-variants.{Accepted, Refused}
-use Rattle.answers.specs.RowNumbers.{Gives, RowsNumbered}
+use Rattle.answers.specs.RowNumbers.{RowsNumbered}
 use Rattle.answers.proofs.Fresh.{fresh-is}
 
 -- row 14 accepts or gives 14

@@ -1,5 +1,5 @@
 -- The lists and areas of the printed session's book, whose place list is 0 1 5 2 3 4. Assumes nothing.
-use Prim.Native.Nat.{ℕ, suc, _≤_, _<_}
+use Prim.Native.Nat.{ℕ, suc, _<_}
 use mathlib.Core.Path.{_≡_, refl, ap, _∙_}
 use mathlib.Core.Bool.{Bool, true, false}
 use mathlib.Core.List.{List, [], _∷_, _++_}
@@ -8,7 +8,7 @@ use borrow.Author.Tests.{ne-eqb}
 use lib.Dec.{lit<, eqb}
 use Rattle.lists.specs.Any.{any, anyBelow}
 use Rattle.lists.specs.Tab.{tab}
-use Rattle.rules.specs.Fact.{Fact, kind, left, right, factOf, unmarked}
+use Rattle.rules.specs.Fact.{factOf, unmarked}
 use Rattle.rules.specs.Follows.{follows, derived, apart, meets, notpart, containment, rounds, step, table, entry, storing, turned, parting}
 use Rattle.rules.specs.Entries.{factsOf}
 use Rattle.rules.specs.Examples.{session}

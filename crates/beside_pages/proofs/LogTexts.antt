@@ -1,16 +1,15 @@
 -- The text of a log by the call's outcome, and how long it is. Assumes nothing.
-use Prim.Native.Nat.{ℕ, _+_, _*_, _/_, _≤_, _<_}
-use mathlib.Core.Path.{_≡_, refl, _∙_, ap, sym}
-use mathlib.Core.List.{List, [], _++_}
+use Prim.Native.Nat.{ℕ, _+_, _*_, _≤_, _<_}
+use mathlib.Core.Path.{_≡_, _∙_, ap, sym}
+use mathlib.Core.List.{List, _++_}
 use native.Mathlib.Omega.{arith}
 use lib.ListN.{length, take, getD, replicate, length-append, length-replicate}
 use lib.Seq.{length-take-le}
 use Rattle.records.specs.declared.Refusal.{Refusal}
-use Rattle.outcomes.specs.declared.Outcome.{Outcome}
 use Rattle.outcomes.specs.declared.Outcome.the-variants.{Accepted, Refused}
 use Rattle.replicates.specs.declared.Replicated.{Replicated}
 use Rattle.replicates.specs.Log.{entryCount, entryAt}
-use Rattle.replicates.specs.Call.{outcome, left, Determined}
+use Rattle.replicates.specs.Call.{outcome, Determined}
 use Rattle.pages.specs.Put.{Put}
 use Rattle.pages.specs.Text.{field}
 use Rattle.pages.specs.Decimal.{decimal}

@@ -1,18 +1,16 @@
 -- The text of a call's outcome and answers, and how long it is. Assumes nothing.
 use Prim.Native.Nat.{ℕ, _+_, _*_, _/_, _≤_, _<_, _^_}
-use mathlib.Core.Path.{_≡_, _∙_, ap, ap₂, sym}
+use mathlib.Core.Path.{_≡_, sym}
 use mathlib.Core.List.{List, _++_}
 use native.Mathlib.Omega.{arith}
 use lib.ListN.{length, take, getD, length-append}
 use lib.Seq.{length-take-le}
 use Rattle.records.specs.Record.{records}
 use Rattle.records.specs.declared.Refusal.{Refusal}
-use Rattle.outcomes.specs.Call.{outcome, left}
 use Rattle.outcomes.specs.declared.Outcome.{Outcome}
 use Rattle.outcomes.specs.declared.Outcome.the-variants.{Accepted, Refused}
 use Rattle.sentences.specs.Refusals as line
 use Rattle.report.specs.Session.{claimLines, countsLine}
-use Rattle.report.specs.Page.{zeros}
 use Rattle.report.specs.Answered.{Answered}
 use Rattle.report.proofs.Rooms.{counts-width, claims-width}
 use Rattle.book_pages.specs.AskText.{textOf, sessionText}

@@ -1,7 +1,7 @@
 -- The sign by the bits that the code looks at, in its order. Assumes nothing.
 use Prim.Native.Nat.{ℕ}
-use mathlib.Core.Path.{_≡_, refl}
-use mathlib.Core.Bool.{Bool, true, false, _||_}
+use mathlib.Core.Path.{_≡_}
+use mathlib.Core.Bool.{Bool, true, false}
 use Rattle.rules.specs.Fact.{Fact, APART}
 use Rattle.book_pages.specs.Sign.{signOf, between, sign}
 

@@ -1,7 +1,6 @@
 -- The pages of document 01's session book, as records and as text. Assumes nothing.
-use Prim.Native.Nat.{ℕ}
 use mathlib.Core.Path.{_≡_}
-use mathlib.Core.List.{List, [], _++_}
+use mathlib.Core.List.{[], _++_}
 use Rattle.answers.specs.Examples.{sessionBook}
 use Rattle.pages.specs.Text.{ascii}
 use Rattle.text.specs.declared.Form.the-variants.{Claims, Log}

@@ -2,7 +2,7 @@
 use mathlib.Core.Path.{_≡_, refl, sym, ap, subst, _∙_}
 use mathlib.Core.Bool.{Bool, true, false, _&&_, _||_, and-comm, or-comm}
 use mathlib.Core.List.{List, List·Memᴰ}
-use Prim.Native.Nat.{ℕ, _+_, _*_, _/_, _%_, _<_, min, max}
+use Prim.Native.Nat.{ℕ, _/_, _%_, _<_, min, max}
 use native.Mathlib.Omega.{arith}
 use native.Mathlib.Decide.{decLt}
 use borrow.Author.Tests.{eq-eqb, eqb-true}
@@ -14,12 +14,10 @@ use Rattle.lists.proofs.Bools.{and-both, both-and, same-truth}
 use Rattle.lists.proofs.Members.{at-member, member-at}
 use Rattle.rules.specs.Fact.{Fact, kind, left, right}
 use Rattle.records.specs.Facts.{facts}
-use Rattle.records.specs.Check.{bookCheck}
-use Rattle.records.specs.declared.BookCheck.the-variants as book
 use Rattle.lists.specs.Passing.{passing}
-use Rattle.areas.specs.Area.{unorderedKind, rowOf, columnOf, numberOf, stored, pairs, filled}
+use Rattle.areas.specs.Area.{unorderedKind, rowOf, columnOf, numberOf, stored, pairs}
 use Rattle.areas.specs.Between.{within, inside, between}
-use Rattle.areas.specs.Question.{Answers, storedBetween}
+use Rattle.areas.specs.Question.{storedBetween}
 use Rattle.catalog.specs.Call.{placesOf, areaOf}
 use Rattle.catalog.specs.Questions.{AnswersStored}
 use Rattle.lists.proofs.Passed.{passing-at, passing-back, passing-less}

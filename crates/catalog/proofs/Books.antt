@@ -1,10 +1,10 @@
 -- What an accepted book gives its list and its areas. Assumes nothing.
-use mathlib.Core.Path.{_≡_, sym, ap, _∙_, subst}
+use mathlib.Core.Path.{_≡_, ap, _∙_}
 use mathlib.Core.List.{List}
 use Prim.Native.Nat.{ℕ, _≤_, _<_}
 use native.Mathlib.Omega.{arith}
 use lib.ListN.{length, getD}
-use mathlib.Core.Bool.{Bool, false}
+use mathlib.Core.Bool.{Bool}
 use Rattle.lists.specs.Tab.{tab}
 use Rattle.lists.specs.Front.{front}
 use Rattle.lists.proofs.Tabs.{tab-at, tab-length}

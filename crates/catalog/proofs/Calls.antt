@@ -2,13 +2,12 @@
 use Prim.Native.Nat.{ℕ, _≤_, _<_}
 use mathlib.Core.Path.{_≡_, refl, sym, ap, ap₂, subst, _∙_}
 use mathlib.Core.Bool.{Bool, true, false, not, _&&_, and-false}
-use mathlib.Core.List.{List, [], _++_}
+use mathlib.Core.List.{List, []}
 use native.Mathlib.Omega.{arith}
 use borrow.Author.Tests.{ltb-false, ne-eqb, le-leb, lt-leb, leb-true, leb-false}
 use lib.Dec.{ltb, leb}
-use lib.ListN.{length, take, drop}
+use lib.ListN.{length}
 use Rattle.lists.proofs.Bools.{and-both, or-neither}
-use Rattle.records.specs.Record.{records}
 use Rattle.records.specs.Refusal.{refusalNumber, scan}
 use Rattle.records.specs.Check.{bookCheck, claimsCheck}
 use Rattle.records.specs.declared.Refusal.{Refusal}
@@ -18,8 +17,7 @@ use Rattle.records.specs.declared.BookCheck.the-variants as book
 use Rattle.records.specs.declared.ClaimsCheck.the-variants as claims
 use Rattle.outcomes.specs.Lent.{shortLent}
 use Rattle.outcomes.specs.Lent as lending
-use Rattle.records.specs.Claimed.{answersTo}
-use Rattle.outcomes.specs.Call.{byRuns, Passed}
+use Rattle.outcomes.specs.Call.{byRuns}
 use Rattle.outcomes.specs.Call as call
 use Rattle.answers.specs.Judging as judging
 use Rattle.outcomes.specs.declared.Outcome.{Outcome}

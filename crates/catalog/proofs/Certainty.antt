@@ -1,16 +1,14 @@
 -- The list of an accepted catalog has exactly what is derived, and what every model keeps. Assumes nothing.
-use Prim.Native.Nat.{ℕ, _-_, _≤_, _<_}
-use mathlib.Core.Path.{_≡_, refl, sym, ap, subst, _∙_}
-use mathlib.Core.Logic.{_↔_}
-use mathlib.Core.Bool.{Bool, true, false, not, _&&_}
-use mathlib.Core.List.{List, [], List·Memᴰ}
+use Prim.Native.Nat.{ℕ, _<_}
+use mathlib.Core.Path.{_≡_, refl, subst}
+use mathlib.Core.Bool.{Bool, true, false}
+use mathlib.Core.List.{List, List·Memᴰ}
 use native.Mathlib.Omega.{arith}
 use borrow.Author.Tests.{leb-false}
 use lib.Dec.{leb}
-use lib.ListN.{length, getD}
 use Rattle.lists.proofs.Bools.{Known, is-true, is-false, known, not-is-false}
 use Rattle.lists.proofs.Members.{at-member, member-at}
-use Rattle.rules.specs.Fact.{Fact, factOf}
+use Rattle.rules.specs.Fact.{factOf}
 use Rattle.rules.specs.Follows.{follows, clash}
 use Rattle.rules.specs.Entries.{shortestClash}
 use Rattle.rules.proofs.Decides.{follows-iff}
@@ -18,7 +16,6 @@ use Rattle.rules.proofs.Models.{follows-everywhere}
 use Rattle.records.specs.Record.{records}
 use Rattle.records.specs.Facts.{entries, facts}
 use Rattle.records.specs.Marked.{marked}
-use Rattle.records.specs.Pieces.{pieceCount}
 use Rattle.records.specs.Check.{bookCheck}
 use Rattle.records.specs.declared.Refusal.{Refusal}
 use Rattle.records.specs.declared.BookCheck.{BookCheck}

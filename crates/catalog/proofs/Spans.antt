@@ -1,10 +1,10 @@
 -- The range of a piece in the index of an accepted book. Assumes nothing.
-use mathlib.Core.Path.{_≡_, refl, sym, ap, ap₂, _∙_}
+use mathlib.Core.Path.{_≡_, sym, ap, _∙_}
 use mathlib.Core.Bool.{Bool, false}
-use mathlib.Core.List.{List, _++_}
-use Prim.Native.Nat.{ℕ, suc, _+_, _-_, _*_, _≤_, _<_}
+use mathlib.Core.List.{List}
+use Prim.Native.Nat.{ℕ, suc, _+_, _-_, _≤_, _<_}
 use native.Mathlib.Omega.{arith}
-use lib.ListN.{length, getD, take, drop, replicate, length-append, length-drop, List·getD-append}
+use lib.ListN.{length, getD, take, drop, replicate, length-append, List·getD-append}
 use Rattle.lists.specs.Front.{front}
 use Rattle.lists.proofs.Fronts.{front-taken}
 use Rattle.lists.proofs.Tabs.{tab-at}
@@ -30,7 +30,7 @@ use Rattle.contradiction.proofs.SettlingLaws.{settleable, settled-room}
 use Rattle.outcomes.specs.Call.{pairsOf}
 use Rattle.outcomes.proofs.Buffers.{packed-long}
 use Rattle.catalog.specs.Call.{placesOf}
-use Rattle.areas.specs.Subtree.{endOf, rangeFrom, rangeTo, Spanned}
+use Rattle.areas.specs.Subtree.{rangeFrom, rangeTo, Spanned}
 use Rattle.catalog.specs.Questions.{SubtreesSpanned}
 use Rattle.catalog.proofs.Books.{places-long}
 use Rattle.areas.proofs.Subtrees.{end-there, range-some}

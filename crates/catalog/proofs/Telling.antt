@@ -10,7 +10,7 @@ use lib.ListN.{length}
 use Rattle.lists.specs.Any.{anyBelow}
 use Rattle.lists.specs.Front.{front}
 use Rattle.matrices.specs.Matrix.{bitOf, common, Blank, United}
-use Rattle.rules.specs.Fact.{Fact, APART, factOf, Within, AllWithin}
+use Rattle.rules.specs.Fact.{Fact, factOf, Within, AllWithin}
 use Rattle.rules.specs.Follows.{storing, turned, follows, clash}
 use Rattle.rules.proofs.Facts.{storing-same}
 use Rattle.rules.proofs.Plain.{inside, follows-plain}

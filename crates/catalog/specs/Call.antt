@@ -6,7 +6,7 @@ use mathlib.Core.List.{List, []}
 use lib.Dec.{leb}
 use lib.ListN.{length}
 use Rattle.lists.specs.Front.{front}
-use Rattle.rules.specs.Fact.{Fact, factOf}
+use Rattle.rules.specs.Fact.{factOf}
 use Rattle.rules.specs.Follows.{follows}
 use Rattle.records.specs.Facts.{facts}
 use Rattle.records.specs.Marked.{marked}

@@ -1,6 +1,6 @@
 -- What steps that pass say of their claim: the last one is the answer. Assumes nothing.
 use Prim.Native.Nat.{ℕ, zero, suc, _-_, _%_, _≤_, _<_}
-use mathlib.Core.Path.{_≡_, refl, sym, subst, _∙_}
+use mathlib.Core.Path.{_≡_, refl, sym, subst}
 use mathlib.Core.Logic.{_⊎_, inl, inr}
 use mathlib.Core.Bool.{true, false, _&&_, false≢true}
 use mathlib.Core.List.{List, [], _∷_, _++_, List·Memᴰ, List·Memᴰ·head, List·Memᴰ·tail, List·Memᴰ·cases-cons, List·Memᴰ·not-nil}
@@ -11,7 +11,6 @@ use borrow.Author.Tests.{eqb-true, leb-true}
 use Rattle.lists.proofs.Bools.{and-both, or-either, Known, is-true, is-false, known}
 use Rattle.rules.specs.Fact.{Fact, opposite, Within, AllWithin}
 use Rattle.rules.specs.Derives.{Derives, Contradictory}
-use Rattle.rules.specs.Verdict.{verdict}
 use Rattle.rules.proofs.More.{Among, weaken}
 use Rattle.rules.proofs.Verdicts.{verdict-follows, verdict-denied}
 use Rattle.records.specs.declared.Record.{Record}
@@ -20,17 +19,17 @@ use Rattle.records.specs.Facts.{facts}
 use Rattle.records.specs.Kept.{picked}
 use Rattle.records.specs.Marked.{marked}
 use Rattle.records.proofs.Keeps.{picked-among}
-use Rattle.records.proofs.Accepted.{accepted, accepted-claims, accepted-positive}
+use Rattle.records.proofs.Accepted.{accepted, accepted-claims}
 use Rattle.contradiction.proofs.SettlingLaws.{settleable, whole-unmarked}
 use Rattle.outcomes.specs.declared.Outcome.{Outcome}
 use Rattle.outcomes.specs.declared.Outcome.the-variants.{Accepted, Refused}
 use Rattle.claims.proofs.Fewer.{fewer-within, fewer-consistent}
-use Rattle.chain_format.specs.Step.{stepAt, steps, shows}
+use Rattle.chain_format.specs.Step.{stepAt, steps}
 use Rattle.chain_format.specs.Citing.{Cited, fact, mark, none, citing}
 use Rattle.chain_format.specs.Chain.{allOk, concludes, chainOk, factIn, citedBy}
 use Rattle.chain_check.specs.Call.{asked, passing, passes}
 use Rattle.chain_check.specs.Derived.{claimIn, factsFor, Concludes, citedIn, Proved, ChainDerives}
-use Rattle.chain_format.proofs.Sound.{Told, shown-derives, cited-listed}
+use Rattle.chain_format.proofs.Sound.{shown-derives, cited-listed}
 use Rattle.chain_format.proofs.Givens.{given}
 use Rattle.chain_format.proofs.Citings.{cited-picked}
 use Rattle.chain_check.proofs.Asking.{Passed, asked-passed, runs-consistent}

@@ -1,14 +1,13 @@
 -- What may be cited of a record, and where it comes from. Assumes nothing.
 use Prim.Native.Nat.{ℕ, _≤_, _<_}
 use mathlib.Core.Path.{_≡_, refl, sym, ap, subst, _∙_}
-use mathlib.Core.Bool.{Bool, true, false, _||_, false≢true}
+use mathlib.Core.Bool.{Bool, true, false, false≢true}
 use mathlib.Core.List.{List, List·Memᴰ}
 use native.Mathlib.Omega.{arith}
 use native.Mathlib.Decide.{decLt}
 use lib.Dec.{eqb}
 use lib.ListN.{length, getD, List·getD-eq-default}
 use borrow.Author.Tests.{eq-eqb, ne-eqb, eqb-true, eqb-false}
-use Rattle.lists.specs.Any.{any}
 use Rattle.lists.proofs.Tabs.{tab-at, tab-length}
 use Rattle.lists.proofs.Bools.{Known, is-true, is-false, known, same-truth}
 use Rattle.lists.proofs.Members.{at-member, member-at}
@@ -16,7 +15,7 @@ use Rattle.lists.proofs.Anys.{any-find, any-hit}
 use Rattle.rules.specs.Fact.{Fact}
 use Rattle.records.specs.declared.Record.{Record}
 use Rattle.records.specs.Record.{recordAt, records}
-use Rattle.records.specs.Pieces.{stated, marking}
+use Rattle.records.specs.Pieces.{stated}
 use Rattle.records.specs.Facts.{saying, facts}
 use Rattle.records.specs.Kept.{picked}
 use Rattle.records.specs.Marked.{marked}

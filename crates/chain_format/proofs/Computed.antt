@@ -16,7 +16,7 @@ use Rattle.records.proofs.Accepted.{says-kind, says-left, says-right}
 use Rattle.chain_format.specs.declared.steps.Step.{Step}
 use Rattle.chain_format.specs.Step.{stepAt, unordered, showing, shows}
 use Rattle.chain_format.specs.Other.{other}
-use Rattle.chain_format.specs.Citing.{Cited, mark, none, lets, citedOf, citing, marksPiece}
+use Rattle.chain_format.specs.Citing.{none, lets, citedOf, citing, marksPiece}
 use Rattle.chain_format.specs.Justified.{cites}
 use Rattle.chain_format.proofs.Citings.{cited-stated, cited-barred, cited-mark, cited-none, citing-at, citing-beyond}
 

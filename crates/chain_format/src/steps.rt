@@ -4,14 +4,12 @@ ghost use mathlib.Core.Bool.{true, _&&_};
 ghost use Prim.Native.Nat.{_+_, _*_, _≤_};
 ghost use lib.Dec.{eqb};
 ghost use lib.ListN.{length, getD};
-ghost use Rattle.records.specs.declared.Record as of;
 ghost use Rattle.chain_format.specs.Step as on;
 ghost use Rattle.chain_format.specs.Step.{stepAt, showing};
 ghost use Rattle.chain_format.specs.Citing as may;
 ghost use Rattle.chain_format.specs.Citing.{none, citing};
 ghost use Rattle.chain_format.specs.Rule.{rule};
 ghost use Rattle.chain_format.specs.Justified as by;
-ghost use Rattle.chain_format.specs.Other as end;
 use records::Record;
 
 // A step: its rule, the kind and the pieces of the fact that it shows, and its premises, or the record that it cites.

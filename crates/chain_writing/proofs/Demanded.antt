@@ -1,6 +1,6 @@
 -- The answer of a reply is what is derived, and what the models say. Assumes nothing.
 use Prim.Native.Nat.{ℕ}
-use mathlib.Core.Path.{_≡_, refl, sym, ap, subst, _∙_}
+use mathlib.Core.Path.{_≡_, refl, sym, subst}
 use mathlib.Core.Bool.{Bool, true, false}
 use mathlib.Core.List.{List}
 use native.Mathlib.Omega.{arith}
@@ -21,7 +21,7 @@ use Rattle.outcomes.specs.declared.Outcome.the-variants as call
 use Rattle.outcomes.proofs.Counts.{derived, entailed}
 use Rattle.chain_check.specs.Call.{asked}
 use Rattle.chain_check.proofs.Asking.{asked-passed, runs-consistent}
-use Rattle.chain_writing.specs.Call.{answerTo, replyOf, reply}
+use Rattle.chain_writing.specs.Call.{replyOf, reply}
 use Rattle.chain_writing.specs.ReplyNumbers.{number, answer}
 use Rattle.chain_writing.specs.ReplyDemands.{ReplyDemanded}
 use Rattle.chain_writing.proofs.Replies.{answered-byte}

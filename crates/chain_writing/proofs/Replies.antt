@@ -1,19 +1,19 @@
 -- The call put together: the steps as a run of their own, the answer, and the rows. Assumes nothing.
-use Prim.Native.Nat.{ℕ, zero, suc, _+_, _-_, _*_, _/_, _%_, _≤_, _<_}
+use Prim.Native.Nat.{ℕ, zero, suc, _+_, _-_, _*_, _%_, _≤_, _<_}
 use mathlib.Core.Path.{_≡_, refl, sym, ap, ap₂, subst, _∙_}
 use mathlib.Core.Logic.{_⊎_, inl, inr}
-use mathlib.Core.Bool.{Bool, true, false, _&&_, _||_, false≢true}
-use mathlib.Core.List.{List, [], _++_}
+use mathlib.Core.Bool.{Bool, true, false, _||_, false≢true}
+use mathlib.Core.List.{List, _++_}
 use native.Mathlib.Omega.{arith}
 use native.Mathlib.Decide.{decLt}
-use lib.Dec.{eqb, leb}
+use lib.Dec.{leb}
 use lib.ListN.{length, getD, take, drop, List·getD-append}
 use lib.Seq.{length-take-le, getD-take, getD-drop, getD-append-add, ext-getD}
 use borrow.Author.Tests.{eq-eqb, le-leb, leb-true, lt-ltb, le-ltb}
 use Rattle.lists.specs.Front.{front}
 use Rattle.lists.proofs.Bools.{and-both, both-and, left-or, right-or}
 use Rattle.lists.proofs.Fronts.{front-none, front-length}
-use Rattle.rules.specs.Fact.{Fact, PART, APART, MEETS, NOTPART, factOf, opposite, Within}
+use Rattle.rules.specs.Fact.{Fact, factOf, opposite, Within}
 use Rattle.rules.specs.Follows.{follows, clash}
 use Rattle.rules.specs.Verdict.{judge, verdict}
 use Rattle.records.specs.declared.Record.{Record}
@@ -48,7 +48,7 @@ use Rattle.chain_format.specs.Step.{stepAt, steps, showing, shows}
 use Rattle.chain_format.specs.Citing.{Cited, citing}
 use Rattle.chain_format.specs.Chain.{allOk, concludes, chainOk}
 use Rattle.chain_format.specs.Twice.{alike, Differ, NoneTwice}
-use Rattle.chain_check.specs.Call.{asked, passes}
+use Rattle.chain_check.specs.Call.{asked}
 use Rattle.chain_format.proofs.Kept.{step-kept, all-kept}
 use Rattle.chain_format.proofs.Passing.{all-none}
 use Rattle.chain_check.proofs.Asking.{asked-refused, asked-misfit, asked-claim, asked-runs, passes-chain}
@@ -58,7 +58,7 @@ use Rattle.chain_writing.specs.declared.Chain.{Chain}
 use Rattle.derivations.specs.Written.{Edited}
 use Rattle.derivations.specs.Shown.{Writes}
 use Rattle.derivations.specs.Found.{Ground, Chained}
-use Rattle.chain_writing.specs.Call.{answerFor, answerTo, replyOf, reply, shown, Steps, Written, Answering, Judged}
+use Rattle.chain_writing.specs.Call.{answerFor, answerTo, replyOf, reply, shown, Written, Answering, Judged}
 
 -- ---- a buffer with a new front
 

@@ -6,7 +6,7 @@ use mathlib.Core.List.{List}
 use lib.Dec.{ltb}
 use lib.ListN.{length, take}
 use Rattle.lists.specs.Front.{front}
-use Rattle.rules.specs.Fact.{Fact, opposite}
+use Rattle.rules.specs.Fact.{opposite}
 use Rattle.rules.specs.Follows.{follows}
 use Rattle.records.specs.declared.Record.{Record}
 use Rattle.records.specs.declared.Refusal.the-variants.{ShortSteps}

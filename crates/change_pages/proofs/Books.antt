@@ -1,11 +1,11 @@
 -- The new books, by the cases of what is read, of the words and of the outcome. Assumes nothing.
 use Prim.Native.Nat.{ℕ, _+_, _*_, _-_, _/_, _%_, _≤_, _<_, min}
-use mathlib.Core.Path.{_≡_, refl, _∙_, ap, sym}
-use mathlib.Core.Bool.{Bool, true, false, not}
+use mathlib.Core.Path.{_≡_, _∙_, ap, sym}
+use mathlib.Core.Bool.{Bool, true, false}
 use mathlib.Core.List.{List, [], _++_}
 use native.Mathlib.Omega.{arith}
 use native.Mathlib.Decide.{decLt}
-use lib.Dec.{eqb, ltb, leb}
+use lib.Dec.{ltb, leb}
 use lib.ListN.{length, take, drop, length-append, length-drop}
 use lib.Seq.{take-all, length-take-le}
 use borrow.Author.Tests.{eq-eqb, ne-eqb, lt-ltb, le-ltb, le-leb, lt-leb}
@@ -41,7 +41,7 @@ use Rattle.sentences.specs.Sources.{Breaks}
 use Rattle.sentences.specs.Arguments.{wordsOf}
 use Rattle.sentences.specs.declared.sources.Words.{Words}
 use Rattle.sentences.specs.declared.sources.Words.the-variants.{Entry, Wrong}
-use Rattle.change_pages.specs.Change.{Change, New, Kept}
+use Rattle.change_pages.specs.Change.{New, Kept}
 use Rattle.change_pages.specs.Changes.{judged, packing, converting, ofRecords, adding, without, withdrawn, withdrawing}
 
 -- ---- by the outcome

@@ -24,7 +24,7 @@ use Rattle.text.specs.Text.{Reading, Entries, Broken}
 use Rattle.text.specs.Either.{isText, readEither}
 use Rattle.sentences.specs.Refusals.{refused}
 use Rattle.sentences.specs.Unread.{unreadLine}
-use Rattle.sentences.specs.Arguments.{wordsOf, speaker}
+use Rattle.sentences.specs.Arguments.{wordsOf}
 use Rattle.sentences.specs.declared.sources.Words.{Words}
 use Rattle.sentences.specs.declared.sources.Words.the-variants.{Entry, Wrong}
 use Rattle.change_pages.specs.Change.{Change, New, Kept}

@@ -1,5 +1,4 @@
 // The pages of the commands that write a file, and the new book that they write.
-ghost use mathlib.Core.Path.{_≡_};
 ghost use mathlib.Core.List.{[], _++_};
 ghost use Prim.Native.Nat.{_≤_};
 ghost use lib.ListN.{length, take};

@@ -9,7 +9,6 @@ use borrow.Author.Tests.{leb-true, lt-ltb, ltb-true, ltb-false}
 use lib.Dec.{leb, ltb}
 use lib.ListN.{length, getD, set}
 use lib.Seq.{getD-set-same, getD-set-other, ext-getD}
-use Rattle.lists.specs.Tab.{tab}
 use Rattle.lists.proofs.Tabs.{tab-at, tab-length}
 use Rattle.lists.proofs.Anys.{below-find, below-hit}
 use Rattle.lists.proofs.Bools.{and-both, not-true, Known, is-true, is-false, known}
@@ -23,7 +22,7 @@ use Rattle.records.specs.Check.{claimsCheck}
 use Rattle.records.specs.declared.Record.{Record}
 use Rattle.records.specs.declared.ClaimsCheck.the-variants as claims
 use Rattle.records.proofs.Accepted.{accepted-claims, says-left, says-right}
-use Rattle.records.specs.Kept.{sheets, picked}
+use Rattle.records.specs.Kept.{sheets}
 use Rattle.records.proofs.Keeps.{picked-all, picked-sheets}
 use Rattle.closure.specs.Bounded.{Bounded}
 use Rattle.closure.specs.Closed.{Holds, Closed, wholeBit, awayBit, outBit}

@@ -1,10 +1,8 @@
 -- Facts that hold in every model may be added: the list stays consistent, and every claim keeps its answer. Assumes nothing.
 use Prim.Native.Nat.{ℕ, _<_}
-use mathlib.Core.Path.{_≡_, refl, sym, ap₂, _∙_}
+use mathlib.Core.Path.{_≡_, refl, ap₂}
 use mathlib.Core.Logic.{_⊎_, inl, inr}
-use mathlib.Core.Bool.{true}
 use mathlib.Core.List.{List, List·Memᴰ}
-use native.Mathlib.Omega.{arith}
 use Rattle.lists.proofs.Bools.{same-truth}
 use Rattle.rules.specs.Fact.{Fact, PART, opposite, Within, AllWithin, unmarked}
 use Rattle.rules.specs.Derives.{Contradictory}

@@ -5,9 +5,7 @@ use mathlib.Core.Bool.{false}
 use mathlib.Core.List.{List}
 use native.Mathlib.Omega.{arith}
 use borrow.Author.Tests.{lt-leb}
-use lib.ListN.{getD}
 use lib.Seq.{ext-getD}
-use Rattle.lists.specs.Tab.{tab}
 use Rattle.lists.proofs.Bools.{not-true}
 use Rattle.lists.proofs.Tabs.{tab-at, tab-length}
 use Rattle.rules.specs.Fact.{unmarked}
@@ -26,7 +24,7 @@ use Rattle.records.proofs.Accepted.{accepted-claims}
 use Rattle.contradiction.proofs.SettlingLaws.{settleable, whole-unmarked, free-beyond}
 use Rattle.outcomes.specs.Lent.{Lent, shortLent}
 use Rattle.records.specs.Claimed.{pickedFacts, claimed, answersTo}
-use Rattle.outcomes.specs.Call.{byRuns, outcome, Passed}
+use Rattle.outcomes.specs.Call.{byRuns, outcome}
 use Rattle.outcomes.specs.Outcome.{number}
 use Rattle.outcomes.proofs.Outcomes.{passed-outcome}
 use Rattle.convert.specs.Same.{InForce, SameAnswers}

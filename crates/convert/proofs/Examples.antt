@@ -1,7 +1,6 @@
 -- Conversions, computed: trays are dropped, and a piece that only a tray record named gets a record of its own. Assumes nothing.
-use Prim.Native.Nat.{ℕ}
 use mathlib.Core.Path.{_≡_, refl}
-use mathlib.Core.List.{List, [], _∷_, _++_, map}
+use mathlib.Core.List.{[], _∷_, _++_, map}
 use Rattle.records.specs.Record.{recordAt}
 use Rattle.records.specs.Pieces.{stated, largest, piecesUpTo}
 use Rattle.records.specs.Kept.{bytesAt, bytesWhere, keptUpTo}

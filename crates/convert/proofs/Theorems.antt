@@ -19,10 +19,10 @@ use Rattle.records.specs.declared.BookCheck.the-variants as book
 use Rattle.records.specs.Record.{recordAt, records}
 use Rattle.records.specs.Pieces.{stated, pieceCount}
 use Rattle.records.specs.Facts.{saying, facts}
-use Rattle.records.specs.Kept.{onSheet, picked}
+use Rattle.records.specs.Kept.{picked}
 use Rattle.records.specs.Marked.{marked}
 use Rattle.records.specs.Rows.{orderRow}
-use Rattle.records.specs.Check.{bookCheck, formerCheck}
+use Rattle.records.specs.Check.{formerCheck}
 use Rattle.records.proofs.Rows.{Formed, admits-stated}
 use Rattle.records.proofs.Keeps.{same-record, letsPass, picked-from, picked-here, picked-among}
 use Rattle.records.proofs.Accepted.{AcceptedBook, accepted-by, acceptable, accepted-within, accepted-positive, accepted-pieces, facts-within}

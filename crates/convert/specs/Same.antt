@@ -1,7 +1,6 @@
 -- What a converted book t is to the book s that it comes from. Assumes nothing.
 use Prim.Native.Nat.{ℕ}
 use mathlib.Core.Path.{_≡_}
-use mathlib.Core.Bool.{true}
 use mathlib.Core.List.{List}
 use Rattle.rules.specs.Fact.{Within, unmarked}
 use Rattle.rules.specs.Derives.{Contradictory}

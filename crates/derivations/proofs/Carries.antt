@@ -2,13 +2,13 @@
 use Prim.Native.Nat.{ℕ, _+_, _-_, _≤_, _<_}
 use mathlib.Core.Path.{_≡_, refl, sym, ap, ap₂, subst, _∙_}
 use mathlib.Core.Logic.{_⊎_, inl, inr}
-use mathlib.Core.Bool.{true, false, not, _||_, false≢true}
+use mathlib.Core.Bool.{true, false, not, _||_}
 use mathlib.Core.List.{List}
 use native.Mathlib.Omega.{arith}
 use lib.ListN.{getD}
 use borrow.Author.Tests.{eq-eqb, ne-eqb}
 use Rattle.lists.proofs.Bools.{both-and, left-or, right-or, not-true}
-use Rattle.rules.specs.Fact.{Fact, APART, MEETS, NOTPART, kind, left, right, factOf}
+use Rattle.rules.specs.Fact.{APART, MEETS, NOTPART, kind, left, right, factOf}
 use Rattle.records.specs.declared.Record.{Record}
 use Rattle.chain_format.specs.Citing.{Cited, none, citing, marksPiece, marksSome}
 use Rattle.chain_format.specs.declared.steps.Step.{Step}

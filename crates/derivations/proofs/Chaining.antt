@@ -1,13 +1,13 @@
 -- Chains put together: what is found, carried to the fact, or nothing. Assumes nothing.
-use Prim.Native.Nat.{ℕ, _+_, _≤_, _<_}
+use Prim.Native.Nat.{ℕ, _≤_, _<_}
 use mathlib.Core.Path.{_≡_, refl, sym, ap, subst, _∙_}
 use mathlib.Core.Logic.{_⊎_, inl, inr}
 use mathlib.Core.Bool.{Bool, true, false, not, _&&_, false≢true}
 use mathlib.Core.List.{List}
 use native.Mathlib.Omega.{arith}
-use lib.ListN.{length, getD}
+use lib.ListN.{getD}
 use Rattle.lists.proofs.Bools.{and-both, not-is-true}
-use Rattle.matrices.specs.Matrix.{bitOf, common}
+use Rattle.matrices.specs.Matrix.{bitOf}
 use borrow.Author.Tests.{ne-eqb}
 use Rattle.rules.specs.Fact.{Fact, PART, APART, MEETS, NOTPART, factOf, Within}
 use Rattle.rules.specs.Derives.{rule-e′}
@@ -19,9 +19,8 @@ use Rattle.records.specs.Kept.{picked}
 use Rattle.records.specs.Marked.{marks, marked}
 use Rattle.closure.specs.Void.{voidOf}
 use Rattle.chain_format.specs.declared.steps.Step.{Step}
-use Rattle.chain_format.specs.Step.{stepAt, showing, shows}
-use Rattle.chain_format.specs.Citing.{citing, none, marksPiece, marksSome}
-use Rattle.chain_format.specs.Chain.{allOk}
+use Rattle.chain_format.specs.Step.{stepAt}
+use Rattle.chain_format.specs.Citing.{citing, none, marksPiece}
 use Rattle.chain_format.specs.Twice.{alike, Differ}
 use Rattle.derivations.proofs.Distincts.{unlike-kind, distinct-one, distinct-kept, distinct-join}
 use Rattle.chain_format.proofs.Showing.{straight, ends-show}
@@ -32,14 +31,14 @@ use Rattle.derivations.specs.declared.search.Meeting.{Meeting}
 use Rattle.derivations.specs.Aim.{joining, serving}
 use Rattle.derivations.specs.Written.{Put}
 use Rattle.derivations.specs.Shown.{Writes}
-use Rattle.derivations.specs.Lifts.{Inside, Grounded, apart, notpart, Routed, Spans, Outlies}
+use Rattle.derivations.specs.Lifts.{Inside, apart, notpart, Routed, Spans, Outlies}
 use Rattle.derivations.specs.Routes.{routeTo}
 use Rattle.derivations.specs.Commons.{Joined}
 use Rattle.derivations.specs.Found as of
 use Rattle.derivations.specs.Found.{Found, Ground, Witnessed, Met, Voided, Chained}
 use Rattle.derivations.proofs.Carries.{saying, as-said, itself-grounded, void-grounded, empty-grounded}
 use Rattle.derivations.proofs.Joining.{justified-d′}
-use Rattle.derivations.proofs.Composed.{still-shown, put-shown, writes-one, writes-after, writes-put}
+use Rattle.derivations.proofs.Composed.{still-shown, writes-one, writes-put}
 use Rattle.derivations.proofs.Ways.{cited-derives, apart-disjoint, notpart-disjoint, meets-disjoint, meets-unmarked, outside-disjoint}
 use Rattle.derivations.proofs.Grounds.{small, bit-inside, common-meets, writes-follows, marks-cited, found-mark, meets-none}
 

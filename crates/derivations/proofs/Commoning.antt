@@ -1,30 +1,30 @@
 -- Two pieces that meet in a common piece: the last of these on the way. Assumes nothing.
-use Prim.Native.Nat.{ℕ, suc, _+_, _-_, _*_, _≤_, _<_}
+use Prim.Native.Nat.{ℕ, suc, _+_, _-_, _≤_, _<_}
 use mathlib.Core.Path.{_≡_, refl, sym, ap, subst, _∙_}
 use mathlib.Core.Logic.{_⊎_, inl, inr}
-use mathlib.Core.Bool.{Bool, true, false, false≢true}
+use mathlib.Core.Bool.{true, false, false≢true}
 use mathlib.Core.List.{List}
 use native.Mathlib.Omega.{arith}
 use lib.ListN.{getD}
 use Rattle.lists.proofs.Bools.{not-true}
 use Rattle.matrices.specs.Matrix.{bitOf}
-use Rattle.rules.specs.Fact.{Fact, PART, MEETS, factOf}
+use Rattle.rules.specs.Fact.{PART, MEETS, factOf}
 use Rattle.records.specs.declared.Record.{Record}
 use Rattle.records.specs.Record.{records}
 use Rattle.chain_format.specs.declared.steps.Step.{Step}
 use Rattle.chain_format.specs.Step.{stepAt, shows}
-use Rattle.chain_format.specs.Citing.{Cited, citing}
+use Rattle.chain_format.specs.Citing.{citing}
 use Rattle.chain_format.specs.Twice.{alike}
 use Rattle.chain_format.proofs.Showing.{Ends, straight, swapped, showing-ends, ends-show}
 use Rattle.derivations.specs.Written.{Put}
-use Rattle.derivations.specs.Hops.{Way, arrived, onward, Reaches, Hopped, Sourced}
+use Rattle.derivations.specs.Hops.{Way, arrived, onward, Reaches, Hopped}
 use Rattle.derivations.specs.Sources.{Sources}
 use Rattle.derivations.specs.Climbs.{Contained}
-use Rattle.derivations.specs.Distinct.{Distinct, Upward, begun, higher}
+use Rattle.derivations.specs.Distinct.{Upward, begun, higher}
 use Rattle.derivations.proofs.Climbing.{goes-on}
 use Rattle.derivations.proofs.Distincts.{unlike-kind, unlike-part, distinct-none, distinct-one, distinct-weaken, distinct-kept, distinct-join}
 use Rattle.derivations.specs.Shown.{Writes, Adds}
-use Rattle.derivations.specs.Lifts.{lift-c′, Setting, Telling, Unmarked, Inside, Between, Disjoint, OnWay, Spanning, Same, Lifting, Lifted, meets, Routed, Spans}
+use Rattle.derivations.specs.Lifts.{lift-c′, Setting, Telling, Unmarked, Inside, Between, Spanning, Same, Lifting, Lifted, meets, Routed, Spans}
 use Rattle.derivations.specs.Commons.{Last, Risen, Joined}
 use Rattle.derivations.proofs.Joining.{justified-c′}
 use Rattle.derivations.proofs.Composed.{still-shown, adds-none, adds-some, writes-one, writes-adds, writes-put}

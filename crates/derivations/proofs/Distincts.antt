@@ -1,14 +1,14 @@
 -- Runs of steps of which no two show the same, put together. Assumes nothing.
 use Prim.Native.Nat.{ℕ, _+_, _*_, _≤_, _<_}
-use mathlib.Core.Path.{_≡_, refl, sym, ap, ap₂, subst, _∙_}
+use mathlib.Core.Path.{_≡_, sym, ap, ap₂, subst, _∙_}
 use mathlib.Core.Logic.{_⊎_, inl, inr}
-use mathlib.Core.Bool.{Bool, true, false, false≢true}
+use mathlib.Core.Bool.{true, false, false≢true}
 use mathlib.Core.List.{List}
 use native.Mathlib.Omega.{arith}
 use native.Mathlib.Decide.{decLt}
 use Rattle.lists.proofs.Bools.{not-true}
 use Rattle.chain_format.specs.declared.steps.Step.{Step}
-use Rattle.chain_format.specs.Step.{stepAt, unordered, showing}
+use Rattle.chain_format.specs.Step.{stepAt, unordered}
 use Rattle.chain_format.specs.Twice.{alike, Differ}
 use Rattle.chain_format.proofs.Showing.{Ends, straight, swapped, showing-kind, showing-ends}
 use Rattle.derivations.specs.Written.{Edited, Put}

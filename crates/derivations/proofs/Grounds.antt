@@ -7,21 +7,21 @@ use mathlib.Core.List.{List, List·Memᴰ}
 use native.Mathlib.Omega.{arith}
 use native.Mathlib.Decide.{decLt}
 use lib.Dec.{eqb, ltb}
-use lib.ListN.{length, getD}
+use lib.ListN.{getD}
 use borrow.Author.Tests.{eqb-true, eq-eqb, lt-ltb, le-leb}
 use Rattle.lists.specs.Any.{anyBelow}
 use Rattle.lists.proofs.Bools.{and-both, both-and, or-either, left-or, right-or, not-true, not-is-true}
 use Rattle.lists.proofs.Anys.{below-find}
 use Rattle.matrices.specs.Matrix.{bitOf, common}
 use Rattle.rules.specs.Fact.{Fact, PART, APART, MEETS, NOTPART, kind, left, right, factOf, unmarked, Within, AllWithin}
-use Rattle.rules.specs.Follows.{storing, turned, meets, follows, derived}
+use Rattle.rules.specs.Follows.{storing, turned, meets, follows}
 use Rattle.rules.proofs.Facts.{storing-find}
 use Rattle.rules.proofs.Decides.{follows-iff}
 use Rattle.rules.proofs.Plain.{inside, plain, follows-plain}
 use Rattle.records.specs.declared.Record.{Record}
 use Rattle.records.specs.Record.{recordAt, records}
 use Rattle.records.specs.Pieces.{stated}
-use Rattle.records.specs.Facts.{saying, facts}
+use Rattle.records.specs.Facts.{facts}
 use Rattle.records.specs.Kept.{picked}
 use Rattle.records.specs.Marked.{marks, marked}
 use Rattle.records.proofs.Keeps.{picked-among}
@@ -30,12 +30,12 @@ use Rattle.records.proofs.Accepted.{says-kind, says-left, says-right}
 use Rattle.closure.specs.Void.{voidOf}
 use Rattle.closure.specs.Bounded.{Bounded}
 use Rattle.closure.specs.Stored.{storedBit, edgeBit}
-use Rattle.closure.specs.Closed.{Holds, partBit}
+use Rattle.closure.specs.Closed.{partBit}
 use Rattle.verdicts.specs.ByMarks.{byMarks}
 use Rattle.closure.proofs.StoredBits.{swapped-hit}
 use Rattle.verdicts.proofs.Answering.{part-told, meets-told}
-use Rattle.chain_format.specs.Step.{stepAt, unordered, shows}
-use Rattle.chain_format.specs.Citing.{fact, none, lets, citing, marksPiece}
+use Rattle.chain_format.specs.Step.{stepAt, unordered}
+use Rattle.chain_format.specs.Citing.{fact, none, citing, marksPiece}
 use Rattle.chain_format.proofs.Passing.{all-none}
 use Rattle.chain_format.proofs.Citings.{citing-says, cited-picked, picked-cited, marked-cited}
 use Rattle.chain_format.proofs.Sound.{shown-derives}

@@ -1,5 +1,5 @@
 -- Steps that are justified: one hop, and two ways joined. Assumes nothing.
-use Prim.Native.Nat.{ℕ, _-_, _<_}
+use Prim.Native.Nat.{ℕ, _<_}
 use mathlib.Core.Path.{_≡_, refl, sym, ap, subst, _∙_}
 use mathlib.Core.Bool.{Bool, true, false}
 use mathlib.Core.List.{List}
@@ -8,7 +8,7 @@ use native.Mathlib.Omega.{arith}
 use borrow.Author.Tests.{eq-eqb, ne-eqb, eqb-false, lt-ltb}
 use Rattle.lists.proofs.Bools.{both-and}
 use Rattle.rules.specs.Fact.{PART}
-use Rattle.chain_format.specs.Citing.{Cited, fact}
+use Rattle.chain_format.specs.Citing.{Cited}
 use Rattle.chain_format.specs.declared.steps.Step.{Step}
 use Rattle.chain_format.specs.Step.{showing, shows}
 use Rattle.chain_format.specs.Justified.{cites, justified}

@@ -1,6 +1,6 @@
 -- From the facts to ways: every piece that is part of k is met, and each hop is a record's or (f)'s. Assumes nothing.
 use Prim.Native.Nat.{ℕ, suc, _≤_, _<_}
-use mathlib.Core.Path.{_≡_, sym, ap, subst, _∙_}
+use mathlib.Core.Path.{_≡_, sym, subst}
 use mathlib.Core.Logic.{_⊎_, inl, inr}
 use mathlib.Core.Bool.{true, false≢true}
 use mathlib.Core.List.{List, List·Memᴰ}

@@ -17,13 +17,12 @@ use Rattle.records.specs.Record.{recordAt, records}
 use Rattle.records.specs.Pieces.{stated}
 use Rattle.closure.proofs.Runs.{record-within}
 use Rattle.chain_format.specs.declared.steps.Step.{Step}
-use Rattle.chain_format.specs.Step.{unordered, showing, shows}
+use Rattle.chain_format.specs.Step.{unordered, showing}
 use Rattle.chain_format.specs.Citing.{lets, citing, none}
 use Rattle.chain_format.specs.Justified.{cites}
 use Rattle.chain_format.proofs.Computed.{brings-fact}
 use Rattle.derivations.specs.declared.search.Aim.{Aim}
 use Rattle.derivations.specs.declared.search.Aim.the-variants.{Apart, Meets, NotPart, Outside}
-use Rattle.derivations.specs.declared.search.Witness.{Witness}
 use Rattle.derivations.specs.Aim.{kindFor, joining, serving}
 use Rattle.derivations.specs.Lifts.{Grounded}
 use Rattle.derivations.specs.Found.{Citable, Witnessed}

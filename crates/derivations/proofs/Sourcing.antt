@@ -12,7 +12,7 @@ use lib.Seq.{getD-set-same, getD-set-other}
 use borrow.Author.Tests.{le-leb}
 use Rattle.lists.proofs.Bools.{both-and}
 use Rattle.rules.specs.Fact.{PART, kind, factOf, AllWithin}
-use Rattle.chain_format.specs.Citing.{fact, none, lets, citedOf, citing}
+use Rattle.chain_format.specs.Citing.{fact, lets, citedOf}
 use Rattle.chain_format.proofs.Citings.{cited-stated, citing-at, citing-says, cited-picked}
 use Rattle.records.specs.declared.Record.{Record}
 use Rattle.records.specs.Record.{recordAt, records}

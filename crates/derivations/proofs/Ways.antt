@@ -2,9 +2,9 @@
 use Prim.Native.Nat.{ℕ, _<_}
 use mathlib.Core.Path.{_≡_, refl, sym, ap, _∙_}
 use mathlib.Core.Bool.{Bool, true, false, not, _&&_, false≢true}
-use mathlib.Core.List.{List, List·Memᴰ}
+use mathlib.Core.List.{List}
 use lib.ListN.{getD}
-use Rattle.lists.proofs.Bools.{Known, is-true, is-false, known, and-both, both-and}
+use Rattle.lists.proofs.Bools.{Known, is-true, is-false, known, both-and}
 use Rattle.matrices.specs.Matrix.{bitOf}
 use Rattle.rules.specs.Fact.{Fact, PART, APART, MEETS, NOTPART, unmarked}
 use Rattle.rules.specs.Model.{Model, keeps, keepsAll}

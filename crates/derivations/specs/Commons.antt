@@ -1,13 +1,12 @@
 -- What is written for two pieces that meet. Assumes nothing.
-use Prim.Native.Nat.{ℕ, _<_, _-_, _≤_}
+use Prim.Native.Nat.{ℕ, _<_, _-_}
 use mathlib.Core.Path.{_≡_}
 use mathlib.Core.Logic.{_⊎_}
 use mathlib.Core.Bool.{true, false}
 use mathlib.Core.List.{List}
 use Rattle.matrices.specs.Matrix.{bitOf}
-use Rattle.rules.specs.Fact.{PART, MEETS}
+use Rattle.rules.specs.Fact.{MEETS}
 use Rattle.records.specs.declared.Record.{Record}
-use Rattle.chain_format.specs.declared.steps.Step.{Step}
 use Rattle.chain_format.specs.Step.{stepAt, shows}
 use Rattle.chain_format.specs.Citing.{citing, Cited}
 use Rattle.derivations.specs.Hops.{Reaches, Sourced}

@@ -1,5 +1,5 @@
 -- The bit of a claim is the question call's answer to it. Assumes nothing.
-use Prim.Native.Nat.{ℕ, _<_, _≤_}
+use Prim.Native.Nat.{ℕ, _≤_}
 use mathlib.Core.Path.{_≡_, refl, sym, ap, subst, _∙_}
 use mathlib.Core.Bool.{Bool, true, false}
 use mathlib.Core.List.{List, []}
@@ -7,19 +7,16 @@ use native.Mathlib.Omega.{arith}
 use borrow.Author.Tests.{ltb-false}
 use lib.Dec.{eqb, ltb}
 use lib.ListN.{getD}
-use Rattle.lists.proofs.Bools.{Known, is-true, is-false, known}
 use Rattle.rules.specs.Fact.{Fact, Within}
 use Rattle.rules.specs.Verdict.{verdict}
-use Rattle.records.specs.Record.{recordAt, records}
+use Rattle.records.specs.Record.{recordAt}
 use Rattle.records.specs.Facts.{facts}
 use Rattle.records.specs.Marked.{marked}
 use Rattle.records.specs.Check.{bookCheck}
-use Rattle.records.specs.Refusal.{refusalNumber}
 use Rattle.records.specs.declared.BookCheck.the-variants as book
 use Rattle.records.proofs.Keeps.{picked-all}
 use Rattle.records.proofs.Rows.{refused-positive}
-use Rattle.outcomes.specs.Lent.{Lent}
-use Rattle.records.specs.Claimed.{claimed, pickedFacts}
+use Rattle.records.specs.Claimed.{claimed}
 use Rattle.outcomes.specs.Call.{outcome, left, indexed, Passed}
 use Rattle.outcomes.specs.Fresh.{freshCall}
 use Rattle.outcomes.specs.Outcome.{number}

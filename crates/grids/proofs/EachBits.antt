@@ -1,21 +1,18 @@
 -- Each bit of accepted grids is the question call's answer to its claim. Assumes nothing.
-use Prim.Native.Nat.{ℕ, _+_, _*_, _<_, _≤_, max}
+use Prim.Native.Nat.{ℕ, _+_, _*_, _<_, max}
 use mathlib.Core.Path.{_≡_, refl, sym, ap, ap₂, subst, _∙_}
-use mathlib.Core.Bool.{Bool, true, false, _&&_}
-use mathlib.Core.List.{List, [], _∷_}
+use mathlib.Core.Bool.{Bool, true, false}
+use mathlib.Core.List.{List, []}
 use native.Mathlib.Omega.{arith}
-use borrow.Author.Tests.{ltb-false, lt-leb}
-use lib.Dec.{eqb, leb, ltb}
-use lib.ListN.{getD, replicate}
+use borrow.Author.Tests.{lt-leb}
+use lib.Dec.{leb, ltb}
+use lib.ListN.{replicate}
 use Rattle.lists.proofs.Bools.{and-both, not-true}
 use Rattle.rules.specs.Fact.{Fact, PART, APART, MEETS, NOTPART, left, right, factOf, Within}
 use Rattle.records.specs.Record.{recordAt}
-use Rattle.records.specs.Pieces.{stated, largest, pieceCount}
+use Rattle.records.specs.Pieces.{stated, largest}
 use Rattle.records.specs.Refusal.{scan}
-use Rattle.records.specs.Facts.{facts}
-use Rattle.records.specs.Marked.{marked}
-use Rattle.records.specs.Check.{bookCheck, claimAt, claimsCheck}
-use Rattle.records.specs.declared.BookCheck.the-variants as book
+use Rattle.records.specs.Check.{claimAt, claimsCheck}
 use Rattle.records.specs.declared.ClaimsCheck.the-variants as claims
 use Rattle.records.proofs.Accepted.{accepted}
 use Rattle.records.proofs.Rows.{refused-positive}
@@ -28,11 +25,10 @@ use Rattle.outcomes.specs.declared.Outcome.{Outcome}
 use Rattle.outcomes.specs.declared.Outcome.the-variants.{Accepted, Refused}
 use Rattle.outcomes.proofs.Outcomes.{passed-outcome}
 use Rattle.answers.proofs.Fresh.{fresh-is, fresh-sound, roomy-long}
-use Rattle.grids.specs.declared.rounds.Grids.{Grids}
 use Rattle.grids.specs.Closed.{holds}
 use Rattle.grids.specs.Answers as on
 use Rattle.grids.specs.Loaded.{among}
-use Rattle.grids.specs.Gridded.{sized, bySize, gridOutcome, bitFor, Gridded}
+use Rattle.grids.specs.Gridded.{sized, bySize, gridOutcome, bitFor}
 use Rattle.grids.specs.EachBit.{claimOf, Asked, EachBit, EachBitAgrees}
 use Rattle.grids.proofs.Facts.{among-lt}
 use Rattle.grids.proofs.Agreements.{grid-agrees}

@@ -1,13 +1,13 @@
 -- The facts of a book put into the grids one record after the other. Assumes nothing.
 use Prim.Native.Nat.{ℕ, _+_, _*_, _<_, _≤_}
-use mathlib.Core.Path.{_≡_, refl, sym, ap, subst, _∙_}
+use mathlib.Core.Path.{_≡_, ap, subst}
 use mathlib.Core.Bool.{Bool, true, false}
 use mathlib.Core.List.{List, [], _∷_, _++_, append-nil}
 use native.Mathlib.Omega.{arith}
-use lib.ListN.{length, take}
+use lib.ListN.{take}
 use Rattle.lists.specs.Tab.{tab}
 use lib.Seq.{take-all}
-use Rattle.rules.specs.Fact.{Fact, Within}
+use Rattle.rules.specs.Fact.{Within}
 use Rattle.rules.specs.Entries.{factsOf}
 use Rattle.records.specs.declared.Record.{Record}
 use Rattle.records.specs.Record.{recordAt, records}

@@ -7,7 +7,7 @@ use native.Mathlib.Numerals.{add-one}
 use native.Mathlib.Decide.{decLt}
 use native.Mathlib.Omega.{arith}
 use lib.ListN.{length, take, drop, getD, set, length-append, length-set}
-use lib.Seq.{sets, sets-eq, length-sets, take-suc, take-all, take-at, drop-at, length-take-le}
+use lib.Seq.{sets, sets-eq, take-suc, take-all, take-at, drop-at, length-take-le}
 use Rattle.pages.specs.Printed.{Printed}
 use Rattle.pages.specs.Put.{Put}
 

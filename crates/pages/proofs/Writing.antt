@@ -1,17 +1,15 @@
 -- What was put from the start of a page is written on it, and a page with room has it. Assumes nothing.
 use Prim.Native.Nat.{ℕ, _≤_, _<_}
 use mathlib.Core.Path.{_≡_, refl, _∙_, ap, subst}
-use mathlib.Core.Bool.{Bool, true, false}
 use mathlib.Core.List.{List}
 use native.Mathlib.Decide.{decLt}
 use native.Mathlib.Omega.{arith}
-use lib.Dec.{ltb}
 use lib.ListN.{length}
 use borrow.Author.Tests.{lt-ltb, le-ltb}
 use Rattle.io.specs.Counts.{Counts}
 use Rattle.pages.specs.Printed.{Printed}
 use Rattle.pages.specs.Put.{Put}
-use Rattle.pages.specs.Written.{writtenIf, writtenAt, Page}
+use Rattle.pages.specs.Written.{writtenAt, Page}
 use Rattle.pages.specs.declared.Written.{Written}
 use Rattle.pages.specs.declared.Written.the-variants.{Text, NoRoom}
 use Rattle.pages.proofs.Puts.{printed}

@@ -1,9 +1,8 @@
 -- The result of a chain that C gets, from what it comes to. Assumes nothing.
 use Prim.Native.Nat.{ℕ, _*_}
 use mathlib.Core.Path.{_≡_, refl, sym, ap, subst, _∙_}
-use mathlib.Core.Bool.{Bool, true, false}
 use mathlib.Core.List.{List}
-use lib.ListN.{length, take}
+use lib.ListN.{take}
 use Rattle.lists.specs.Front.{front}
 use Rattle.records.specs.Refusal.{refusalNumber}
 use Rattle.records.specs.declared.Refusal.{Refusal}

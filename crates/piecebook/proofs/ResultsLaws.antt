@@ -2,7 +2,6 @@
 use Prim.Native.Nat.{ℕ}
 use mathlib.Core.Path.{_≡_, refl, ap, subst, _∙_}
 use mathlib.Core.List.{List}
-use lib.ListN as on
 use Rattle.records.specs.Refusal.{refusalNumber}
 use Rattle.records.specs.declared.Refusal.{Refusal}
 use Rattle.outcomes.specs.Lent.{Lent}

@@ -1,8 +1,7 @@
 -- The bytes of an accepted part count what is derived, and what every model keeps. Assumes nothing.
 use Prim.Native.Nat.{ℕ, _+_, _-_, _<_}
-use mathlib.Core.Path.{_≡_, refl, sym, ap, subst, _∙_}
-use mathlib.Core.Logic.{_↔_}
-use mathlib.Core.Bool.{Bool, true, false}
+use mathlib.Core.Path.{_≡_, refl, ap, subst, _∙_}
+use mathlib.Core.Bool.{Bool}
 use mathlib.Core.List.{List, []}
 use native.Mathlib.Decide.{decLt}
 use native.Mathlib.Omega.{arith}
@@ -31,14 +30,13 @@ use Rattle.outcomes.specs.declared.Outcome.{Outcome}
 use Rattle.outcomes.specs.declared.Outcome.the-variants.{Accepted, Refused}
 use Rattle.outcomes.proofs.Outcomes.{Told, told}
 use Rattle.answers.proofs.Fresh.{fresh-is, roomy-long}
-use Rattle.replicates.specs.Before.{bytesFrom}
 use Rattle.replicates.specs.declared.Window.{Window}
 use Rattle.replicates.specs.Log.{entryCount, entryAt, entries, handed, sequence}
 use Rattle.replicates.specs.Call.{outcome, apartIn, bytesIn, left}
 use Rattle.replicates.specs.Writing.{Fits}
 use Rattle.replicates.specs.Apart.{ByDerivations, ByModels, Bytes, Certain, ApartCertain}
 use Rattle.replicates.proofs.Same.{bytes-same}
-use Rattle.replicates.proofs.Sequences.{entries-length, sequence-length}
+use Rattle.replicates.proofs.Sequences.{sequence-length}
 use Rattle.replicates.proofs.Joins.{sent-is}
 
 -- an accepted book passes its rows and is not contradictory

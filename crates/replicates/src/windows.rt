@@ -5,7 +5,6 @@ ghost use Prim.Native.Nat.{_+_, _-_, _<_, _≤_};
 ghost use Rattle.matrices.specs.Matrix.{bitOf};
 ghost use Rattle.replicates.specs.Before.{oldest};
 ghost use Rattle.replicates.specs.Looking.{Sequence, seeing, Looked, Reach};
-ghost use Rattle.records.specs.declared.BookCheck.the-variants as on;
 
 // How many entries before one are looked at.
 pub const WINDOW: usize = 31;

@@ -1,14 +1,12 @@
 -- What the words of the arguments come to, and their text. Assumes nothing.
 use Prim.Native.Nat.{ℕ, _≤_, _<_, _/_, _%_}
-use mathlib.Core.Path.{_≡_, refl, _∙_, ap, sym}
+use mathlib.Core.Path.{_≡_, _∙_, sym}
 use mathlib.Core.List.{List, [], _∷_}
-use native.Mathlib.Omega.{arith}
 use lib.ListN.{length}
 use borrow.Author.Tests.{lt-ltb, le-ltb}
 use Rattle.records.specs.declared.Record.{Record}
 use Rattle.text.specs.declared.Form.{Form}
 use Rattle.text.specs.declared.lines.Line.{Line}
-use Rattle.text.specs.declared.lines.Line.the-variants as line
 use Rattle.text.specs.Line.{lineOf}
 use Rattle.text.specs.Entry.{sixBytes}
 use Rattle.sentences.specs.Unread.{unreadLine}

@@ -1,7 +1,6 @@
 -- The text of a source that was read, and of one that cannot be. Assumes nothing.
 use Prim.Native.Nat.{ℕ, _≤_}
-use mathlib.Core.Path.{_≡_, refl, _∙_, ap, sym}
-use mathlib.Core.Bool.{true, false}
+use mathlib.Core.Path.{_≡_, _∙_, ap, sym}
 use mathlib.Core.List.{List}
 use native.Mathlib.Omega.{arith}
 use lib.ListN.{length, take, length-append}
@@ -17,9 +16,8 @@ use Rattle.text.specs.Text.{Reading, Entries, Broken, bytesMost}
 use Rattle.text.specs.Either.{readEither}
 use Rattle.text.specs.Lent.{answerOf, entriesOf, into, leaves}
 use Rattle.sentences.specs.Unread.{unreadLine}
-use Rattle.sentences.specs.declared.sources.Source.{Source}
 use Rattle.sentences.specs.declared.sources.Source.the-variants as source
-use Rattle.sentences.specs.Sources.{Breaks, Took, ifRead, ofSource}
+use Rattle.sentences.specs.Sources.{Breaks, Took, ofSource}
 
 -- ---- what a reading into enough lent bytes answers
 

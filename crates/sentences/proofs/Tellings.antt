@@ -1,6 +1,6 @@
 -- What is put on a page by the cases of a source that was read, or of words. Assumes nothing.
 use Prim.Native.Nat.{ℕ, _≤_}
-use mathlib.Core.Path.{_≡_, _∙_, sym, subst}
+use mathlib.Core.Path.{_≡_, subst}
 use mathlib.Core.List.{List}
 use native.Mathlib.Omega.{arith}
 use lib.ListN.{length, take}
@@ -11,7 +11,6 @@ use Rattle.text.specs.Either.{readEither}
 use Rattle.pages.specs.Put.{Put}
 use Rattle.pages.specs.Written.{writtenAt, Page}
 use Rattle.pages.specs.declared.Written.{Written}
-use Rattle.pages.proofs.Puts.{put-as}
 use Rattle.pages.proofs.Writing.{write-page}
 use Rattle.sentences.specs.Unread.{unreadLine}
 use Rattle.sentences.specs.Sources.{Breaks, Took, ofSource}

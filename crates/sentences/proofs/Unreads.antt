@@ -1,10 +1,10 @@
 -- The fields of the line of what cannot be read. Assumes nothing.
 use Prim.Native.Nat.{ℕ, _≤_, _<_}
 use mathlib.Core.Path.{_≡_, refl}
-use mathlib.Core.Bool.{Bool, true, false, _&&_, _||_}
-use mathlib.Core.List.{List, _++_}
+use mathlib.Core.Bool.{Bool, true, false, _&&_}
+use mathlib.Core.List.{_++_}
 use lib.Dec.{eqb}
-use borrow.Author.Tests.{eq-eqb, ne-eqb, lt-ltb, le-ltb}
+use borrow.Author.Tests.{ne-eqb, lt-ltb, le-ltb}
 use Rattle.pages.specs.Text.{ascii, field}
 use Rattle.pages.specs.Decimal.{decimal}
 use Rattle.sentences.specs.Unread.{prefix, worded, wording, reasonOf, unreadLine}

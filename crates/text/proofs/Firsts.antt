@@ -10,7 +10,7 @@ use borrow.Author.Tests.{ne-eqb, le-leb}
 use Rattle.lists.proofs.Parts.{first-kept}
 use Rattle.records.specs.declared.Record.{Record}
 use Rattle.records.specs.Record.{recordAt, records}
-use Rattle.pages.specs.Text.{field, line}
+use Rattle.pages.specs.Text.{field}
 use Rattle.pages.specs.Lines.{lines}
 use Rattle.text.specs.Text.{markLength}
 use Rattle.text.specs.Either.{isText}

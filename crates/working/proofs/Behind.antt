@@ -23,7 +23,7 @@ use Rattle.outcomes.specs.One.{refuseIf}
 use Rattle.answers.proofs.Fresh.{fresh-sound}
 use Rattle.working.specs.declared.keeping.Working.{Working}
 use Rattle.working.specs.Rows.{byArea, startOutcome, addOutcome, withdrawOutcome}
-use Rattle.working.specs.Kept.{keptState, keptArea, image, noRecords, Determined}
+use Rattle.working.specs.Kept.{keptArea, image}
 use Rattle.working.specs.Standing.{extended, without}
 use Rattle.working.specs.Behind.{RunFits, Untouched, NeverBehind}
 use Rattle.working.proofs.Sequences.{clash}

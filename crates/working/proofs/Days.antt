@@ -2,9 +2,9 @@
 -- on the records then standing. Assumes nothing.
 use mathlib.Core.Path.{_≡_, refl, sym, ap, ap₂, _∙_}
 use mathlib.Core.List.{List, [], _∷_}
-use Prim.Native.Nat.{ℕ, _≤_}
+use Prim.Native.Nat.{ℕ}
 use native.Mathlib.Omega.{arith}
-use lib.ListN.{length, replicate, length-replicate}
+use lib.ListN.{replicate, length-replicate}
 use Rattle.records.specs.Check.{bookCheck, claimsCheck}
 use Rattle.records.specs.Refusal.{scan}
 use Rattle.outcomes.specs.Lent.{lent}
@@ -14,10 +14,9 @@ use Rattle.outcomes.specs.declared.Outcome.the-variants.{Accepted}
 use Rattle.working.specs.declared.keeping.Working.{Working}
 use Rattle.working.specs.declared.keeping.Asked.{Asked}
 use Rattle.outcomes.specs.Fresh.{freshCall}
-use Rattle.working.specs.Standing.{standing}
 use Rattle.outcomes.specs.One.{byOne}
 use Rattle.working.specs.Rows.{answerOf}
-use Rattle.working.specs.Kept.{Started, Answered}
+use Rattle.working.specs.Kept.{Answered}
 use Rattle.working.specs.Sequence.{Stands}
 use Rattle.working.specs.Day.{Operation, Reply, reply, after, replyTo, day, replies, Played, over, adds, withdraws, asks}
 use Rattle.working.specs.WholeDay.{WholeDay}

@@ -1,14 +1,12 @@
 -- An addition gets number 4 only with 8,192 or more records standing. Assumes nothing.
-use mathlib.Core.Path.{_≡_, refl, sym, ap, subst, _∙_}
+use mathlib.Core.Path.{_≡_, refl, subst}
 use mathlib.Core.Bool.{Bool, true, false, not}
-use mathlib.Core.List.{List, [], _∷_, _++_}
-use Prim.Native.Nat.{ℕ, zero, suc, _+_, _*_, _-_, _/_, _≤_, _<_}
-use native.Mathlib.Decide.{decLt}
+use mathlib.Core.List.{List, []}
+use Prim.Native.Nat.{ℕ, zero, suc, _*_, _-_, _≤_, _<_}
 use native.Mathlib.Omega.{arith}
 use borrow.Author.Tests.{ltb-true, eqb-true, not-false}
 use lib.Dec.{ltb, leb, eqb}
 use lib.ListN.{length, take, length-append, length-take}
-use Rattle.lists.proofs.Bools.{Known, is-true, is-false, known}
 use Rattle.rules.specs.Entries.{shortestClash}
 use Rattle.records.specs.Marked.{marked}
 use Rattle.records.specs.Record.{recordAt, records}

@@ -1,7 +1,7 @@
 -- The fresh call on a run that is extended or shortened, and the answer byte that the call leaves. Assumes nothing.
 use mathlib.Core.Path.{_≡_, refl, ap, _∙_}
 use mathlib.Core.Bool.{Bool, true, false}
-use mathlib.Core.List.{List, [], _∷_, _++_}
+use mathlib.Core.List.{List, [], _∷_}
 use Prim.Native.Nat.{ℕ, _+_, _*_, _-_, _/_, _≤_, _<_}
 use native.Mathlib.Omega.{arith}
 use lib.Dec.{eqb}
@@ -10,9 +10,8 @@ use lib.Seq.{length-take-le}
 use Rattle.lists.proofs.Tabs.{tab-length}
 use Rattle.records.specs.Record.{records}
 use Rattle.records.specs.Refusal.{refusalNumber}
-use Rattle.records.specs.Check.{checkBy, bookCheck}
+use Rattle.records.specs.Check.{checkBy}
 use Rattle.records.specs.declared.Refusal.the-variants.{TooManyRecords}
-use Rattle.records.specs.declared.BookCheck.the-variants as book
 use Rattle.outcomes.specs.Lent.{Lent}
 use Rattle.lists.specs.Front.{front}
 use Rattle.records.specs.Claimed.{answersTo}

@@ -1,18 +1,18 @@
 -- After any sequence of calls the answers and the counts kept are those of a fresh call on the records then standing: one call at a time. Assumes nothing.
 use mathlib.Core.Path.{_≡_, refl, sym, ap, subst, _∙_}
-use mathlib.Core.Bool.{Bool, true, false, not}
-use mathlib.Core.List.{List, [], _∷_, _++_}
+use mathlib.Core.Bool.{not}
+use mathlib.Core.List.{List, [], _++_}
 use Prim.Native.Nat.{ℕ, _+_, _*_, _-_, _/_, _≤_, _<_}
 use native.Mathlib.Decide.{decLt}
 use native.Mathlib.Omega.{arith}
-use borrow.Author.Tests.{eqb-true, leb-false, ltb-true}
+use borrow.Author.Tests.{eqb-true, leb-false}
 use lib.Dec.{eqb, leb}
-use lib.ListN.{length, take, drop, replicate, length-append, length-drop, length-replicate}
+use lib.ListN.{length, take, drop, length-append, length-drop}
 use lib.Seq.{length-take-le, take-append-le}
 use Rattle.lists.proofs.Bools.{Known, is-true, is-false, known}
 use Rattle.records.specs.Record.{records}
 use Rattle.records.specs.declared.Refusal.{Refusal}
-use Rattle.records.specs.declared.Refusal.the-variants.{BookLength, TooManyRecords, NotStanding}
+use Rattle.records.specs.declared.Refusal.the-variants.{BookLength, NotStanding}
 use Rattle.parentheses.specs.Padded.{padded}
 use Rattle.parentheses.proofs.Paddeds.{padded-length}
 use Rattle.lists.specs.Front.{front}

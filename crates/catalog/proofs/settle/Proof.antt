@@ -1,5 +1,4 @@
 -- `catalog::settle` meets its contract. Assumes nothing.
-use mathlib.Core.Path.{_∙_}
 use Rattle.records.proofs.Accepted.{accepted}
 use Rattle.closure.proofs.VoidRows.{accepted-markable}
 use Rattle.catalog.proofs.settle.Statement.{statement}

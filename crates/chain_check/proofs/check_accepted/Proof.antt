@@ -1,5 +1,5 @@
 -- `chain_check::check_accepted` meets its contract. Assumes nothing.
-use mathlib.Core.Path.{sym, ap, subst, _∙_}
+use mathlib.Core.Path.{sym, ap, _∙_}
 use Rattle.records.specs.Pieces.{stated}
 use Rattle.records.proofs.Accepted.{accepted, accepted-pieces, accepted-claims}
 use Rattle.closure.proofs.VoidRows.{accepted-markable}

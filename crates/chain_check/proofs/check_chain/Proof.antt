@@ -2,7 +2,6 @@
 use mathlib.Core.Path.{sym, _∙_}
 use Rattle.answers.proofs.Fresh.{fresh-sound}
 use Rattle.chain_check.proofs.Asking.{fresh-runs, passes-misfit, passes-refused}
-use native.Mathlib.Omega.{arith}
 use borrow.Author.Needs.{needs}
 use Rattle.chain_check.proofs.check_chain.Statement.{statement}
 use Rattle.chain_check.proofs.check_chain.Tie as tie

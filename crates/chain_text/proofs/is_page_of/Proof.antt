@@ -1,5 +1,4 @@
 -- `chain_text::is_page_of` meets its contract. Assumes nothing.
-use native.Mathlib.Omega.{arith}
 use borrow.Author.Needs.{needs}
 use mathlib.Core.Path.{_∙_, sym}
 use Rattle.chain_text.proofs.Plains.{ready}

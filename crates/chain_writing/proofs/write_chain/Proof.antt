@@ -1,9 +1,5 @@
 -- `chain_writing::write_chain` meets its contract. Assumes nothing.
-use mathlib.Core.Path.{sym, ap, subst, _∙_}
-use Rattle.records.specs.declared.Record.{Record}
-use Rattle.records.specs.Pieces.{stated}
-use Rattle.records.proofs.Accepted.{accepted-claims}
-use Rattle.chain_writing.specs.Call.{Judged}
+use mathlib.Core.Path.{sym, _∙_}
 use Rattle.chain_writing.proofs.Replies.{claim-ok, call-short, call-book, call-misfit, call-claim, call-judged}
 use native.Mathlib.Omega.{arith}
 use borrow.Author.Needs.{needs}

@@ -1,6 +1,4 @@
 -- `chain_writing::write_found` meets its contract. Assumes nothing.
-use mathlib.Core.Path.{sym, _∙_}
-use Rattle.records.proofs.Accepted.{says-left, says-right}
 use Rattle.chain_writing.proofs.Replies.{kind-of, claim-ends, says-follows, says-denied, says-open}
 use native.Mathlib.Omega.{arith}
 use borrow.Author.Needs.{needs}

@@ -1,5 +1,4 @@
 -- `change_pages::refuse` meets its contract. Assumes nothing.
-use native.Mathlib.Omega.{arith}
 use borrow.Author.Needs.{needs}
 use Rattle.sentences.proofs.Tellings.{put-page}
 use Rattle.change_pages.proofs.Mades.{made-kept}

@@ -1,5 +1,4 @@
 -- `change_pages::write_packed` meets its contract. Assumes nothing.
-use native.Mathlib.Omega.{arith}
 use borrow.Author.Needs.{needs}
 use Rattle.sentences.proofs.Tellings.{took-bytes, took-unread}
 use Rattle.change_pages.proofs.Mades.{made-as, made-none}

@@ -1,6 +1,4 @@
 -- `pages::finish` meets its contract. Assumes nothing.
-use borrow.Author.Needs.{needs}
-use native.Mathlib.Omega.{arith}
 use Rattle.pages.proofs.Writing.{full, roomy}
 use mathlib.Core.Path.{sym}
 use Rattle.pages.proofs.finish.Statement.{statement}

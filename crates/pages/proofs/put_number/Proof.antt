@@ -1,5 +1,4 @@
 -- `pages::put_number` meets its contract: the digits are those of `io::decimal`, which `decimal` defines. Assumes nothing.
-use native.Mathlib.Omega.{arith}
 use borrow.Author.Needs.{needs}
 use mathlib.Core.Path.{sym}
 use Rattle.pages.proofs.Decimals.{spelled-out}

@@ -10,7 +10,6 @@ use Rattle.contradiction.proofs.SettlingLaws.{settleable}
 use Rattle.replicates.specs.Log.{entryCount, sequence, windowOf}
 use Rattle.replicates.proofs.Sequences.{filled}
 use Rattle.replicates.proofs.Calls.{asks, writes}
-use borrow.Author.Needs.{needs}
 use Rattle.replicates.proofs.write_part.Statement.{statement}
 use Rattle.replicates.proofs.write_part.Tie as tie
 

@@ -1,5 +1,4 @@
 -- `report::answer` meets its contract: the buffers are those of document 01. Assumes nothing.
-use native.Mathlib.Omega.{arith}
 use borrow.Author.Needs.{needs}
 use Prim.Native.Nat.{ℕ}
 use mathlib.Core.Path.{sym}

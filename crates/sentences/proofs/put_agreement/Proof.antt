@@ -1,5 +1,4 @@
 -- `sentences::put_agreement` meets its contract. Assumes nothing.
-use native.Mathlib.Omega.{arith}
 use borrow.Author.Needs.{needs}
 use Rattle.sentences.specs.Words.{agreementName}
 use Rattle.sentences.proofs.put_agreement.Statement.{statement}

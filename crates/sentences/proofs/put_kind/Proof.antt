@@ -1,5 +1,4 @@
 -- `sentences::put_kind` meets its contract: the code's table is the definition's. Assumes nothing.
-use native.Mathlib.Omega.{arith}
 use borrow.Author.Needs.{needs}
 use Rattle.sentences.specs.Words.{kindName}
 use Rattle.sentences.proofs.put_kind.Statement.{statement}

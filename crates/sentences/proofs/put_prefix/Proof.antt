@@ -1,5 +1,4 @@
 -- `sentences::put_prefix` meets its contract. Assumes nothing.
-use native.Mathlib.Omega.{arith}
 use borrow.Author.Needs.{needs}
 use Rattle.sentences.specs.Unread.{prefix}
 use Rattle.sentences.proofs.put_prefix.Statement.{statement}

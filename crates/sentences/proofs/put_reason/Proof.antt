@@ -1,5 +1,4 @@
 -- `sentences::put_reason` meets its contract. Assumes nothing.
-use native.Mathlib.Omega.{arith}
 use borrow.Author.Needs.{needs}
 use Rattle.sentences.specs.Unread.{reasonOf, reasons}
 use Rattle.pages.specs.Text.{field}

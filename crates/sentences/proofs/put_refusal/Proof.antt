@@ -1,5 +1,4 @@
 -- `sentences::put_refusal` meets its contract: four or six texts, one behind the other. Assumes nothing.
-use native.Mathlib.Omega.{arith}
 use borrow.Author.Needs.{needs}
 use Rattle.pages.proofs.Puts.{chain, put-as}
 use Rattle.sentences.proofs.Refusals.{plain, located}

@@ -1,5 +1,4 @@
 -- `sentences::put_sentence` meets its contract: the code's table is the definition's. Assumes nothing.
-use native.Mathlib.Omega.{arith}
 use borrow.Author.Needs.{needs}
 use Rattle.sentences.specs.Refusals.{sentence}
 use Rattle.sentences.proofs.put_sentence.Statement.{statement}

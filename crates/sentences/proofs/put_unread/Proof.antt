@@ -1,5 +1,4 @@
 -- `sentences::put_unread` meets its contract. Assumes nothing.
-use native.Mathlib.Omega.{arith}
 use borrow.Author.Needs.{needs}
 use Rattle.pages.proofs.Puts.{chain, put-as}
 use Rattle.sentences.proofs.Unreads.{of-words, of-text}

@@ -3,7 +3,6 @@ use native.Mathlib.Omega.{arith}
 use borrow.Author.Needs.{needs}
 use Rattle.sentences.proofs.Refusals.{of-book, of-no-other, beyond}
 use mathlib.Core.Path.{_∙_}
-use mathlib.Core.List.{[]}
 use Rattle.sentences.proofs.record_line.Statement.{statement}
 use Rattle.sentences.proofs.record_line.Tie as tie
 

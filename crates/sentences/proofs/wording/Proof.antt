@@ -1,5 +1,4 @@
 -- `sentences::wording` meets its contract. Assumes nothing.
-use borrow.Author.Needs.{needs}
 use native.Mathlib.Omega.{arith}
 use Rattle.sentences.proofs.Unreads.{other-reason, of-origins, of-claims, of-claim-words}
 use Rattle.sentences.proofs.wording.Statement.{statement}

@@ -1,5 +1,4 @@
 -- `sentences::write_unread` meets its contract. Assumes nothing.
-use native.Mathlib.Omega.{arith}
 use borrow.Author.Needs.{needs}
 use Rattle.sentences.proofs.Tellings.{put-page}
 use Rattle.sentences.proofs.write_unread.Statement.{statement}

@@ -5,9 +5,6 @@ use Rattle.working.proofs.Cleared.{on-cleared}
 use borrow.Author.Needs.{needs}
 use Rattle.working.proofs.answer_run.Statement.{statement}
 use Rattle.working.proofs.answer_run.Tie as tie
-use Rattle.working.proofs.answer_run.Reads as reads
-use Rattle.working.proofs.answer_run.Lts as lts
-use Rattle.answers.proofs.answer_claims.Reads as answer-claims-reads
 
 -- src/lib.rt:85:9
 slice-aggregate-answer-claims : tie.Need-slice-aggregate-answer-claims

@@ -1,5 +1,4 @@
 -- `beside_pages::put_pair` meets its contract. Assumes nothing.
-use native.Mathlib.Omega.{arith}
 use borrow.Author.Needs.{needs}
 use Rattle.pages.proofs.Puts.{chain}
 use Rattle.beside_pages.specs.ComparisonText.{pairLine}

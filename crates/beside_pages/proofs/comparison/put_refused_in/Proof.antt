@@ -1,5 +1,4 @@
 -- `beside_pages::put_refused_in` meets its contract. Assumes nothing.
-use native.Mathlib.Omega.{arith}
 use borrow.Author.Needs.{needs}
 use Rattle.pages.proofs.Puts.{chain, put-as}
 use Rattle.beside_pages.proofs.ComparisonTexts.{in-second, in-first, second-short, first-short}

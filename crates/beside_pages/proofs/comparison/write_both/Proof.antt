@@ -1,5 +1,4 @@
 -- `beside_pages::write_both` meets its contract. Assumes nothing.
-use native.Mathlib.Omega.{arith}
 use borrow.Author.Needs.{needs}
 use Rattle.sentences.proofs.Tellings.{put-page}
 use Rattle.beside_pages.proofs.comparison.write_both.Statement.{statement}

@@ -1,5 +1,4 @@
 -- `grid::digit` meets its contract. Assumes nothing.
-use native.Mathlib.Omega.{arith}
 use borrow.Author.Needs.{needs}
 use Rattle.book_pages.proofs.GridTexts.{of-tens, of-ones}
 use Rattle.book_pages.proofs.grid.digit.Statement.{statement}

@@ -1,5 +1,4 @@
 -- `grid::has` meets its contract. Assumes nothing.
-use native.Mathlib.Omega.{arith}
 use borrow.Author.Needs.{needs}
 use Rattle.matrices.proofs.Laws.{and-one}
 use Rattle.grids.specs.Grid.{bitAt}

@@ -1,5 +1,4 @@
 -- `grid::ones` meets its contract. Assumes nothing.
-use native.Mathlib.Omega.{arith}
 use borrow.Author.Needs.{needs}
 use Rattle.book_pages.specs.GridText as text
 use mathlib.Core.Path.{refl}

@@ -1,5 +1,4 @@
 -- `grid::put_grid` meets its contract, by what the grid call comes to. Assumes nothing.
-use native.Mathlib.Omega.{arith}
 use borrow.Author.Needs.{needs}
 use Rattle.pages.proofs.Puts.{put-as}
 use Rattle.book_pages.proofs.GridTexts.{refused, refused-short, small, accepted, accepted-short}

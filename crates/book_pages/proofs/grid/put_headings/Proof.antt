@@ -1,5 +1,4 @@
 -- `grid::put_headings` meets its contract. Assumes nothing.
-use native.Mathlib.Omega.{arith}
 use borrow.Author.Needs.{needs}
 use Rattle.pages.proofs.Puts.{chain, put-as}
 use Rattle.book_pages.proofs.GridTexts.{one-heading, two-headings}

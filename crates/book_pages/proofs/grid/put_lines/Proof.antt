@@ -1,5 +1,4 @@
 -- `grid::put_lines` meets its contract: four texts, one behind the other. Assumes nothing.
-use native.Mathlib.Omega.{arith}
 use borrow.Author.Needs.{needs}
 use Rattle.pages.proofs.Puts.{chain}
 use Rattle.book_pages.specs.GridText.{gridLines}

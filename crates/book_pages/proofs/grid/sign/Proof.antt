@@ -1,5 +1,4 @@
 -- `grid::sign` meets its contract. Assumes nothing.
-use native.Mathlib.Omega.{arith}
 use borrow.Author.Needs.{needs}
 use mathlib.Core.Path.{_∙_, sym}
 use Rattle.book_pages.specs.Sign.{four}

@@ -1,7 +1,5 @@
 -- `grid::tens` meets its contract. Assumes nothing.
-use native.Mathlib.Omega.{arith}
 use borrow.Author.Needs.{needs}
-use Rattle.book_pages.specs.GridText as text
 use Rattle.book_pages.proofs.GridTexts.{no-tens, some-tens}
 use Rattle.book_pages.proofs.grid.tens.Statement.{statement}
 use Rattle.book_pages.proofs.grid.tens.Tie as tie

@@ -1,5 +1,4 @@
 -- `listing::put_list` meets its contract: a line, then the numbers. Assumes nothing.
-use native.Mathlib.Omega.{arith}
 use borrow.Author.Needs.{needs}
 use Rattle.pages.proofs.Puts.{chain}
 use Rattle.book_pages.specs.ListText.{listLines}

@@ -4,7 +4,6 @@ use borrow.Author.Needs.{needs}
 use mathlib.Core.Path.{sym}
 use lib.Seq.{length-take-le}
 use Rattle.sentences.proofs.Tellings.{took-bytes, took-unread, page-read, page-unread}
-use denote.Ref.{now}
 use Rattle.book_pages.proofs.listing.write_pieces.Statement.{statement}
 use Rattle.book_pages.proofs.listing.write_pieces.Tie as tie
 

@@ -2,9 +2,8 @@
 use native.Mathlib.Omega.{arith}
 use borrow.Author.Needs.{needs}
 use Prim.Native.Nat.{ℕ}
-use mathlib.Core.Path.{sym, refl, _∙_}
+use mathlib.Core.Path.{sym, _∙_}
 use lib.ListN.{length-replicate}
-use denote.Ref.{now}
 use Rattle.pages.proofs.Puts.{chain, put-as}
 use Rattle.book_pages.proofs.AskTexts.{refused, refused-short, accepted, accepted-short}
 use Rattle.book_pages.proofs.session.put_session.Statement.{statement}

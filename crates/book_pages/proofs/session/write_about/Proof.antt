@@ -4,7 +4,6 @@ use native.Mathlib.Omega.{arith}
 use mathlib.Core.Path.{sym}
 use lib.Seq.{length-take-le}
 use Rattle.sentences.proofs.Tellings.{took-bytes, took-unread, page-read, page-unread}
-use denote.Ref.{now}
 use Rattle.book_pages.proofs.session.write_about.Statement.{statement}
 use Rattle.book_pages.proofs.session.write_about.Tie as tie
 

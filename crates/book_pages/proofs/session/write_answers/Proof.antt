@@ -5,7 +5,6 @@ use mathlib.Core.Path.{sym, _∙_}
 use lib.Seq.{length-take-le}
 use lib.ListN.{length-replicate}
 use Prim.Native.Nat.{ℕ}
-use denote.Ref.{now}
 use Rattle.sentences.proofs.Tellings.{took-bytes, took-unread, page-read, page-unread}
 use Rattle.book_pages.proofs.AskTexts.{claims-fit, room}
 use Rattle.book_pages.proofs.session.write_answers.Statement.{statement}

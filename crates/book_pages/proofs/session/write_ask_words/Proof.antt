@@ -1,7 +1,6 @@
 -- `book_pages::write_ask_words` meets its contract. Assumes nothing.
 use borrow.Author.Needs.{needs}
 use native.Mathlib.Omega.{arith}
-use denote.Ref.{now}
 use Rattle.sentences.proofs.Tellings.{page-entry, page-wrong}
 use Rattle.book_pages.specs.AskText.{askWordsText}
 use Rattle.book_pages.proofs.session.write_ask_words.Statement.{statement}

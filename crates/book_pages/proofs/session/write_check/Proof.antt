@@ -1,6 +1,5 @@
 -- `book_pages::write_check` meets its contract. Assumes nothing.
 use borrow.Author.Needs.{needs}
-use native.Mathlib.Omega.{arith}
 use Rattle.book_pages.specs.AskText.{checkText}
 use Rattle.book_pages.proofs.session.write_check.Statement.{statement}
 use Rattle.book_pages.proofs.session.write_check.Tie as tie

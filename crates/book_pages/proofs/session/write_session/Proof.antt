@@ -1,6 +1,5 @@
 -- `book_pages::write_session` meets its contract. Assumes nothing.
 use borrow.Author.Needs.{needs}
-use native.Mathlib.Omega.{arith}
 use Rattle.sentences.proofs.Tellings.{put-page}
 use Rattle.book_pages.proofs.session.write_session.Statement.{statement}
 use Rattle.book_pages.proofs.session.write_session.Tie as tie

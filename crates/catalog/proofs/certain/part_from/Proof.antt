@@ -4,7 +4,6 @@ use mathlib.Core.Path.{subst, _≡_, refl}
 use native.Mathlib.Omega.{arith}
 use borrow.Author.Needs.{needs}
 use lib.ListN.{length}
-use Rattle.closure.proofs.Runs.{record-within}
 use Rattle.catalog.specs.Tells.{Parted}
 use Rattle.catalog.proofs.Telling.{parted-none, parted-more, apart-within}
 use Rattle.catalog.proofs.certain.part_from.Statement.{statement}

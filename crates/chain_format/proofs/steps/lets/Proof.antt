@@ -1,7 +1,5 @@
 -- `steps::lets` meets its contract. Assumes nothing.
 use borrow.Author.Tests.{eq-eqb, ne-eqb}
-use native.Mathlib.Omega.{arith}
-use borrow.Author.Needs.{needs}
 use Rattle.chain_format.proofs.steps.lets.Statement.{statement}
 use Rattle.chain_format.proofs.steps.lets.Tie as tie
 

@@ -1,5 +1,4 @@
 -- `contradicted::clash_book` meets its contract, by the outcome. Assumes nothing.
-use native.Mathlib.Omega.{arith}
 use borrow.Author.Needs.{needs}
 use Rattle.chain_pages.proofs.Clashes.{counted, refused-with}
 use Rattle.chain_pages.proofs.contradicted.clash_book.Statement.{statement}

@@ -1,5 +1,4 @@
 -- `contradicted::write_contradiction` meets its contract, by the source. Assumes nothing.
-use native.Mathlib.Omega.{arith}
 use borrow.Author.Needs.{needs}
 use mathlib.Core.Path.{sym}
 use lib.Seq.{length-take-le}

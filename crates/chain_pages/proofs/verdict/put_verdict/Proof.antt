@@ -1,5 +1,4 @@
 -- `verdict::put_verdict` meets its contract. Assumes nothing.
-use native.Mathlib.Omega.{arith}
 use borrow.Author.Needs.{needs}
 use mathlib.Core.Path.{ap, sym}
 use Rattle.pages.proofs.Puts.{put-as}

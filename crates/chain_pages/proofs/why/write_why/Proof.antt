@@ -1,5 +1,4 @@
 -- `why::write_why` meets its contract, by the words. Assumes nothing.
-use native.Mathlib.Omega.{arith}
 use borrow.Author.Needs.{needs}
 use Rattle.chain_pages.proofs.Asking.{words-wrong, words-said}
 use Rattle.chain_pages.proofs.why.write_why.Statement.{statement}

@@ -1,5 +1,4 @@
 -- `comparing::is_text` meets its contract: the text ends where the page does. Assumes nothing.
-use native.Mathlib.Omega.{arith}
 use borrow.Author.Needs.{needs}
 use Rattle.chain_text.specs.ChainText.{chainText}
 use Rattle.chain_text.proofs.Passes.{passed-more, whole-page}

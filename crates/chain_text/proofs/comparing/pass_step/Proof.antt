@@ -1,5 +1,4 @@
 -- `comparing::pass_step` meets its contract: the line is put on a page of its own. Assumes nothing.
-use native.Mathlib.Omega.{arith}
 use borrow.Author.Needs.{needs}
 use mathlib.Core.Path.{sym}
 use lib.Seq.{length-take-le}

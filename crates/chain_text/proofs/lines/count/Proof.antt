@@ -1,5 +1,4 @@
 -- `lines::count` meets its contract: the code's list is the definition's, and there is nothing behind it. Assumes nothing.
-use native.Mathlib.Omega.{arith}
 use borrow.Author.Needs.{needs}
 use mathlib.Core.Path.{refl, sym}
 use lib.ListN.{List·getD-eq-default}

@@ -1,5 +1,4 @@
 -- `lines::put_answered` meets its contract: four or five texts, one behind the other. Assumes nothing.
-use native.Mathlib.Omega.{arith}
 use borrow.Author.Needs.{needs}
 use Rattle.pages.proofs.Puts.{chain, put-as}
 use Rattle.chain_text.proofs.Answers.{from-all, from-sheets}

@@ -1,5 +1,4 @@
 -- `lines::put_chain` meets its contract: one text behind the other. Assumes nothing.
-use native.Mathlib.Omega.{arith}
 use borrow.Author.Needs.{needs}
 use mathlib.Core.Path.{ap}
 use Rattle.pages.proofs.Puts.{chain, put-as}

@@ -1,5 +1,4 @@
 -- `lines::put_ground` meets its contract, by how many numbers the step names. Assumes nothing.
-use native.Mathlib.Omega.{arith}
 use borrow.Author.Needs.{needs}
 use Rattle.pages.proofs.Puts.{chain, put-as}
 use Rattle.chain_text.proofs.Rests.{no-number, one-number, two-numbers}

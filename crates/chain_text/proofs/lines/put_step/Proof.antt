@@ -1,5 +1,4 @@
 -- `lines::put_step` meets its contract: five fields, one behind the other. Assumes nothing.
-use native.Mathlib.Omega.{arith}
 use borrow.Author.Needs.{needs}
 use Rattle.pages.proofs.Puts.{chain}
 use Rattle.chain_text.specs.StepLine.{ground, stepLine}

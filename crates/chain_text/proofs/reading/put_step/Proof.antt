@@ -1,5 +1,4 @@
 -- `reading::put_step` meets its contract. Assumes nothing.
-use native.Mathlib.Omega.{arith}
 use borrow.Author.Needs.{needs}
 use Rattle.chain_text.specs.Read.{stepBytes}
 use Rattle.chain_text.proofs.reading.put_step.Statement.{statement}

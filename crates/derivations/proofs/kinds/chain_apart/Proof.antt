@@ -1,5 +1,5 @@
 -- `derivations::kinds::chain_apart` meets its contract. Assumes nothing.
-use mathlib.Core.Path.{refl, sym, _∙_}
+use mathlib.Core.Path.{refl, _∙_}
 use mathlib.Core.Logic.{inl, inr}
 use Rattle.derivations.proofs.Grounds.{small, citable, setting, all-within, void-read, apart-none}
 use Rattle.derivations.proofs.Chaining.{chained-none, apart-marked, apart-routed, apart-chained}

@@ -1,7 +1,5 @@
 -- `derivations::kinds::chain_for` meets its contract. Assumes nothing.
-use mathlib.Core.Path.{sym}
 use Rattle.derivations.proofs.Chaining.{of-part, of-apart, of-meets, of-notpart}
-use native.Mathlib.Omega.{arith}
 use borrow.Author.Needs.{needs}
 use Rattle.derivations.proofs.kinds.chain_for.Statement.{statement}
 use Rattle.derivations.proofs.kinds.chain_for.Tie as tie

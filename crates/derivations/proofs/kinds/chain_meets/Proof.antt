@@ -1,5 +1,4 @@
 -- `derivations::kinds::chain_meets` meets its contract. Assumes nothing.
-use mathlib.Core.Path.{sym, _∙_}
 use borrow.Author.Tests.{not-true, not-false}
 use Rattle.derivations.proofs.Grounds.{setting, telling}
 use Rattle.derivations.proofs.Chaining.{chained-none, meets-chained}

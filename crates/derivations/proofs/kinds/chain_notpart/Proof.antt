@@ -1,5 +1,4 @@
 -- `derivations::kinds::chain_notpart` meets its contract. Assumes nothing.
-use mathlib.Core.Path.{sym, ap, _∙_}
 use Rattle.derivations.proofs.Grounds.{small, citable, setting, all-within, marks-out, marks-silent, notpart-none}
 use Rattle.derivations.proofs.Chaining.{chained-none, notpart-routed, notpart-chained}
 use native.Mathlib.Omega.{arith}

@@ -4,7 +4,6 @@ use mathlib.Core.Bool.{false≢true}
 use borrow.Author.Tests.{not-true, not-false}
 use Rattle.derivations.proofs.Grounds.{citable, setting, telling}
 use Rattle.derivations.proofs.Chaining.{outside-parts, outside-chained}
-use native.Mathlib.Omega.{arith}
 use borrow.Author.Needs.{needs}
 use Rattle.derivations.proofs.kinds.chain_outside.Statement.{statement}
 use Rattle.derivations.proofs.kinds.chain_outside.Tie as tie

@@ -1,5 +1,4 @@
 -- `derivations::kinds::chain_outside_void` meets its contract. Assumes nothing.
-use mathlib.Core.Path.{sym, _∙_}
 use Rattle.derivations.proofs.Grounds.{small, found-mark}
 use Rattle.derivations.proofs.Chaining.{outside-marked}
 use native.Mathlib.Omega.{arith}

@@ -1,7 +1,6 @@
 -- `derivations::search::both` meets its contract. Assumes nothing.
 use mathlib.Core.Path.{sym, _∙_}
 use borrow.Author.Tests.{not-true, not-false}
-use native.Mathlib.Omega.{arith}
 use borrow.Author.Needs.{needs}
 use Rattle.derivations.proofs.search.both.Statement.{statement}
 use Rattle.derivations.proofs.search.both.Tie as tie

@@ -1,7 +1,7 @@
 -- `derivations::search::find_common` meets its contract. Assumes nothing.
-use Prim.Native.Nat.{ℕ, _≤_, _-_}
-use mathlib.Core.Path.{_≡_, sym, ap, _∙_}
-use mathlib.Core.Bool.{Bool, true, false, not, _&&_}
+use Prim.Native.Nat.{_≤_, _-_}
+use mathlib.Core.Path.{_∙_}
+use mathlib.Core.Bool.{not, _&&_}
 use Rattle.matrices.specs.Matrix.{bitOf}
 use Rattle.closure.specs.Void.{voidOf}
 use Rattle.derivations.proofs.Searching.{Passed, passed-none, passed-more, found-hit, found-none, common-void, common-both}

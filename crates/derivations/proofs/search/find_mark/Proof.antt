@@ -1,8 +1,7 @@
 -- `derivations::search::find_mark` meets its contract. Assumes nothing.
-use Prim.Native.Nat.{ℕ, _≤_, _-_}
-use mathlib.Core.Path.{_≡_, sym, ap, _∙_}
+use Prim.Native.Nat.{_≤_, _-_}
+use mathlib.Core.Path.{sym, ap, _∙_}
 use Rattle.lists.proofs.Bools.{not-true}
-use Rattle.records.specs.declared.Record.{Record}
 use Rattle.records.specs.Record.{recordAt}
 use Rattle.records.specs.Marked.{marks}
 use Rattle.records.proofs.Marks.{marks-from, marks-here, marks-not}

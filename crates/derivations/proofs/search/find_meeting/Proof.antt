@@ -4,7 +4,6 @@ use Rattle.derivations.proofs.Grounds.{small, citable, all-within}
 use Rattle.derivations.proofs.Chaining.{met-common, met-stored, met-none}
 use Rattle.derivations.specs.Found.{Met}
 use native.Mathlib.Omega.{arith}
-use borrow.Author.Needs.{needs}
 use Rattle.derivations.proofs.search.find_meeting.Statement.{statement}
 use Rattle.derivations.proofs.search.find_meeting.Tie as tie
 

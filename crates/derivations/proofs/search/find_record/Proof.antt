@@ -1,6 +1,6 @@
 -- `derivations::search::find_record` meets its contract. Assumes nothing.
-use Prim.Native.Nat.{ℕ, _≤_, _-_}
-use mathlib.Core.Path.{_≡_, sym, ap, _∙_}
+use Prim.Native.Nat.{_≤_, _-_}
+use mathlib.Core.Path.{sym, ap, _∙_}
 use Rattle.records.specs.Record.{recordAt}
 use Rattle.derivations.specs.Aim.{serving}
 use Rattle.derivations.proofs.Serving.{record-small}

@@ -1,6 +1,6 @@
 -- `derivations::search::find_single` meets its contract. Assumes nothing.
 use Prim.Native.Nat.{_≤_, _-_}
-use mathlib.Core.Path.{_≡_, sym, _∙_}
+use mathlib.Core.Path.{sym, _∙_}
 use Rattle.derivations.proofs.Singles.{single-top, single-cited, single-none}
 use native.Mathlib.Omega.{arith}
 use borrow.Author.Needs.{needs}

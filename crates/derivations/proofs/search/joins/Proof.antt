@@ -2,7 +2,6 @@
 use mathlib.Core.Path.{sym, _∙_}
 use borrow.Author.Tests.{not-true, not-false}
 use Rattle.derivations.proofs.Serving.{joins-apart, joins-meets, joins-notpart, joins-outside}
-use native.Mathlib.Omega.{arith}
 use borrow.Author.Needs.{needs}
 use Rattle.derivations.proofs.search.joins.Statement.{statement}
 use Rattle.derivations.proofs.search.joins.Tie as tie

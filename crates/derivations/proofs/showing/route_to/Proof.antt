@@ -1,6 +1,5 @@
 -- `showing::route_to` meets its contract: a row of the table. Assumes nothing.
 use Rattle.derivations.proofs.Carries.{computed-apart, computed-meets, computed-notpart}
-use borrow.Author.Needs.{needs}
 use Rattle.derivations.proofs.showing.route_to.Statement.{statement}
 use Rattle.derivations.proofs.showing.route_to.Tie as tie
 

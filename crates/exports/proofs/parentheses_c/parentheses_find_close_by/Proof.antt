@@ -1,6 +1,6 @@
 -- `exports::parentheses_c::parentheses_find_close_by` meets its contract.
 -- Assumes nothing.
-use mathlib.Core.Path.{_≡_, refl, sym, ap, _∙_}
+use mathlib.Core.Path.{refl, sym, ap, _∙_}
 use mathlib.Core.Bool.{false≢true}
 use native.Mathlib.Nat.{mul-comm}
 use borrow.Author.Needs.{needs}

@@ -1,5 +1,4 @@
 -- `chain_calls::chained` meets its contract. Assumes nothing.
-use native.Mathlib.Omega.{arith}
 use mathlib.Core.Path.{_∙_}
 use Rattle.piecebook.proofs.Chaining.{replied-answer, replied-refused}
 use borrow.Author.Needs.{needs}

@@ -1,5 +1,4 @@
 -- `piecebook::chain_calls::piecebook_chain_check_with` meets its contract. Assumes nothing.
-use native.Mathlib.Omega.{arith}
 use mathlib.Core.Path.{sym, ap, _∙_}
 use Rattle.lists.specs.Tally.{num}
 use borrow.Author.Needs.{needs}

@@ -1,5 +1,4 @@
 -- `piecebook::chain_calls::piecebook_chain_with` meets its contract. Assumes nothing.
-use native.Mathlib.Omega.{arith}
 use Rattle.piecebook.proofs.Chaining.{chained-all}
 use borrow.Author.Needs.{needs}
 use Rattle.piecebook.proofs.chain_calls.piecebook_chain_with.Statement.{statement}

@@ -1,5 +1,4 @@
 -- `sentences::read_source` meets its contract. Assumes nothing.
-use native.Mathlib.Omega.{arith}
 use borrow.Author.Needs.{needs}
 use denote.Ref.{now}
 use Rattle.sentences.proofs.Readings.{never-short, whole, unread}

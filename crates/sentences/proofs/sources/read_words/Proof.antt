@@ -1,5 +1,4 @@
 -- `sentences::read_words` meets its contract. Assumes nothing.
-use native.Mathlib.Omega.{arith}
 use borrow.Author.Needs.{needs}
 use mathlib.Core.Path.{refl, _∙_, ap, sym}
 use Rattle.sentences.specs.declared.sources.Words.the-variants.{Wrong}

@@ -1,5 +1,4 @@
 -- `sentences::six_bytes` meets its contract. Assumes nothing.
-use native.Mathlib.Omega.{arith}
 use borrow.Author.Needs.{needs}
 use Rattle.sentences.proofs.Arguments.{six}
 use Rattle.sentences.proofs.sources.six_bytes.Statement.{statement}

@@ -6,9 +6,6 @@ use Rattle.working.proofs.Settling.{one-refused, one-misfit}
 use borrow.Author.Needs.{needs}
 use Rattle.working.proofs.keeping.misfit.Statement.{statement}
 use Rattle.working.proofs.keeping.misfit.Tie as tie
-use Rattle.working.proofs.keeping.misfit.Reads as reads
-use Rattle.working.proofs.keeping.misfit.Lts as lts
-use Rattle.records.proofs.checks.check_book.Reads as check-book-reads
 
 check-book-requires : tie.Need-check-book-requires
 check-book-requires c κs = search needs
