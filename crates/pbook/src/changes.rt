@@ -1,8 +1,7 @@
 // The commands that write a file. The lock is made before the book is read, so that nobody else's change is lost.
 ghost use Rattle.io.specs.Counts.{Counts};
-use crate::commands::Change;
-use crate::commands::Export;
-use crate::reading::end_of;
+use commands::Change;
+use commands::Export;
 use files::changing;
 use files::changing::Standing;
 use matrices::Matrix;
@@ -86,7 +85,7 @@ fn change_book(
     }
     let n = open.n;
     let mut out = [0u8; 49164];
-    let made = crate::desk::change_page(
+    let made = commands::desk::change_page(
         which,
         &source[..n],
         words,
@@ -100,7 +99,7 @@ fn change_book(
         q,
     );
     let written = made.written;
-    let end = end_of(written);
+    let end = commands::desk::end_of(written);
     if made.changed {
         if changing::keep(open.file, path, &out, made.bytes, open.mode) {
             files::write_page(page, end);
@@ -125,8 +124,8 @@ pub fn change(
 ) {
     let mut line = io::buffer();
     let said = crate::arguments::words(3, &mut line);
-    let bad = end_of(book_pages::words::write_words(
-        crate::desk::change_form(which),
+    let bad = commands::desk::end_of(book_pages::words::write_words(
+        commands::desk::change_form(which),
         &line[..said],
         page,
     ));
@@ -206,9 +205,9 @@ fn export_book(
     }
     let n = open.n;
     let mut out = [0u8; 49164];
-    let made = crate::desk::export_page(which, &source[..n], &mut out, page, e, d, t, u, p, q);
+    let made = commands::desk::export_page(which, &source[..n], &mut out, page, e, d, t, u, p, q);
     let written = made.written;
-    let end = end_of(written);
+    let end = commands::desk::end_of(written);
     if made.changed {
         if changing::keep_from(open.file, target, &out, made.bytes, path) {
             files::write_page(page, end);
@@ -266,7 +265,7 @@ pub fn new(page: &mut [u8]) {
     }
     let length = book.n;
     if changing::make_empty(&path[..length]) {
-        let end = end_of(change_pages::write_new(page));
+        let end = commands::desk::end_of(change_pages::write_new(page));
         files::write_page(page, end);
     }
 }

@@ -3,8 +3,6 @@
 mod arguments;
 mod buffers;
 mod changes;
-mod commands;
-mod desk;
 mod reading;
 
 use commands::Command;

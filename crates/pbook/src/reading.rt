@@ -1,23 +1,15 @@
 // The commands that read, and lay out a page: one function for each family.
 ghost use Rattle.io.specs.Counts.{Counts};
-use crate::commands::BookPage;
-use crate::commands::InputPage;
-use crate::commands::WordsPage;
+use commands::BookPage;
+use commands::InputPage;
+use commands::WordsPage;
 use files::Got;
 use matrices::Matrix;
 use pages::Written;
 
-// Where a page ends. Each page here has the room that always serves.
-pub fn end_of(written: Written) -> usize {
-    match written {
-        Written::Text(n) => n,
-        Written::NoRoom => 0,
-    }
-}
-
 // Writes a page, or nothing of one that has no room.
 fn print(written: Written, page: &[u8]) {
-    files::write_page(page, end_of(written));
+    files::write_page(page, commands::desk::end_of(written));
 }
 
 // The file that an argument names.
@@ -49,7 +41,7 @@ pub fn book(
         return;
     }
     let n = got.n;
-    let written = crate::desk::book_page(which, &source[..n], page, e, d, t, u, p, q);
+    let written = commands::desk::book_page(which, &source[..n], page, e, d, t, u, p, q);
     print(written, page);
 }
 
@@ -67,8 +59,8 @@ pub fn words(
 ) {
     let mut line = io::buffer();
     let said = crate::arguments::words(3, &mut line);
-    let bad = end_of(book_pages::words::write_words(
-        crate::desk::words_form(which),
+    let bad = commands::desk::end_of(book_pages::words::write_words(
+        commands::desk::words_form(which),
         &line[..said],
         page,
     ));
@@ -81,7 +73,7 @@ pub fn words(
         return;
     }
     let n = got.n;
-    let written = crate::desk::words_page(
+    let written = commands::desk::words_page(
         which,
         &source[..n],
         &line[..said],
@@ -118,7 +110,18 @@ pub fn input(
         return;
     }
     let m = more.n;
-    let written = crate::desk::input_page(which, &source[..n], &input[..m], page, e, d, t, u, p, q);
+    let written = commands::desk::input_page(
+        which,
+        &source[..n],
+        &input[..m],
+        page,
+        e,
+        d,
+        t,
+        u,
+        p,
+        q,
+    );
     print(written, page);
 }
 

@@ -15,7 +15,7 @@ use Rattle.text.specs.declared.Form.the-variants.{Records, Claims, Log}
 use Rattle.text.specs.declared.reading.Read.{Read}
 use Rattle.text.specs.Text.{readText}
 use Rattle.text.specs.Lent.{into, leaves}
-use Rattle.piecebook.specs.Texts.{Told, ReadAs, Reads, Laid, Shows}
+use Rattle.piecebook.specs.Texts.{Told, ReadAs, Reads, Handed, Shows}
 use Rattle.piecebook.specs.declared.texts.PiecebookReading.{PiecebookReading}
 use Rattle.piecebook.specs.declared.texts.PiecebookShown.{PiecebookShown}
 
@@ -46,7 +46,7 @@ reads-none (suc (suc (suc n))) text out a b c = record { number-is = refl; line-
 -- ## a shown page
 
 pub shows-so :
-    (text page page′ : List ℕ) (w : Written) (r : PiecebookShown) → on.length page′ ≡ on.length page → Page page text page′ w → Laid w r → Shows text page r page′
+    (text page page′ : List ℕ) (w : Written) (r : PiecebookShown) → on.length page′ ≡ on.length page → Page page text page′ w → Handed w r → Shows text page r page′
 unfolding front
 shows-so text page page′ (Text e) r k p l =
     let m : on.length text ≡ e = ap on.length (sym (p .first)) ∙ sym (p .counts .1) in

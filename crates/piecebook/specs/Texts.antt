@@ -68,7 +68,7 @@ abbrev pub written : Written → ℕ
 written (Text end) = end
 written NoRoom = 0
 
-pub record Laid (w : Written) (r : PiecebookShown) : Type 0 where
+pub record Handed (w : Written) (r : PiecebookShown) : Type 0 where
   pub number-is : r .number ≡ shortness w
   pub length-is : r .length ≡ written w
 

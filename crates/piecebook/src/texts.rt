@@ -2,7 +2,7 @@
 ghost use mathlib.Core.Path.{_≡_};
 ghost use Rattle.text.specs.Place.{placeLine};
 ghost use Rattle.text.specs.Shown.{showBook, showClaims};
-ghost use Rattle.piecebook.specs.Texts.{Told, ReadAs, Reads, Laid, Shows};
+ghost use Rattle.piecebook.specs.Texts.{Told, ReadAs, Reads, Handed, Shows};
 use pages::Written;
 use text::Form;
 use text::reading::Read;
@@ -76,7 +76,7 @@ pub struct PiecebookShown {
 }
 
 pub fn shown_of(written: Written) -> PiecebookShown
-    ensures { λ r. ⌜ Laid written r ⌝ }
+    ensures { λ r. ⌜ Handed written r ⌝ }
 {
     match written {
         Written::Text(length) => PiecebookShown { number: 0, length },

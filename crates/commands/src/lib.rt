@@ -1,6 +1,11 @@
 // Which command the arguments name: by the first word, and by how many arguments there are, the program's own name among them.
 // Commands that read and write alike are one family: the program has a function for each family, and `desk` a page for each command.
+ghost use mathlib.Core.Path.{_≡_};
+ghost use mathlib.Core.List.{_++_};
+ghost use Rattle.commands.specs.Named.{named, ofBook, ofWords, ofFiles, commandOf};
 use check::same;
+
+pub mod desk;
 
 // A page of a book alone.
 pub enum BookPage {
@@ -50,7 +55,9 @@ pub enum Command {
 }
 
 // The commands of one argument, a book.
-fn of_one(word: &[u8]) -> Command {
+fn of_one(word: &[u8]) -> Command
+    ensures { λ r. ⌜ r ≡ named ofBook (now (word .entry)) ⌝ }
+{
     if same(word, b"check") {
         return Command::Book(BookPage::Check);
     }
@@ -76,7 +83,9 @@ fn of_one(word: &[u8]) -> Command {
 }
 
 // The commands of a book and words.
-fn of_words(word: &[u8]) -> Command {
+fn of_words(word: &[u8]) -> Command
+    ensures { λ r. ⌜ r ≡ named ofWords (now (word .entry)) ⌝ }
+{
     if same(word, b"ask") {
         return Command::Words(WordsPage::Ask);
     }
@@ -102,7 +111,9 @@ fn of_words(word: &[u8]) -> Command {
 }
 
 // The commands of two files, or else of a book and words.
-fn of_two(word: &[u8]) -> Command {
+fn of_two(word: &[u8]) -> Command
+    ensures { λ r. ⌜ r ≡ named (ofFiles ++ ofWords) (now (word .entry)) ⌝ }
+{
     if same(word, b"verify") {
         return Command::Verify;
     }
@@ -118,7 +129,9 @@ fn of_two(word: &[u8]) -> Command {
     of_words(word)
 }
 
-pub fn command_of(word: &[u8], count: usize) -> Command {
+pub fn command_of(word: &[u8], count: usize) -> Command
+    ensures { λ r. ⌜ r ≡ commandOf (now (word .entry)) count ⌝ }
+{
     if count < 3 {
         return Command::Help;
     }

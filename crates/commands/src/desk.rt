@@ -1,9 +1,12 @@
 // The page of each command, by its family.
-use crate::commands::BookPage;
-use crate::commands::Change;
-use crate::commands::Export;
-use crate::commands::InputPage;
-use crate::commands::WordsPage;
+ghost use mathlib.Core.Path.{_≡_};
+ghost use Rattle.change_pages.specs.Made.{Made};
+ghost use Rattle.commands.specs.Paged.{BookPaged, WordsPaged, InputPaged, changeBy, exportBy, wordsForm, changeForm, endOf};
+use crate::BookPage;
+use crate::Change;
+use crate::Export;
+use crate::InputPage;
+use crate::WordsPage;
 use change_pages::Changed;
 use matrices::Matrix;
 use pages::Written;
@@ -19,7 +22,9 @@ pub fn book_page(
     u: &mut Matrix,
     p: &mut Matrix,
     q: &mut Matrix,
-) -> Written {
+) -> Written
+    ensures { λ r. ⌜ BookPaged which (now (source .entry)) (now (page .entry)) (now (page .exit)) r ⌝ }
+{
     match which {
         BookPage::Check => book_pages::session::write_check(source, page, e, d, t, u, p, q),
         BookPage::Why => chain_pages::write_contradiction(source, page, e, d, t, u, p, q),
@@ -39,7 +44,9 @@ pub fn words_page(
     u: &mut Matrix,
     p: &mut Matrix,
     q: &mut Matrix,
-) -> Written {
+) -> Written
+    ensures { λ r. ⌜ WordsPaged which (now (source .entry)) (now (words .entry)) (now (page .entry)) (now (page .exit)) r ⌝ }
+{
     match which {
         WordsPage::Ask => book_pages::session::write_ask_words(
             source,
@@ -53,14 +60,40 @@ pub fn words_page(
             q,
         ),
         WordsPage::Why => chain_pages::write_why(source, words, page, e, d, t),
-        WordsPage::Inside => book_pages::listing::write_list(source, 1, words, page, e, d, t),
-        WordsPage::Touching => book_pages::listing::write_list(source, 3, words, page, e, d, t),
-        WordsPage::Apart => book_pages::listing::write_list(source, 2, words, page, e, d, t),
+        WordsPage::Inside => book_pages::listing::write_list(
+            source,
+            records::PART as usize,
+            words,
+            page,
+            e,
+            d,
+            t,
+        ),
+        WordsPage::Touching => book_pages::listing::write_list(
+            source,
+            records::MEETS as usize,
+            words,
+            page,
+            e,
+            d,
+            t,
+        ),
+        WordsPage::Apart => book_pages::listing::write_list(
+            source,
+            records::APART as usize,
+            words,
+            page,
+            e,
+            d,
+            t,
+        ),
     }
 }
 
 // What the words of a page are.
-pub fn words_form(which: WordsPage) -> Form {
+pub fn words_form(which: WordsPage) -> Form
+    ensures { λ r. ⌜ r ≡ wordsForm which ⌝ }
+{
     match which {
         WordsPage::Ask => Form::Claims,
         WordsPage::Why => Form::Claims,
@@ -81,7 +114,9 @@ pub fn input_page(
     u: &mut Matrix,
     p: &mut Matrix,
     q: &mut Matrix,
-) -> Written {
+) -> Written
+    ensures { λ r. ⌜ InputPaged which (now (source .entry)) (now (input .entry)) (now (page .entry)) (now (page .exit)) r ⌝ }
+{
     match which {
         InputPage::Ask => book_pages::session::write_ask(source, input, page, e, d, t, u, p, q),
         InputPage::Replicates => beside_pages::log::write_log(source, input, page, e, d, t, u),
@@ -89,7 +124,9 @@ pub fn input_page(
 }
 
 // What the words of a change are.
-pub fn change_form(which: Change) -> Form {
+pub fn change_form(which: Change) -> Form
+    ensures { λ r. ⌜ r ≡ changeForm which ⌝ }
+{
     match which {
         Change::Add => Form::Records,
         Change::Withdraw => Form::Log,
@@ -108,7 +145,9 @@ pub fn change_page(
     u: &mut Matrix,
     p: &mut Matrix,
     q: &mut Matrix,
-) -> Changed {
+) -> Changed
+    ensures { λ r. ⌜ Made (changeBy which (now (source .entry)) (now (words .entry))) (now (out .exit)) (now (page .entry)) (now (page .exit)) r ⌝ }
+{
     match which {
         Change::Add => change_pages::write_added(source, words, out, page, e, d, t, u, p, q),
         Change::Withdraw => change_pages::write_withdrawn(
@@ -137,9 +176,21 @@ pub fn export_page(
     u: &mut Matrix,
     p: &mut Matrix,
     q: &mut Matrix,
-) -> Changed {
+) -> Changed
+    ensures { λ r. ⌜ Made (exportBy which (now (source .entry))) (now (out .exit)) (now (page .entry)) (now (page .exit)) r ⌝ }
+{
     match which {
         Export::Pack => change_pages::write_packed(source, out, page, e, d, t, u, p, q),
         Export::Convert => change_pages::write_converted(source, out, page, e, d, t),
+    }
+}
+
+// Where a page ends. Each page here has the room that always serves.
+pub fn end_of(written: Written) -> usize
+    ensures { λ r. ⌜ r ≡ endOf written ⌝ }
+{
+    match written {
+        Written::Text(n) => n,
+        Written::NoRoom => 0,
     }
 }
