@@ -12,9 +12,11 @@ use Rattle.book_pages.specs.ListText.{listText}
 use Rattle.book_pages.specs.GridText.{gridText}
 use Rattle.book_pages.specs.ShowText.{showText}
 use Rattle.beside_pages.specs.LogText.{logText}
+use Rattle.change_pages.specs.declared.Changed.{Changed}
 use Rattle.change_pages.specs.Change as made
 use Rattle.change_pages.specs.Changes as new
-use Rattle.chain_pages.specs.Why as why
+use Rattle.change_pages.specs.Made.{Made}
+use Rattle.chain_pages.specs.Why.{Why}
 use Rattle.chain_pages.specs.Clash.{Clash}
 use Rattle.commands.specs.declared.BookPage.{BookPage}
 use Rattle.commands.specs.declared.BookPage.the-variants as book
@@ -42,7 +44,7 @@ BookPaged book.Show source page page′ r = Served (showText source) 229404 page
 -- of a book and the words behind it; the lists are for PART, MEETS and APART, by document 01's numbers
 abbrev pub WordsPaged : WordsPage → (source words page page′ : List ℕ) → Written → Type 0
 WordsPaged words.Ask source said page page′ r = Served (askWordsText source said) 175 page page′ r
-WordsPaged words.Why source said page page′ r = why.Why source said page page′ r
+WordsPaged words.Why source said page page′ r = Why source said page page′ r
 WordsPaged words.Inside source said page page′ r = Served (listText source 1 said) 12300 page page′ r
 WordsPaged words.Touching source said page page′ r = Served (listText source 3 said) 12300 page page′ r
 WordsPaged words.Apart source said page page′ r = Served (listText source 2 said) 12300 page page′ r
