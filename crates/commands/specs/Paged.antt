@@ -12,10 +12,8 @@ use Rattle.book_pages.specs.ListText.{listText}
 use Rattle.book_pages.specs.GridText.{gridText}
 use Rattle.book_pages.specs.ShowText.{showText}
 use Rattle.beside_pages.specs.LogText.{logText}
-use Rattle.change_pages.specs.declared.Changed.{Changed}
 use Rattle.change_pages.specs.Change as made
 use Rattle.change_pages.specs.Changes as new
-use Rattle.change_pages.specs.Made.{Made}
 use Rattle.chain_pages.specs.Why.{Why}
 use Rattle.chain_pages.specs.Clash.{Clash}
 use Rattle.commands.specs.declared.BookPage.{BookPage}
