@@ -13,6 +13,7 @@ ghost use Rattle.outcomes.specs.Outcome.{number, place, nodeCount};
 ghost use Rattle.outcomes.specs.Demands.{Demand2, Demand3, Contradicted};
 ghost use Rattle.outcomes.specs.Fitting.{Fitting};
 ghost use Rattle.answers.specs.Judging.{rowsCheck, Cleared, Exact, Judged};
+ghost use Rattle.index.specs.Sizes.{MARKS-BYTES, PARENTHESES-BYTES, PLACES, SHADOWS};
 use contradiction::Settled;
 use matrices::Matrix;
 use outcomes::Outcome;
@@ -65,7 +66,7 @@ pub fn judge_in(
     requires { ⌜ Exact (now book) n (now claims) (lent (now parens) (now marks) (now shadows) (now places) (now answers)) ⌝ }
     ensures { λ r. ⌜ Judged (now (book .entry)) n (now (claims .entry)) (lent (now (parens .entry)) (now (marks .entry)) (now (shadows .entry)) (now (places .entry)) (now (answers .entry))) r (lent (now (parens .exit)) (now (marks .exit)) (now (shadows .exit)) (now (places .exit)) (now (answers .exit))) ⌝ }
 {
-    let mut voids = [0u64; 32];
+    let mut voids = [0u64; matrices::ROW_WORDS];
     closure::marking::mark_voids(book, &mut voids);
     let mut order = [0u16; matrices::ROWS];
     let mut lead = [0u16; matrices::ROWS];
@@ -115,7 +116,7 @@ pub fn short(
     answers: usize,
     claims: usize,
 ) -> bool
-    ensures { λ r. ⌜ r ≡ (ltb parens 2560 || (ltb marks 1280 || (ltb shadows 8192 || (ltb places 2048 || ltb answers claims)))) ⌝ }
+    ensures { λ r. ⌜ r ≡ (ltb parens PARENTHESES-BYTES || (ltb marks MARKS-BYTES || (ltb shadows SHADOWS || (ltb places PLACES || ltb answers claims)))) ⌝ }
 {
     if parens < index::PARENTHESES_BYTES {
         return true;

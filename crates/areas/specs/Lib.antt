@@ -1,3 +1,4 @@
+pub mod Sizes
 pub mod Area
 pub mod Tables
 pub mod Between

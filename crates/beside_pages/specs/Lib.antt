@@ -1,3 +1,4 @@
+pub mod Rooms
 pub mod LogText
 pub mod ComparisonText
 pub mod Examples

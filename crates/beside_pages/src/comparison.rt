@@ -6,6 +6,8 @@ ghost use Rattle.pages.specs.Put.{Put};
 ghost use Rattle.pages.specs.Written.{Page};
 ghost use Rattle.sentences.specs.Sources.{ofClaims};
 ghost use Rattle.beside_pages.specs.ComparisonText.{pairLine, pairLines, togetherLine, refusedIn, besideText, comparisonText};
+ghost use Rattle.beside_pages.specs.Rooms.{COMPARISON-HEAD, COMPARISON-ROOM};
+ghost use Rattle.text.specs.Rooms.{CLAIMS-ROOM};
 use compare::Comparison;
 use matrices::Matrix;
 use pages::Written;
@@ -13,6 +15,9 @@ use records::Record;
 use records::Refusal;
 use sentences::sources::Source;
 use text::Form;
+
+// The bytes of the longest comparison: three a claim.
+const ROOM: usize = 12291;
 
 // The line of claim i.
 fn put_pair(
@@ -41,11 +46,11 @@ fn put_pairs(page: &mut [u8], at: usize, claims: &[u8], bytes: &[u8]) -> usize
     requires { ⌜ 3 * records (now claims) ≤ length (now bytes) ⌝ }
     ensures { λ r. ⌜ Put (now (page .entry)) at (pairLines (now (claims .entry)) (now (bytes .entry)) (records (now (claims .entry)))) (now (page .exit)) r ⌝ }
 {
-    let n = claims.len() / 6;
+    let n = claims.len() / records::RECORD_BYTES;
     let mut end = at;
     let mut i: usize = 0;
     while i < n {
-        let k = 3 * i;
+        let k = compare::joint::COMPARED_BYTES * i;
         let claim = records::record_at(claims, i);
         end = put_pair(page, end, i, claim, bytes[k], bytes[k + 1], bytes[k + 2]);
         i += 1;
@@ -73,9 +78,9 @@ fn put_refused_in(
     claims: &[u8],
 ) -> usize
     ensures { λ r. ⌜ Put (now (page .entry)) 0 (refusedIn k refusal place (now (source .entry)) (now (second .entry)) (now (claims .entry))) (now (page .exit)) r ⌝ }
-    ensures { λ r. ⌜ length (refusedIn k refusal place (now (source .entry)) (now (second .entry)) (now (claims .entry))) ≤ 149 ⌝ }
+    ensures { λ r. ⌜ length (refusedIn k refusal place (now (source .entry)) (now (second .entry)) (now (claims .entry))) ≤ COMPARISON-HEAD ⌝ }
 {
-    if k == 2 {
+    if k == compare::SECOND {
         let at = sentences::put_prefix(page, 0, sentences::SECOND);
         return sentences::put_refused(page, at, refusal, place, second, claims);
     }
@@ -98,11 +103,11 @@ fn put_comparison(
     p: &mut Matrix,
     q: &mut Matrix,
 ) -> usize
-    requires { ⌜ length (now asked) ≤ 24582 ⌝ }
+    requires { ⌜ length (now asked) ≤ CLAIMS-ROOM ⌝ }
     ensures { λ r. ⌜ Put (now (page .entry)) 0 (besideText (now (first .entry)) (now (other .entry)) (now (asked .entry)) (now (source .entry)) (now (second .entry)) (now (claims .entry))) (now (page .exit)) r ⌝ }
-    ensures { λ r. ⌜ length (besideText (now (first .entry)) (now (other .entry)) (now (asked .entry)) (now (source .entry)) (now (second .entry)) (now (claims .entry))) ≤ 208960 ⌝ }
+    ensures { λ r. ⌜ length (besideText (now (first .entry)) (now (other .entry)) (now (asked .entry)) (now (source .entry)) (now (second .entry)) (now (claims .entry))) ≤ COMPARISON-ROOM ⌝ }
 {
-    let mut bytes = [0u8; 12291];
+    let mut bytes = [0u8; ROOM];
     let made = compare::compare(first, other, asked, &mut bytes, e, d, t, u, p, q);
     match made {
         Comparison::Refused(k, refusal, place) => put_refused_in(
@@ -136,9 +141,9 @@ fn write_both(
     p: &mut Matrix,
     q: &mut Matrix,
 ) -> Written
-    requires { ⌜ length (now asked) ≤ 24582 ⌝ }
+    requires { ⌜ length (now asked) ≤ CLAIMS-ROOM ⌝ }
     ensures { λ r. ⌜ Page (now (page .entry)) (besideText (now (first .entry)) (now (other .entry)) (now (asked .entry)) (now (source .entry)) (now (second .entry)) (now (claims .entry))) (now (page .exit)) r ⌝ }
-    ensures { λ r. ⌜ length (besideText (now (first .entry)) (now (other .entry)) (now (asked .entry)) (now (source .entry)) (now (second .entry)) (now (claims .entry))) ≤ 208960 ⌝ }
+    ensures { λ r. ⌜ length (besideText (now (first .entry)) (now (other .entry)) (now (asked .entry)) (now (source .entry)) (now (second .entry)) (now (claims .entry))) ≤ COMPARISON-ROOM ⌝ }
 {
     let end = put_comparison(
         first,
@@ -174,9 +179,9 @@ fn write_answers(
     q: &mut Matrix,
 ) -> Written
     ensures { λ r. ⌜ Page (now (page .entry)) (ofClaims (now (claims .entry)) (λ asked. besideText (now (first .entry)) (now (other .entry)) asked (now (source .entry)) (now (second .entry)) (now (claims .entry)))) (now (page .exit)) r ⌝ }
-    ensures { λ r. ⌜ length (ofClaims (now (claims .entry)) (λ asked. besideText (now (first .entry)) (now (other .entry)) asked (now (source .entry)) (now (second .entry)) (now (claims .entry)))) ≤ 208960 ⌝ }
+    ensures { λ r. ⌜ length (ofClaims (now (claims .entry)) (λ asked. besideText (now (first .entry)) (now (other .entry)) asked (now (source .entry)) (now (second .entry)) (now (claims .entry)))) ≤ COMPARISON-ROOM ⌝ }
 {
-    let mut asked = [0u8; 24582];
+    let mut asked = [0u8; text::CLAIMS_ROOM];
     let read = sentences::sources::read_source(Form::Claims, claims, &mut asked);
     match read {
         Source::Unread(bad, reason) => sentences::write_unread(
@@ -217,10 +222,10 @@ pub fn write_comparison(
     q: &mut Matrix,
 ) -> Written
     ensures { λ r. ⌜ Page (now (page .entry)) (comparisonText (now (source .entry)) (now (second .entry)) (now (claims .entry))) (now (page .exit)) r ⌝ }
-    ensures { λ r. ⌜ length (comparisonText (now (source .entry)) (now (second .entry)) (now (claims .entry))) ≤ 208960 ⌝ }
+    ensures { λ r. ⌜ length (comparisonText (now (source .entry)) (now (second .entry)) (now (claims .entry))) ≤ COMPARISON-ROOM ⌝ }
 {
-    let mut first = [0u8; 49158];
-    let mut other = [0u8; 49158];
+    let mut first = [0u8; text::BOOK_ROOM];
+    let mut other = [0u8; text::BOOK_ROOM];
     let read = sentences::sources::read_source(Form::Records, source, &mut first);
     match read {
         Source::Unread(bad, reason) => sentences::write_unread(page, sentences::BOOK, bad, reason),

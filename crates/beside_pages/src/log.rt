@@ -5,6 +5,8 @@ ghost use Rattle.replicates.specs.Log.{entryCount};
 ghost use Rattle.pages.specs.Put.{Put};
 ghost use Rattle.pages.specs.Written.{Page};
 ghost use Rattle.beside_pages.specs.LogText.{entryLine, entryLines, measuredText, logText};
+ghost use Rattle.beside_pages.specs.Rooms.{LOG-PAGE-ROOM};
+ghost use Rattle.text.specs.Rooms.{LOG-ROOM};
 use matrices::Matrix;
 use outcomes::Outcome;
 use pages::Written;
@@ -24,17 +26,17 @@ fn put_entry(page: &mut [u8], at: usize, i: usize, piece: usize, apart: u8, flag
 
 // The lines of all entries, from the start of the page, where the bytes have two of each.
 fn put_entries(page: &mut [u8], log: &[u8], bytes: &[u8]) -> usize
-    requires { ⌜ (2 * entryCount (now log) ≤ length (now bytes)) × (length (now log) ≤ 65538) ⌝ }
+    requires { ⌜ (2 * entryCount (now log) ≤ length (now bytes)) × (length (now log) ≤ LOG-ROOM) ⌝ }
     ensures { λ r. ⌜ Put (now (page .entry)) 0 (entryLines (now (log .entry)) (now (bytes .entry)) (entryCount (now (log .entry)))) (now (page .exit)) r ⌝ }
-    ensures { λ r. ⌜ length (entryLines (now (log .entry)) (now (bytes .entry)) (entryCount (now (log .entry)))) ≤ 655380 ⌝ }
+    ensures { λ r. ⌜ length (entryLines (now (log .entry)) (now (bytes .entry)) (entryCount (now (log .entry)))) ≤ LOG-PAGE-ROOM ⌝ }
 {
-    let n = log.len() / 2;
+    let n = log.len() / replicates::ENTRY_BYTES;
     let mut end: usize = 0;
     let mut i: usize = 0;
     while i < n {
-        let low = 2 * i;
+        let low = replicates::ENTRY_BYTES * i;
         let high = low + 1;
-        let piece = numbers::wide(log[low]) + 256 * numbers::wide(log[high]);
+        let piece = numbers::wide(log[low]) + numbers::BYTE_VALUES * numbers::wide(log[high]);
         end = put_entry(page, end, i, piece, bytes[low], bytes[high]);
         i += 1;
     }
@@ -53,13 +55,13 @@ fn put_log(
     t: &mut Matrix,
     u: &mut Matrix,
 ) -> usize
-    requires { ⌜ length (now log) ≤ 65538 ⌝ }
+    requires { ⌜ length (now log) ≤ LOG-ROOM ⌝ }
     ensures { λ r. ⌜ Put (now (page .entry)) 0 (measuredText (now (book .entry)) (now (log .entry)) (now (source .entry)) (now (other .entry))) (now (page .exit)) r ⌝ }
-    ensures { λ r. ⌜ length (measuredText (now (book .entry)) (now (log .entry)) (now (source .entry)) (now (other .entry))) ≤ 655380 ⌝ }
+    ensures { λ r. ⌜ length (measuredText (now (book .entry)) (now (log .entry)) (now (source .entry)) (now (other .entry))) ≤ LOG-PAGE-ROOM ⌝ }
 {
-    let mut bytes = [0u8; 65538];
+    let mut bytes = [0u8; text::LOG_ROOM];
     let none = Window {
-        pieces: [0u16; 31],
+        pieces: [0u16; replicates::windows::WINDOW],
         count: 0,
     };
     let made = replicates::replicates(book, none, log, &mut bytes, e, d, t, u);
@@ -88,9 +90,9 @@ fn write_entries(
     t: &mut Matrix,
     u: &mut Matrix,
 ) -> Written
-    requires { ⌜ length (now log) ≤ 65538 ⌝ }
+    requires { ⌜ length (now log) ≤ LOG-ROOM ⌝ }
     ensures { λ r. ⌜ Page (now (page .entry)) (measuredText (now (book .entry)) (now (log .entry)) (now (source .entry)) (now (other .entry))) (now (page .exit)) r ⌝ }
-    ensures { λ r. ⌜ length (measuredText (now (book .entry)) (now (log .entry)) (now (source .entry)) (now (other .entry))) ≤ 655380 ⌝ }
+    ensures { λ r. ⌜ length (measuredText (now (book .entry)) (now (log .entry)) (now (source .entry)) (now (other .entry))) ≤ LOG-PAGE-ROOM ⌝ }
 {
     let end = put_log(book, log, source, other, page, e, d, t, u);
     pages::finish(page.len(), end)
@@ -107,10 +109,10 @@ pub fn write_log(
     u: &mut Matrix,
 ) -> Written
     ensures { λ r. ⌜ Page (now (page .entry)) (logText (now (source .entry)) (now (other .entry))) (now (page .exit)) r ⌝ }
-    ensures { λ r. ⌜ length (logText (now (source .entry)) (now (other .entry))) ≤ 655380 ⌝ }
+    ensures { λ r. ⌜ length (logText (now (source .entry)) (now (other .entry))) ≤ LOG-PAGE-ROOM ⌝ }
 {
-    let mut book = [0u8; 49158];
-    let mut log = [0u8; 65538];
+    let mut book = [0u8; text::BOOK_ROOM];
+    let mut log = [0u8; text::LOG_ROOM];
     let read = sentences::sources::read_source(Form::Records, source, &mut book);
     match read {
         Source::Unread(bad, reason) => sentences::write_unread(page, sentences::BOOK, bad, reason),

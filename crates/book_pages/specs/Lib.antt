@@ -1,3 +1,4 @@
+pub mod Rooms
 pub mod AskText
 pub mod ListText
 pub mod Sign

@@ -9,6 +9,8 @@ ghost use Rattle.book_pages.specs.Sign as by;
 ghost use Rattle.book_pages.specs.Sign.{four};
 ghost use Rattle.book_pages.specs.GridText as text;
 ghost use Rattle.book_pages.specs.GridText.{columns, heading, headings, signs, rows, gridLines, sheetText, gridText};
+ghost use Rattle.book_pages.specs.Rooms.{GRID-ROOM};
+ghost use Rattle.grids.specs.Sizes.{SIDE};
 use grids::rounds::Grid;
 use matrices::Matrix;
 use outcomes::Outcome;
@@ -16,9 +18,11 @@ use pages::Written;
 use sentences::sources::Source;
 use text::Form;
 
+const TEN: usize = 10;
+
 // Bit b of row a.
 fn has(grid: &Grid, a: usize, b: usize) -> bool
-    requires { ⌜ (a < 64) × (b < 64) ⌝ }
+    requires { ⌜ (a < SIDE) × (b < SIDE) ⌝ }
     ensures { λ r. ⌜ r ≡ bitAt (now (grid .entry)) a b ⌝ }
 {
     (grid[a] >> b) & 1 == 1
@@ -26,7 +30,7 @@ fn has(grid: &Grid, a: usize, b: usize) -> bool
 
 // The sign of a and b, where neither is void.
 fn between(part: &Grid, apart: &Grid, meets: &Grid, notpart: &Grid, a: usize, b: usize) -> u8
-    requires { ⌜ (a < 64) × (b < 64) ⌝ }
+    requires { ⌜ (a < SIDE) × (b < SIDE) ⌝ }
     ensures { λ r. ⌜ r ≡ by.between (four (now (part .entry)) (now (apart .entry)) (now (meets .entry)) (now (notpart .entry))) a b ⌝ }
 {
     if has(part, a, b) {
@@ -55,7 +59,7 @@ fn between(part: &Grid, apart: &Grid, meets: &Grid, notpart: &Grid, a: usize, b:
 
 // The sign of a and b.
 fn sign(part: &Grid, apart: &Grid, meets: &Grid, notpart: &Grid, a: usize, b: usize) -> u8
-    requires { ⌜ (a < 64) × (b < 64) ⌝ }
+    requires { ⌜ (a < SIDE) × (b < SIDE) ⌝ }
     ensures { λ r. ⌜ r ≡ by.sign (four (now (part .entry)) (now (apart .entry)) (now (meets .entry)) (now (notpart .entry))) a b ⌝ }
 {
     if has(apart, a, a) {
@@ -78,7 +82,7 @@ fn put_signs(
     a: usize,
     n: usize,
 ) -> usize
-    requires { ⌜ (a < 64) × (n ≤ 64) ⌝ }
+    requires { ⌜ (a < SIDE) × (n ≤ SIDE) ⌝ }
     ensures { λ r. ⌜ Put (now (page .entry)) at (signs (four (now (part .entry)) (now (apart .entry)) (now (meets .entry)) (now (notpart .entry))) a n) (now (page .exit)) r ⌝ }
 {
     let mut end = at;
@@ -95,17 +99,17 @@ fn put_signs(
 fn tens(b: usize) -> u8
     ensures { λ r. ⌜ r ≡ text.tens b ⌝ }
 {
-    if b < 10 {
+    if b < TEN {
         return b' ';
     }
-    48 + (b / 10 % 10) as u8
+    b'0' + (b / TEN % TEN) as u8
 }
 
 // The ones of a number.
 fn ones(b: usize) -> u8
     ensures { λ r. ⌜ r ≡ text.ones b ⌝ }
 {
-    48 + (b % 10) as u8
+    b'0' + (b % TEN) as u8
 }
 
 // A digit of a number in the heading.
@@ -145,7 +149,7 @@ fn put_heading(page: &mut [u8], at: usize, upper: bool, n: usize) -> usize
 fn put_headings(page: &mut [u8], at: usize, n: usize) -> usize
     ensures { λ r. ⌜ Put (now (page .entry)) at (headings n) (now (page .exit)) r ⌝ }
 {
-    if n <= 10 {
+    if n <= TEN {
         return put_heading(page, at, false, n);
     }
     let at = put_heading(page, at, true, n);
@@ -162,7 +166,7 @@ fn put_rows(
     notpart: &Grid,
     n: usize,
 ) -> usize
-    requires { ⌜ n ≤ 64 ⌝ }
+    requires { ⌜ n ≤ SIDE ⌝ }
     ensures { λ r. ⌜ Put (now (page .entry)) at (rows (four (now (part .entry)) (now (apart .entry)) (now (meets .entry)) (now (notpart .entry))) n n) (now (page .exit)) r ⌝ }
 {
     let mut end = at;
@@ -187,7 +191,7 @@ fn put_lines(
     notpart: &Grid,
     n: usize,
 ) -> usize
-    requires { ⌜ n ≤ 64 ⌝ }
+    requires { ⌜ n ≤ SIDE ⌝ }
     ensures { λ r. ⌜ Put (now (page .entry)) 0 (gridLines (four (now (part .entry)) (now (apart .entry)) (now (meets .entry)) (now (notpart .entry))) n) (now (page .exit)) r ⌝ }
 {
     let at = pages::put(page, 0, b"PIECES ");
@@ -209,7 +213,7 @@ fn put_grid(
     q: &mut Matrix,
 ) -> usize
     ensures { λ r. ⌜ Put (now (page .entry)) 0 (sheetText (now (book .entry)) (now (source .entry))) (now (page .exit)) r ⌝ }
-    ensures { λ r. ⌜ length (sheetText (now (book .entry)) (now (source .entry))) ≤ 4498 ⌝ }
+    ensures { λ r. ⌜ length (sheetText (now (book .entry)) (now (source .entry))) ≤ GRID-ROOM ⌝ }
 {
     let made = grids::grid(book, e, d, t, u, p, q);
     let outcome = made.outcome;
@@ -242,7 +246,7 @@ fn write_sheet(
     q: &mut Matrix,
 ) -> Written
     ensures { λ r. ⌜ Page (now (page .entry)) (sheetText (now (book .entry)) (now (source .entry))) (now (page .exit)) r ⌝ }
-    ensures { λ r. ⌜ length (sheetText (now (book .entry)) (now (source .entry))) ≤ 4498 ⌝ }
+    ensures { λ r. ⌜ length (sheetText (now (book .entry)) (now (source .entry))) ≤ GRID-ROOM ⌝ }
 {
     let end = put_grid(book, source, page, e, d, t, u, p, q);
     pages::finish(page.len(), end)
@@ -260,9 +264,9 @@ pub fn write_grid(
     q: &mut Matrix,
 ) -> Written
     ensures { λ r. ⌜ Page (now (page .entry)) (gridText (now (source .entry))) (now (page .exit)) r ⌝ }
-    ensures { λ r. ⌜ length (gridText (now (source .entry))) ≤ 4498 ⌝ }
+    ensures { λ r. ⌜ length (gridText (now (source .entry))) ≤ GRID-ROOM ⌝ }
 {
-    let mut book = [0u8; 49158];
+    let mut book = [0u8; text::BOOK_ROOM];
     let read = sentences::sources::read_source(Form::Records, source, &mut book);
     match read {
         Source::Unread(bad, reason) => sentences::write_unread(page, sentences::BOOK, bad, reason),

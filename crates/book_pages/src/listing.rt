@@ -5,6 +5,8 @@ ghost use Rattle.pages.specs.Put.{Put};
 ghost use Rattle.pages.specs.Written.{Page};
 ghost use Rattle.sentences.specs.Sources.{ofBook};
 ghost use Rattle.book_pages.specs.ListText.{numberLines, listLines, catalogText, listText};
+ghost use Rattle.book_pages.specs.Rooms.{LIST-ROOM};
+ghost use Rattle.records.specs.Sizes.{PIECES};
 use catalog::Listing;
 use matrices::Matrix;
 use pages::Written;
@@ -27,9 +29,9 @@ fn put_numbers(page: &mut [u8], at: usize, list: &[u16]) -> usize
 
 // The lines of a list, from the start of the page.
 fn put_list(page: &mut [u8], list: &[u16]) -> usize
-    requires { ⌜ length (now list) ≤ 2048 ⌝ }
+    requires { ⌜ length (now list) ≤ PIECES ⌝ }
     ensures { λ r. ⌜ Put (now (page .entry)) 0 (listLines (now (list .entry))) (now (page .exit)) r ⌝ }
-    ensures { λ r. ⌜ length (listLines (now (list .entry))) ≤ 12300 ⌝ }
+    ensures { λ r. ⌜ length (listLines (now (list .entry))) ≤ LIST-ROOM ⌝ }
 {
     let at = pages::put(page, 0, b"PIECES ");
     let at = pages::put_number(page, at, list.len(), b'\n');
@@ -48,7 +50,7 @@ fn put_catalog(
     t: &mut Matrix,
 ) -> usize
     ensures { λ r. ⌜ Put (now (page .entry)) 0 (catalogText (now (book .entry)) (now (source .entry)) kind g) (now (page .exit)) r ⌝ }
-    ensures { λ r. ⌜ length (catalogText (now (book .entry)) (now (source .entry)) kind g) ≤ 12300 ⌝ }
+    ensures { λ r. ⌜ length (catalogText (now (book .entry)) (now (source .entry)) kind g) ≤ LIST-ROOM ⌝ }
 {
     let mut parens = [0u8; index::PARENTHESES_BYTES];
     let mut marks = [0u8; index::MARKS_BYTES];
@@ -100,7 +102,7 @@ fn write_catalog(
     t: &mut Matrix,
 ) -> Written
     ensures { λ r. ⌜ Page (now (page .entry)) (catalogText (now (book .entry)) (now (source .entry)) kind g) (now (page .exit)) r ⌝ }
-    ensures { λ r. ⌜ length (catalogText (now (book .entry)) (now (source .entry)) kind g) ≤ 12300 ⌝ }
+    ensures { λ r. ⌜ length (catalogText (now (book .entry)) (now (source .entry)) kind g) ≤ LIST-ROOM ⌝ }
 {
     let end = put_catalog(book, source, kind, g, page, e, d, t);
     pages::finish(page.len(), end)
@@ -117,9 +119,9 @@ fn write_pieces(
     t: &mut Matrix,
 ) -> Written
     ensures { λ r. ⌜ Page (now (page .entry)) (ofBook (now (source .entry)) (λ book. catalogText book (now (source .entry)) kind g)) (now (page .exit)) r ⌝ }
-    ensures { λ r. ⌜ length (ofBook (now (source .entry)) (λ book. catalogText book (now (source .entry)) kind g)) ≤ 12300 ⌝ }
+    ensures { λ r. ⌜ length (ofBook (now (source .entry)) (λ book. catalogText book (now (source .entry)) kind g)) ≤ LIST-ROOM ⌝ }
 {
-    let mut book = [0u8; 49158];
+    let mut book = [0u8; text::BOOK_ROOM];
     let read = sentences::sources::read_source(Form::Records, source, &mut book);
     match read {
         Source::Unread(bad, reason) => sentences::write_unread(page, sentences::BOOK, bad, reason),
@@ -138,7 +140,7 @@ pub fn write_list(
     t: &mut Matrix,
 ) -> Written
     ensures { λ r. ⌜ Page (now (page .entry)) (listText (now (source .entry)) kind (now (words .entry))) (now (page .exit)) r ⌝ }
-    ensures { λ r. ⌜ length (listText (now (source .entry)) kind (now (words .entry))) ≤ 12300 ⌝ }
+    ensures { λ r. ⌜ length (listText (now (source .entry)) kind (now (words .entry))) ≤ LIST-ROOM ⌝ }
 {
     let said = sentences::sources::read_words(Form::Log, words);
     match said {

@@ -7,12 +7,18 @@ ghost use Rattle.pages.specs.Put.{Put};
 ghost use Rattle.pages.specs.Written.{Page};
 ghost use Rattle.sentences.specs.Sources.{ofBook, ofClaims};
 ghost use Rattle.book_pages.specs.AskText.{sessionText, checkText, askText, askWordsText};
+ghost use Rattle.book_pages.specs.Rooms.{ASK-ROOM, ASK-WORDS-ROOM, CLAIM-LINE};
+ghost use Rattle.sentences.specs.Rooms.{REFUSED-LINE};
+ghost use Rattle.text.specs.Rooms.{CLAIMS-ROOM};
 use matrices::Matrix;
 use outcomes::Outcome;
 use pages::Written;
 use sentences::sources::Source;
 use sentences::sources::Words;
 use text::Form;
+
+// An answer for each claim, and one more.
+const ANSWERS_ROOM: usize = 4097;
 
 // The text of the call's outcome, from the start of the page. Answers where it ends.
 fn put_session(
@@ -28,11 +34,11 @@ fn put_session(
     p: &mut Matrix,
     q: &mut Matrix,
 ) -> usize
-    requires { ⌜ length (now claims) ≤ 24582 ⌝ }
+    requires { ⌜ length (now claims) ≤ CLAIMS-ROOM ⌝ }
     ensures { λ r. ⌜ Put (now (page .entry)) 0 (sessionText (now (book .entry)) (now (claims .entry)) (now (source .entry)) (now (other .entry))) (now (page .exit)) r ⌝ }
-    ensures { λ r. ⌜ length (sessionText (now (book .entry)) (now (claims .entry)) (now (source .entry)) (now (other .entry))) ≤ 142 + 33 * records (now (claims .entry)) ⌝ }
+    ensures { λ r. ⌜ length (sessionText (now (book .entry)) (now (claims .entry)) (now (source .entry)) (now (other .entry))) ≤ REFUSED-LINE + CLAIM-LINE * records (now (claims .entry)) ⌝ }
 {
-    let mut answers = [0u8; 4097];
+    let mut answers = [0u8; ANSWERS_ROOM];
     let outcome = report::answer(book, claims, &mut answers, e, d, t, u, p, q);
     match outcome {
         Outcome::Refused(refusal, place) => sentences::put_refused(
@@ -63,9 +69,9 @@ fn write_session(
     p: &mut Matrix,
     q: &mut Matrix,
 ) -> Written
-    requires { ⌜ length (now claims) ≤ 24582 ⌝ }
+    requires { ⌜ length (now claims) ≤ CLAIMS-ROOM ⌝ }
     ensures { λ r. ⌜ Page (now (page .entry)) (sessionText (now (book .entry)) (now (claims .entry)) (now (source .entry)) (now (other .entry))) (now (page .exit)) r ⌝ }
-    ensures { λ r. ⌜ length (sessionText (now (book .entry)) (now (claims .entry)) (now (source .entry)) (now (other .entry))) ≤ 142 + 33 * records (now (claims .entry)) ⌝ }
+    ensures { λ r. ⌜ length (sessionText (now (book .entry)) (now (claims .entry)) (now (source .entry)) (now (other .entry))) ≤ REFUSED-LINE + CLAIM-LINE * records (now (claims .entry)) ⌝ }
 {
     let end = put_session(book, claims, source, other, page, e, d, t, u, p, q);
     pages::finish(page.len(), end)
@@ -85,9 +91,9 @@ fn write_answers(
     q: &mut Matrix,
 ) -> Written
     ensures { λ r. ⌜ Page (now (page .entry)) (ofClaims (now (claims .entry)) (λ asked. sessionText (now (book .entry)) asked (now (source .entry)) (now (claims .entry)))) (now (page .exit)) r ⌝ }
-    ensures { λ r. ⌜ length (ofClaims (now (claims .entry)) (λ asked. sessionText (now (book .entry)) asked (now (source .entry)) (now (claims .entry)))) ≤ 135343 ⌝ }
+    ensures { λ r. ⌜ length (ofClaims (now (claims .entry)) (λ asked. sessionText (now (book .entry)) asked (now (source .entry)) (now (claims .entry)))) ≤ ASK-ROOM ⌝ }
 {
-    let mut asked = [0u8; 24582];
+    let mut asked = [0u8; text::CLAIMS_ROOM];
     let read = sentences::sources::read_source(Form::Claims, claims, &mut asked);
     match read {
         Source::Unread(bad, reason) => sentences::write_unread(
@@ -125,9 +131,9 @@ pub fn write_ask(
     q: &mut Matrix,
 ) -> Written
     ensures { λ r. ⌜ Page (now (page .entry)) (askText (now (source .entry)) (now (claims .entry))) (now (page .exit)) r ⌝ }
-    ensures { λ r. ⌜ length (askText (now (source .entry)) (now (claims .entry))) ≤ 135343 ⌝ }
+    ensures { λ r. ⌜ length (askText (now (source .entry)) (now (claims .entry))) ≤ ASK-ROOM ⌝ }
 {
-    let mut book = [0u8; 49158];
+    let mut book = [0u8; text::BOOK_ROOM];
     let read = sentences::sources::read_source(Form::Records, source, &mut book);
     match read {
         Source::Unread(bad, reason) => sentences::write_unread(page, sentences::BOOK, bad, reason),
@@ -147,11 +153,11 @@ fn write_about(
     p: &mut Matrix,
     q: &mut Matrix,
 ) -> Written
-    requires { ⌜ length (now claims) ≤ 24582 ⌝ }
+    requires { ⌜ length (now claims) ≤ CLAIMS-ROOM ⌝ }
     ensures { λ r. ⌜ Page (now (page .entry)) (ofBook (now (source .entry)) (λ book. sessionText book (now (claims .entry)) (now (source .entry)) [])) (now (page .exit)) r ⌝ }
-    ensures { λ r. ⌜ length (ofBook (now (source .entry)) (λ book. sessionText book (now (claims .entry)) (now (source .entry)) [])) ≤ 142 + 33 * records (now (claims .entry)) ⌝ }
+    ensures { λ r. ⌜ length (ofBook (now (source .entry)) (λ book. sessionText book (now (claims .entry)) (now (source .entry)) [])) ≤ REFUSED-LINE + CLAIM-LINE * records (now (claims .entry)) ⌝ }
 {
-    let mut book = [0u8; 49158];
+    let mut book = [0u8; text::BOOK_ROOM];
     let none = [0u8; 0];
     let read = sentences::sources::read_source(Form::Records, source, &mut book);
     match read {
@@ -184,7 +190,7 @@ pub fn write_check(
     q: &mut Matrix,
 ) -> Written
     ensures { λ r. ⌜ Page (now (page .entry)) (checkText (now (source .entry))) (now (page .exit)) r ⌝ }
-    ensures { λ r. ⌜ length (checkText (now (source .entry))) ≤ 142 ⌝ }
+    ensures { λ r. ⌜ length (checkText (now (source .entry))) ≤ REFUSED-LINE ⌝ }
 {
     let none = [0u8; 0];
     write_about(source, &none, page, e, d, t, u, p, q)
@@ -203,7 +209,7 @@ pub fn write_ask_words(
     q: &mut Matrix,
 ) -> Written
     ensures { λ r. ⌜ Page (now (page .entry)) (askWordsText (now (source .entry)) (now (words .entry))) (now (page .exit)) r ⌝ }
-    ensures { λ r. ⌜ length (askWordsText (now (source .entry)) (now (words .entry))) ≤ 175 ⌝ }
+    ensures { λ r. ⌜ length (askWordsText (now (source .entry)) (now (words .entry))) ≤ ASK-WORDS-ROOM ⌝ }
 {
     let said = sentences::sources::read_words(Form::Claims, words);
     match said {

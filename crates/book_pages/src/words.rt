@@ -5,6 +5,7 @@ ghost use lib.ListN.{length};
 ghost use Rattle.pages.specs.Written.{Page};
 ghost use Rattle.sentences.specs.Arguments as args;
 ghost use Rattle.book_pages.specs.WordsText.{wordsText};
+ghost use Rattle.sentences.specs.Rooms.{UNREAD-LINE};
 use pages::Written;
 use sentences::sources::Words;
 use text::Form;
@@ -23,7 +24,7 @@ fn speaker(form: Form) -> usize
 // The line of words that cannot be read, and nothing of words that can: 95 bytes always serve.
 pub fn write_words(form: Form, words: &[u8], page: &mut [u8]) -> Written
     ensures { λ r. ⌜ Page (now (page .entry)) (wordsText form (now (words .entry))) (now (page .exit)) r ⌝ }
-    ensures { λ r. ⌜ length (wordsText form (now (words .entry))) ≤ 95 ⌝ }
+    ensures { λ r. ⌜ length (wordsText form (now (words .entry))) ≤ UNREAD-LINE ⌝ }
 {
     let said = sentences::sources::read_words(form, words);
     match said {

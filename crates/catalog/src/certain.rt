@@ -13,11 +13,18 @@ ghost use Rattle.closure.specs.Bounded.{Bounded};
 ghost use Rattle.closure.specs.Closed.{Holds, partBit, towardBit};
 ghost use Rattle.lists.specs.Passing.{passing};
 ghost use Rattle.catalog.specs.Tells.{parting, Parted, Widened, told};
+ghost use Rattle.matrices.specs.Sizes.{ROW-WORDS};
+ghost use Rattle.records.specs.Sizes.{APART, MEETS, PART, PIECES, RECORD-BYTES};
 use records::Record;
+
+// Kinds that a list is asked for, as the caller gives them.
+const APART: usize = 2;
+
+pub const MEETS: usize = 3;
 
 // Adds what is in a to row 0, if so told.
 fn join_where(on: bool, m: &mut [u64], d: &[u64], a: usize)
-    requires { ⌜ (IsMatrix (now m)) × (IsMatrix (now d)) × (a < 2048) ⌝ }
+    requires { ⌜ (IsMatrix (now m)) × (IsMatrix (now d)) × (a < PIECES) ⌝ }
     ensures { λ _. ⌜ Widened (now (m .entry)) (now (m .exit)) (λ x. on && bitOf (now (d .entry)) a x) ⌝ }
 {
     if !on {
@@ -28,10 +35,10 @@ fn join_where(on: bool, m: &mut [u64], d: &[u64], a: usize)
 
 // Adds to row 0 what a record makes APART from g: where g is in the one piece of an APART, all that is in the other.
 fn part_record(r: Record, g: usize, d: &[u64], m: &mut [u64])
-    requires { ⌜ (IsMatrix (now m)) × (IsMatrix (now d)) × (g < 2048) × (r .kind ≡ 2 → (r .a < 2048) × (r .b < 2048)) ⌝ }
+    requires { ⌜ (IsMatrix (now m)) × (IsMatrix (now d)) × (g < PIECES) × (r .kind ≡ APART → (r .a < PIECES) × (r .b < PIECES)) ⌝ }
     ensures { λ _. ⌜ Widened (now (m .entry)) (now (m .exit)) (parting (now (d .entry)) g r) ⌝ }
 {
-    if r.kind != 2 {
+    if r.kind != records::APART {
         return;
     }
     join_where(matrices::test(d, r.b, g), m, d, r.a);
@@ -40,8 +47,8 @@ fn part_record(r: Record, g: usize, d: &[u64], m: &mut [u64])
 
 // Row 0: what the records of a run make APART from g. D is enough for it, one row for each APART that g is in.
 fn part_from(run: &[u8], g: usize, d: &[u64], m: &mut [u64])
-    requires { ⌜ (IsMatrix (now m)) × (IsMatrix (now d)) × (g < 2048) × AllWithin 2048 (facts (now run)) ⌝ }
-    ensures { λ _. ⌜ Parted (now (d .entry)) (now (run .entry)) g (length (now (run .entry)) / 6) (now (m .exit)) ⌝ }
+    requires { ⌜ (IsMatrix (now m)) × (IsMatrix (now d)) × (g < PIECES) × AllWithin PIECES (facts (now run)) ⌝ }
+    ensures { λ _. ⌜ Parted (now (d .entry)) (now (run .entry)) g (length (now (run .entry)) / RECORD-BYTES) (now (m .exit)) ⌝ }
 {
     matrices::clear_rows(m, 1);
     let n = run.len() / records::RECORD_BYTES;
@@ -63,7 +70,7 @@ fn is_certain(
     t: &[u64],
     m: &[u64],
 ) -> bool
-    requires { ⌜ (kind ≤ 3) × (x < 2048) × (g < 2048) × (length (now voids) ≡ 32) × (IsMatrix (now d)) × (IsMatrix (now t)) × (IsMatrix (now m)) ⌝ }
+    requires { ⌜ (kind ≤ MEETS) × (x < PIECES) × (g < PIECES) × (length (now voids) ≡ ROW-WORDS) × (IsMatrix (now d)) × (IsMatrix (now t)) × (IsMatrix (now m)) ⌝ }
     ensures { λ r. ⌜ r ≡ told (voidOf (now (voids .entry))) (now (d .entry)) (now (t .entry)) (now (m .entry)) kind g x ⌝ }
 {
     if verdicts::marks_tell(kind as u8, x, g, voids) {
@@ -72,7 +79,7 @@ fn is_certain(
     if kind == 1 {
         return matrices::test(d, g, x);
     }
-    if kind == 2 {
+    if kind == APART {
         return matrices::test(m, 0, x);
     }
     matrices::meet(t, x, d, g)
@@ -89,7 +96,7 @@ fn list_certain(
     m: &[u64],
     list: &mut [u16],
 ) -> usize
-    requires { ⌜ (kind ≤ 3) × (g < 2048) × (n ≤ 2048) × (n ≤ length (now list)) × (length (now voids) ≡ 32) × (IsMatrix (now d)) × (IsMatrix (now t)) × (IsMatrix (now m)) ⌝ }
+    requires { ⌜ (kind ≤ MEETS) × (g < PIECES) × (n ≤ PIECES) × (n ≤ length (now list)) × (length (now voids) ≡ ROW-WORDS) × (IsMatrix (now d)) × (IsMatrix (now t)) × (IsMatrix (now m)) ⌝ }
     ensures { λ k. ⌜ (now (list .exit) ≡ front (passing (told (voidOf (now (voids .entry))) (now (d .entry)) (now (t .entry)) (now (m .entry)) kind g) n) (now (list .entry))) × (k ≡ length (passing (told (voidOf (now (voids .entry))) (now (d .entry)) (now (t .entry)) (now (m .entry)) kind g) n)) ⌝ }
 {
     let mut count: usize = 0;
@@ -118,10 +125,10 @@ pub fn list_pieces(
     m: &mut [u64],
     list: &mut [u16],
 ) -> usize
-    requires { ⌜ Bounded n (facts (now run)) × (1 ≤ kind) × (kind ≤ 3) × (g < n) × (n ≤ length (now list)) × Holds n (now d) (partBit n (facts (now run))) × Holds n (now t) (towardBit (voidOf (now voids)) n (facts (now run))) × (IsMatrix (now m)) × Voids (now voids) × (false ≡ clash (voidOf (now voids)) n (facts (now run))) ⌝ }
+    requires { ⌜ Bounded n (facts (now run)) × (PART ≤ kind) × (kind ≤ MEETS) × (g < n) × (n ≤ length (now list)) × Holds n (now d) (partBit n (facts (now run))) × Holds n (now t) (towardBit (voidOf (now voids)) n (facts (now run))) × (IsMatrix (now m)) × Voids (now voids) × (false ≡ clash (voidOf (now voids)) n (facts (now run))) ⌝ }
     ensures { λ k. ⌜ (now (list .exit) ≡ front (passing (λ x. follows (voidOf (now (voids .entry))) n (facts (now (run .entry))) (factOf kind x g)) n) (now (list .entry))) × (k ≡ length (passing (λ x. follows (voidOf (now (voids .entry))) n (facts (now (run .entry))) (factOf kind x g)) n)) ⌝ }
 {
-    if kind != 2 {
+    if kind != APART {
         return list_certain(kind, g, n, voids, d, t, m, list);
     }
     part_from(run, g, d, m);

@@ -15,6 +15,9 @@ ghost use Rattle.contradiction.specs.Settleable.{Settleable};
 ghost use Rattle.contradiction.specs.Settled.{row, Settles, Indexes};
 ghost use Rattle.catalog.specs.Filling as filling;
 ghost use Rattle.catalog.specs.Filling.{asked, Roomy, Asked, Filled, Ready, Judged};
+ghost use Rattle.areas.specs.Sizes.{AREA-NUMBERS};
+ghost use Rattle.matrices.specs.Sizes.{ROW-WORDS};
+ghost use Rattle.records.specs.Sizes.{PIECES};
 use contradiction::Settled;
 use matrices::Matrix;
 use records::BookCheck;
@@ -67,9 +70,9 @@ fn fill(
     ensures { λ r. ⌜ Filled (now (book .entry)) kind g n (now (list .entry)) (now (meets .entry)) (now (apart .entry)) (now (notpart .entry)) r (now (list .exit)) (now (meets .exit)) (now (apart .exit)) (now (notpart .exit)) ⌝ }
 {
     let listed = certain::list_pieces(book, n, kind, g, voids, d, t, m, list);
-    let in_meets = areas::fill_area(book, n, 3, places, m, meets);
-    let in_apart = areas::fill_area(book, n, 2, places, m, apart);
-    let in_notpart = areas::fill_area(book, n, 4, places, m, notpart);
+    let in_meets = areas::fill_area(book, n, records::MEETS, places, m, meets);
+    let in_apart = areas::fill_area(book, n, records::APART, places, m, apart);
+    let in_notpart = areas::fill_area(book, n, records::NOTPART, places, m, notpart);
     Lengths {
         listed,
         meets: in_meets,
@@ -91,7 +94,7 @@ fn settle(
     shadows: &mut [u16],
     places: &mut [u16],
 ) -> Settled
-    requires { ⌜ (bookCheck (now book) ≡ on.Accepted n) × Settleable n (now book) (length (now parens)) (length (now marks)) (length (now shadows)) (length (now places)) × (length (now voids) ≡ 32) ⌝ }
+    requires { ⌜ (bookCheck (now book) ≡ on.Accepted n) × Settleable n (now book) (length (now parens)) (length (now marks)) (length (now shadows)) (length (now places)) × (length (now voids) ≡ ROW-WORDS) ⌝ }
     ensures { λ r. ⌜ MarksOf (now (book .entry)) (now (voids .exit)) × Settles (voidOf (now (voids .exit))) n (now (book .entry)) (now (d .exit)) (now (t .exit)) (row r) × Indexes n (now (book .entry)) (now (parens .exit)) (now (marks .exit)) (now (shadows .exit)) (now (places .exit)) r ⌝ }
 {
     closure::marking::mark_voids(book, voids);
@@ -134,7 +137,7 @@ fn judge(
     requires { ⌜ Asked n kind g × Ready (now book) n (lent (now parens) (now marks) (now shadows) (now places) (now list) (now meets) (now apart) (now notpart)) ⌝ }
     ensures { λ r. ⌜ Judged (now (book .entry)) kind g n (lent (now (parens .entry)) (now (marks .entry)) (now (shadows .entry)) (now (places .entry)) (now (list .entry)) (now (meets .entry)) (now (apart .entry)) (now (notpart .entry))) r (lent (now (parens .exit)) (now (marks .exit)) (now (shadows .exit)) (now (places .exit)) (now (list .exit)) (now (meets .exit)) (now (apart .exit)) (now (notpart .exit))) ⌝ }
 {
-    let mut voids = [0u64; 32];
+    let mut voids = [0u64; matrices::ROW_WORDS];
     let settled = settle(book, n, &mut voids, e, d, t, parens, marks, shadows, places);
     match settled {
         Settled::Clash(place) => {
@@ -181,7 +184,7 @@ fn check_asked(book: &[u8], kind: usize, g: usize) -> BookCheck
             if kind < 1 {
                 return BookCheck::Refused(Refusal::ClaimFormat, 0);
             }
-            if 3 < kind {
+            if certain::MEETS < kind {
                 return BookCheck::Refused(Refusal::ClaimFormat, 0);
             }
             if n <= g {
@@ -194,7 +197,7 @@ fn check_asked(book: &[u8], kind: usize, g: usize) -> BookCheck
 
 // Row 17.
 fn short(list: usize, meets: usize, apart: usize, notpart: usize) -> bool
-    ensures { λ r. ⌜ r ≡ (ltb list 2048 || (ltb meets 16384 || (ltb apart 16384 || ltb notpart 16384))) ⌝ }
+    ensures { λ r. ⌜ r ≡ (ltb list PIECES || (ltb meets AREA-NUMBERS || (ltb apart AREA-NUMBERS || ltb notpart AREA-NUMBERS))) ⌝ }
 {
     if list < records::PIECES {
         return true;

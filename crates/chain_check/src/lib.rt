@@ -5,20 +5,21 @@ ghost use lib.ListN.{length};
 ghost use Rattle.records.specs.Check.{bookCheck};
 ghost use Rattle.records.specs.declared.BookCheck.the-variants as is;
 ghost use Rattle.chain_check.specs.Call.{passes, Checked};
+ghost use Rattle.records.specs.Sizes.{RECORD-BYTES};
 use matrices::Matrix;
 use outcomes::Outcome;
 use records::ClaimsCheck;
 
 // The claim's rows and the steps, in an accepted book of n pieces.
 fn check_accepted(book: &[u8], n: usize, claim: &[u8], steps: &[u8]) -> bool
-    requires { ⌜ (bookCheck (now book) ≡ is.Accepted n) × (length (now claim) ≡ 6) ⌝ }
+    requires { ⌜ (bookCheck (now book) ≡ is.Accepted n) × (length (now claim) ≡ RECORD-BYTES) ⌝ }
     ensures { λ r. ⌜ Checked n (now (book .entry)) (now (claim .entry)) (now (steps .entry)) r ⌝ }
 {
     let fit = records::check_claims(claim, n);
     match fit {
         ClaimsCheck::Refused(_, _) => false,
         ClaimsCheck::Accepted => {
-            let mut voids = [0u64; 32];
+            let mut voids = [0u64; matrices::ROW_WORDS];
             closure::marking::mark_voids(book, &mut voids);
             chain_format::check_steps(book, n, &voids, records::record_at(claim, 0), steps)
         }

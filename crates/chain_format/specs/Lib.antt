@@ -1,3 +1,4 @@
+pub mod Sizes
 pub mod Step
 pub mod Citing
 pub mod Rule

@@ -14,6 +14,8 @@ ghost use Rattle.chain_format.specs.Rule.{rule};
 ghost use Rattle.chain_format.specs.Justified.{some, named, premised, stepOk};
 ghost use Rattle.chain_format.specs.Other as end;
 ghost use Rattle.chain_format.specs.Chain.{chainOk};
+ghost use Rattle.chain_format.specs.Sizes.{STEP-BYTES};
+ghost use Rattle.records.specs.Sizes.{PIECES};
 use crate::steps;
 use crate::steps::Step;
 use records::Record;
@@ -162,7 +164,7 @@ fn by_premises(s: Step, p: Step, q: Step) -> bool
 
 // Whether step i is justified by what the claim lets cite of the book's records and by earlier steps.
 fn step_ok(book: &[u8], n: usize, voids: &[u64], claim: Record, c: &[u8], i: usize) -> bool
-    requires { ⌜ (n ≤ 2048) × MarksOf (now book) (now voids) × (10 * i + 10 ≤ length (now c)) ⌝ }
+    requires { ⌜ (n ≤ PIECES) × MarksOf (now book) (now voids) × (STEP-BYTES * i + STEP-BYTES ≤ length (now c)) ⌝ }
     ensures { λ r. ⌜ r ≡ stepOk n (citing claim (now (book .entry))) (now (c .entry)) i ⌝ }
 {
     let s = steps::step_at(c, i);
@@ -206,7 +208,7 @@ fn step_ok(book: &[u8], n: usize, voids: &[u64], claim: Record, c: &[u8], i: usi
 
 // Whether the steps are a chain behind the answer to the claim, in a book of n pieces with these marks.
 pub fn check_steps(book: &[u8], n: usize, voids: &[u64], claim: Record, c: &[u8]) -> bool
-    requires { ⌜ (n ≤ 2048) × MarksOf (now book) (now voids) × (stated claim ≡ true) ⌝ }
+    requires { ⌜ (n ≤ PIECES) × MarksOf (now book) (now voids) × (stated claim ≡ true) ⌝ }
     ensures { λ r. ⌜ r ≡ chainOk n (citing claim (now (book .entry))) (saying claim) (now (c .entry)) ⌝ }
 {
     if c.len() % crate::STEP_BYTES != 0 {
@@ -216,7 +218,7 @@ pub fn check_steps(book: &[u8], n: usize, voids: &[u64], claim: Record, c: &[u8]
     if m < 1 {
         return false;
     }
-    if 16400 < m {
+    if crate::STEPS < m {
         return false;
     }
     let mut i: usize = 0;
@@ -230,5 +232,5 @@ pub fn check_steps(book: &[u8], n: usize, voids: &[u64], claim: Record, c: &[u8]
     if steps::shows(last, claim.kind, claim.a, claim.b) {
         return true;
     }
-    steps::shows(last, 5 - claim.kind, claim.a, claim.b)
+    steps::shows(last, records::OPPOSITES - claim.kind, claim.a, claim.b)
 }

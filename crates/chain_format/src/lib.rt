@@ -9,6 +9,9 @@ pub use steps::step_at;
 pub mod chain_steps;
 pub mod steps;
 
+// How many steps a chain has at most.
+pub const STEPS: usize = 16400;
+
 pub const STEP_BYTES: usize = 10;
 
 // A chain has at most 16,400 steps.

@@ -10,6 +10,7 @@ ghost use Rattle.chain_format.specs.Citing as may;
 ghost use Rattle.chain_format.specs.Citing.{none, citing};
 ghost use Rattle.chain_format.specs.Rule.{rule};
 ghost use Rattle.chain_format.specs.Justified as by;
+ghost use Rattle.chain_format.specs.Sizes.{STEP-BYTES};
 use records::Record;
 
 // A step: its rule, the kind and the pieces of the fact that it shows, and its premises, or the record that it cites.
@@ -24,7 +25,7 @@ pub struct Step {
 
 // The one reader of steps.
 pub fn step_at(c: &[u8], i: usize) -> Step
-    requires { ⌜ 10 * i + 10 ≤ length (now c) ⌝ }
+    requires { ⌜ STEP-BYTES * i + STEP-BYTES ≤ length (now c) ⌝ }
     ensures { λ r. ⌜ r ≡ stepAt (now (c .entry)) i ⌝ }
 {
     let at = crate::STEP_BYTES * i;

@@ -1,3 +1,4 @@
+pub mod Rooms
 pub mod WhyText
 pub mod Why
 pub mod Clash

@@ -31,7 +31,7 @@ fn put_clash(
 {
     let mut c = [0u8; crate::CHAIN_BYTES];
     let written = clash::write_clash(book, &mut c, e, d, t);
-    let n = 10 * written.steps;
+    let n = chain_format::STEP_BYTES * written.steps;
     put_lines(page, at, &c[..n])
 }
 

@@ -5,6 +5,8 @@ ghost use Rattle.pages.specs.Put.{Put};
 ghost use Rattle.chain_text.specs.ChainText.{Bytes};
 ghost use Rattle.chain_pages.specs.WhyText.{whyText};
 ghost use Rattle.chain_pages.specs.Why.{Whole, OfBook, OfSource, Why};
+ghost use Rattle.chain_format.specs.Sizes.{CHAIN-BYTES};
+ghost use Rattle.chain_pages.specs.Rooms.{WHY-ROOM};
 use chain_writing::Reply;
 use matrices::Matrix;
 use pages::Written;
@@ -15,9 +17,9 @@ use text::Form;
 
 // The text of a reply and of steps, from the start of the page. Answers where it ends.
 fn put_why(page: &mut [u8], source: &[u8], claim: &[u8], reply: Reply, c: &[u8]) -> usize
-    requires { ⌜ Whole (now claim) reply × (length (now c) ≤ 164000) ⌝ }
+    requires { ⌜ Whole (now claim) reply × (length (now c) ≤ CHAIN-BYTES) ⌝ }
     ensures { λ r. ⌜ Put (now (page .entry)) 0 (whyText (now (source .entry)) (now (claim .entry)) reply (now (c .entry))) (now (page .exit)) r ⌝ }
-    ensures { λ r. ⌜ length (whyText (now (source .entry)) (now (claim .entry)) reply (now (c .entry))) ≤ 852835 ⌝ }
+    ensures { λ r. ⌜ length (whyText (now (source .entry)) (now (claim .entry)) reply (now (c .entry))) ≤ WHY-ROOM ⌝ }
     ensures { λ r. ⌜ Bytes (now (c .entry)) ⌝ }
 {
     match reply {
@@ -50,7 +52,7 @@ fn why_book(
     let mut c = [0u8; crate::CHAIN_BYTES];
     let written = chain_writing::write_chain(book, claim, &mut c, e, d, t);
     let reply = written.reply;
-    let n = 10 * written.steps;
+    let n = chain_format::STEP_BYTES * written.steps;
     let end = put_why(page, source, claim, reply, &c[..n]);
     pages::finish(page.len(), end)
 }

@@ -9,6 +9,8 @@ ghost use Rattle.chain_text.specs.StepLine.{stepLine, stepLines};
 ghost use Rattle.chain_text.specs.AnswerLine.{answerLine};
 ghost use Rattle.chain_text.specs.ChainText.{chainText};
 ghost use Rattle.chain_text.specs.Begins.{Passed, Same, Narrow};
+ghost use Rattle.chain_format.specs.Sizes.{CHAIN-BYTES};
+ghost use Rattle.records.specs.Sizes.{RECORD-BYTES};
 use chain_format::Step;
 use verdicts::Answer;
 
@@ -45,10 +47,10 @@ fn pass_step(page: &[u8], at: usize, i: usize, s: Step) -> usize
 
 // Where the lines of all steps end that stand at a place.
 fn pass_steps(page: &[u8], at: usize, c: &[u8]) -> usize
-    requires { ⌜ length (now c) ≤ 164000 ⌝ }
+    requires { ⌜ length (now c) ≤ CHAIN-BYTES ⌝ }
     ensures { λ r. ⌜ Passed (now (page .entry)) at (stepLines (now (c .entry)) (steps (now (c .entry)))) r ⌝ }
 {
-    let n = c.len() / 10;
+    let n = c.len() / chain_format::STEP_BYTES;
     let mut end = at;
     let mut i: usize = 0;
     while i < n {
@@ -60,18 +62,18 @@ fn pass_steps(page: &[u8], at: usize, c: &[u8]) -> usize
 
 // Where the line of the claim with its answer ends, at the start of the page.
 fn pass_answer(page: &[u8], claim: &[u8], answer: Answer) -> usize
-    requires { ⌜ length (now claim) ≡ 6 ⌝ }
+    requires { ⌜ length (now claim) ≡ RECORD-BYTES ⌝ }
     ensures { λ r. ⌜ Passed (now (page .entry)) 0 (answerLine (recordAt (now (claim .entry)) 0) (answerByte answer)) r ⌝ }
 {
     let mut line = [0u8; LINE_BYTES];
     let r = records::record_at(claim, 0);
-    let n = crate::lines::put_answered(&mut line, 0, r, crate::lines::byte_of(answer));
+    let n = crate::lines::put_answered(&mut line, 0, r, verdicts::byte_of(answer));
     pass(page, 0, &line[..n])
 }
 
 // Whether the page is the text of the claim, the answer and the steps.
 pub fn is_text(page: &[u8], claim: &[u8], answer: Answer, c: &[u8]) -> bool
-    requires { ⌜ (length (now claim) ≡ 6) × (length (now c) ≤ 164000) ⌝ }
+    requires { ⌜ (length (now claim) ≡ RECORD-BYTES) × (length (now c) ≤ CHAIN-BYTES) ⌝ }
     ensures { λ r. ⌜ Same (now (page .entry)) (chainText (recordAt (now (claim .entry)) 0) answer (now (c .entry))) r ⌝ }
 {
     let at = pass_answer(page, claim, answer);

@@ -7,6 +7,8 @@ ghost use Rattle.records.specs.Record.{recordAt};
 ghost use Rattle.records.specs.Facts.{saying};
 ghost use Rattle.records.specs.Pieces.{stated};
 ghost use Rattle.chain_text.specs.Verified.{tells, Judged, Verifies};
+ghost use Rattle.chain_format.specs.Sizes.{CHAIN-BYTES, STEP-BYTES};
+ghost use Rattle.records.specs.Sizes.{RECORD-BYTES};
 use matrices::Matrix;
 use verdicts::Answer;
 
@@ -19,14 +21,14 @@ const CHAIN_BYTES: usize = 164000;
 
 // Whether the last step shows the claim, or its opposite, as the answer says. The kinds of opposite facts add up to 5.
 fn last_tells(claim: &[u8], answer: Answer, c: &[u8]) -> bool
-    requires { ⌜ (length (now claim) ≡ 6) × (10 ≤ length (now c)) × (stated (recordAt (now claim) 0) ≡ true) ⌝ }
+    requires { ⌜ (length (now claim) ≡ RECORD-BYTES) × (STEP-BYTES ≤ length (now c)) × (stated (recordAt (now claim) 0) ≡ true) ⌝ }
     ensures { λ r. ⌜ r ≡ tells answer (saying (recordAt (now (claim .entry)) 0)) (now (c .entry)) ⌝ }
 {
     let f = records::record_at(claim, 0);
-    let s = chain_format::step_at(c, c.len() / 10 - 1);
+    let s = chain_format::step_at(c, c.len() / chain_format::STEP_BYTES - 1);
     match answer {
         Answer::Follows => chain_format::shows(s, f.kind, f.a, f.b),
-        Answer::Denied => chain_format::shows(s, 5 - f.kind, f.a, f.b),
+        Answer::Denied => chain_format::shows(s, records::OPPOSITES - f.kind, f.a, f.b),
         Answer::Open => false,
     }
 }
@@ -45,7 +47,7 @@ fn is_page_of(
     p: &mut Matrix,
     q: &mut Matrix,
 ) -> bool
-    requires { ⌜ (length (now claim) ≡ 6) × (length (now c) ≤ 164000) ⌝ }
+    requires { ⌜ (length (now claim) ≡ RECORD-BYTES) × (length (now c) ≤ CHAIN-BYTES) ⌝ }
     ensures { λ r. ⌜ Judged (now (book .entry)) (now (page .entry)) (now (claim .entry)) answer (now (c .entry)) r ⌝ }
 {
     if comparing::is_text(page, claim, answer, c) {
@@ -75,6 +77,6 @@ pub fn verify(
     let answer = head.answer;
     let mut c = [0u8; CHAIN_BYTES];
     let n = reading::read_steps(page, head.next, &mut c);
-    let end = 10 * n;
+    let end = chain_format::STEP_BYTES * n;
     is_page_of(book, page, &claim, answer, &c[..end], e, d, t, u, p, q)
 }

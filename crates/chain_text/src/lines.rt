@@ -4,7 +4,6 @@ ghost use Rattle.chain_format.specs.Step.{steps};
 ghost use Rattle.pages.specs.Text.{field};
 ghost use Rattle.pages.specs.Put.{Put};
 ghost use Rattle.pages.specs.Entry.{entry};
-ghost use Rattle.verdicts.specs.Answers.{answerByte};
 ghost use Rattle.chain_text.specs.StepLine as on;
 ghost use Rattle.chain_text.specs.StepLine.{grounds, ground, stepLine, stepLines};
 ghost use Rattle.chain_text.specs.AnswerLine.{answerLine};
@@ -65,7 +64,7 @@ pub fn put_step(page: &mut [u8], at: usize, i: usize, s: Step) -> usize
 pub fn put_steps(page: &mut [u8], at: usize, c: &[u8]) -> usize
     ensures { λ r. ⌜ Put (now (page .entry)) at (stepLines (now (c .entry)) (steps (now (c .entry)))) (now (page .exit)) r ⌝ }
 {
-    let n = c.len() / 10;
+    let n = c.len() / chain_format::STEP_BYTES;
     let mut end = at;
     let mut i: usize = 0;
     while i < n {
@@ -90,21 +89,10 @@ pub fn put_answered(page: &mut [u8], at: usize, claim: Record, answer: u8) -> us
     sentences::put_answer(page, at, answer, b'\n')
 }
 
-// Document 01's byte of an answer.
-pub fn byte_of(answer: Answer) -> u8
-    ensures { λ r. ⌜ r ≡ answerByte answer ⌝ }
-{
-    match answer {
-        Answer::Follows => 1,
-        Answer::Denied => 2,
-        Answer::Open => 3,
-    }
-}
-
 // The text of a chain.
 pub fn put_chain(page: &mut [u8], at: usize, claim: Record, answer: Answer, c: &[u8]) -> usize
     ensures { λ r. ⌜ Put (now (page .entry)) at (chainText claim answer (now (c .entry))) (now (page .exit)) r ⌝ }
 {
-    let at = put_answered(page, at, claim, byte_of(answer));
+    let at = put_answered(page, at, claim, verdicts::byte_of(answer));
     put_steps(page, at, c)
 }

@@ -5,6 +5,8 @@ ghost use lib.ListN.{length, take, drop, getD};
 ghost use Rattle.lists.specs.Front.{placed};
 ghost use Rattle.chain_text.specs.Read.{valueOf, placeIn, kindBy, ruleIn, originBy, answerBy, stepBytes, stepsIn};
 ghost use Rattle.chain_text.specs.Found.{FoundAt, FoundIf, StepAt, HeadOf};
+ghost use Rattle.chain_format.specs.Sizes.{CHAIN-BYTES, STEP-BYTES, STEPS};
+ghost use Rattle.numbers.specs.Sizes.{BYTE-VALUES};
 use chain_format::Step;
 use records::Record;
 use text::words::Number;
@@ -79,7 +81,7 @@ fn number_if(n: usize, s: &[u8], at: usize) -> Found
 
 // The place of a byte in a table.
 fn place_of(table: &[u8], x: u8) -> u8
-    ensures { λ r. ⌜ r ≡ placeIn 0 (now (table .entry)) x % 256 ⌝ }
+    ensures { λ r. ⌜ r ≡ placeIn 0 (now (table .entry)) x % BYTE-VALUES ⌝ }
 {
     let mut i: usize = 0;
     while i < table.len() {
@@ -103,7 +105,7 @@ fn rule_at(s: &[u8], at: usize) -> u8
     ensures { λ r. ⌜ r ≡ ruleIn (drop at (now (s .entry))) ⌝ }
 {
     let x = byte(s, at + 6);
-    if byte(s, at + 7) == 39 {
+    if byte(s, at + 7) == b'\'' {
         return place_of(b".....abcde", x);
     }
     place_of(b"Dabcf.....de", x)
@@ -136,8 +138,8 @@ fn read_step(s: &[u8], at: usize) -> StepFound
 }
 
 fn put_step(c: &mut [u8], i: usize, s: Step)
-    requires { ⌜ 10 * i + 10 ≤ length (now c) ⌝ }
-    ensures { λ _. ⌜ now (c .exit) ≡ placed (10 * i) (stepBytes s) (now (c .entry)) ⌝ }
+    requires { ⌜ STEP-BYTES * i + STEP-BYTES ≤ length (now c) ⌝ }
+    ensures { λ _. ⌜ now (c .exit) ≡ placed (STEP-BYTES * i) (stepBytes s) (now (c .entry)) ⌝ }
 {
     let a = s.a;
     let b = s.b;
@@ -147,25 +149,25 @@ fn put_step(c: &mut [u8], i: usize, s: Step)
         s.rule,
         s.kind,
         numbers::low(a),
-        numbers::low(a / 256),
+        numbers::low(a / numbers::BYTE_VALUES),
         numbers::low(b),
-        numbers::low(b / 256),
+        numbers::low(b / numbers::BYTE_VALUES),
         numbers::low(f),
-        numbers::low(f / 256),
+        numbers::low(f / numbers::BYTE_VALUES),
         numbers::low(g),
-        numbers::low(g / 256),
+        numbers::low(g / numbers::BYTE_VALUES),
     ];
-    numbers::copy_to(&ten, c, 10 * i);
+    numbers::copy_to(&ten, c, chain_format::STEP_BYTES * i);
 }
 
 // Reads steps, 16,400 at most, into the front of c, and says how many.
 pub fn read_steps(s: &[u8], at: usize, c: &mut [u8]) -> usize
-    requires { ⌜ (at ≤ length (now s)) × (164000 ≤ length (now c)) ⌝ }
-    ensures { λ r. ⌜ (r ≤ 16400) × (take (10 * r) (now (c .exit)) ≡ stepsIn 16400 (drop at (now (s .entry)))) ⌝ }
+    requires { ⌜ (at ≤ length (now s)) × (CHAIN-BYTES ≤ length (now c)) ⌝ }
+    ensures { λ r. ⌜ (r ≤ STEPS) × (take (STEP-BYTES * r) (now (c .exit)) ≡ stepsIn STEPS (drop at (now (s .entry)))) ⌝ }
 {
     let mut at = at;
     let mut n: usize = 0;
-    while n < 16400 {
+    while n < chain_format::STEPS {
         let i = number_behind(s, at);
         if i.some {
             let read = read_step(s, i.next);
@@ -182,7 +184,7 @@ pub fn read_steps(s: &[u8], at: usize, c: &mut [u8]) -> usize
 fn origin_by(x: u8) -> u8
     ensures { λ r. ⌜ r ≡ originBy x ⌝ }
 {
-    if x == 115 {
+    if x == b's' {
         return 1;
     }
     0
@@ -191,7 +193,7 @@ fn origin_by(x: u8) -> u8
 fn answer_by(x: u8) -> Answer
     ensures { λ r. ⌜ r ≡ answerBy x ⌝ }
 {
-    if x == 70 {
+    if x == b'F' {
         return Answer::Follows;
     }
     Answer::Denied

@@ -16,6 +16,7 @@ ghost use Rattle.chain_writing.specs.declared.Reply.the-variants.{Refuse
 ghost use Rattle.contradiction.specs.Opened.{Opened};
 ghost use Rattle.closure.specs.Void.{voidOf};
 ghost use Rattle.chain_writing.specs.Call.{Answering, Judged, Written};
+ghost use Rattle.chain_format.specs.Sizes.{CHAIN-BYTES};
 use contradiction::Row14;
 use derivations::showing::Fact;
 use matrices::Matrix;
@@ -48,7 +49,7 @@ fn write_found(
     t: &Matrix,
     c: &mut [u8],
 ) -> Chain
-    requires { ⌜ Ground n claim (now book) (now voids) (now e) (now d) (now t) × (stated claim ≡ true) × Within n (saying claim) × (164000 ≤ length (now c)) ⌝ }
+    requires { ⌜ Ground n claim (now book) (now voids) (now e) (now d) (now t) × (stated claim ≡ true) × Within n (saying claim) × (CHAIN-BYTES ≤ length (now c)) ⌝ }
     ensures { λ r. ⌜ Answering n claim (now (book .entry)) (now (c .entry)) r (now (c .exit)) ⌝ }
 {
     let stated = Fact {
@@ -64,7 +65,7 @@ fn write_found(
         };
     }
     let opposite = Fact {
-        kind: 5 - claim.kind,
+        kind: records::OPPOSITES - claim.kind,
         a: claim.a,
         b: claim.b,
     };
@@ -92,7 +93,7 @@ fn write_whole(
     t: &Matrix,
     c: &mut [u8],
 ) -> Chain
-    requires { ⌜ (bookCheck (now book) ≡ is.Accepted n) × MarksOf (now book) (now voids) × Opened (voidOf (now voids)) n (facts (now book)) (now d) (now t) false × (claim .origin ≡ 0) × (stated claim ≡ true) × Within n (saying claim) × (164000 ≤ length (now c)) ⌝ }
+    requires { ⌜ (bookCheck (now book) ≡ is.Accepted n) × MarksOf (now book) (now voids) × Opened (voidOf (now voids)) n (facts (now book)) (now d) (now t) false × (claim .origin ≡ 0) × (stated claim ≡ true) × Within n (saying claim) × (CHAIN-BYTES ≤ length (now c)) ⌝ }
     ensures { λ r. ⌜ Answering n claim (now (book .entry)) (now (c .entry)) r (now (c .exit)) ⌝ }
 {
     let kind = claim.kind;
@@ -107,7 +108,7 @@ fn write_whole(
             steps: 1,
         };
     }
-    let other = derivations::search::find_single(n, claim, book, 5 - kind, a, b);
+    let other = derivations::search::find_single(n, claim, book, records::OPPOSITES - kind, a, b);
     if other.found {
         let step = other.step;
         derivations::writing::put_step(c, 0, step);
@@ -131,7 +132,7 @@ fn write_restricted(
     t: &mut Matrix,
     c: &mut [u8],
 ) -> Chain
-    requires { ⌜ (bookCheck (now book) ≡ is.Accepted n) × MarksOf (now book) (now voids) × (false ≡ clash (marked (now book)) n (facts (now book))) × ((claim .origin ≡ 0) → ⊥) × (stated claim ≡ true) × Within n (saying claim) × (164000 ≤ length (now c)) ⌝ }
+    requires { ⌜ (bookCheck (now book) ≡ is.Accepted n) × MarksOf (now book) (now voids) × (false ≡ clash (marked (now book)) n (facts (now book))) × ((claim .origin ≡ 0) → ⊥) × (stated claim ≡ true) × Within n (saying claim) × (CHAIN-BYTES ≤ length (now c)) ⌝ }
     ensures { λ r. ⌜ Answering n claim (now (book .entry)) (now (c .entry)) r (now (c .exit)) ⌝ }
 {
     let mut kept = [0u8; records::BOOK_BYTES];
@@ -163,10 +164,10 @@ fn judge(
     d: &mut Matrix,
     t: &mut Matrix,
 ) -> Chain
-    requires { ⌜ (bookCheck (now book) ≡ is.Accepted n) × (stated claim ≡ true) × Within n (saying claim) × (164000 ≤ length (now c)) ⌝ }
+    requires { ⌜ (bookCheck (now book) ≡ is.Accepted n) × (stated claim ≡ true) × Within n (saying claim) × (CHAIN-BYTES ≤ length (now c)) ⌝ }
     ensures { λ r. ⌜ Judged n claim (now (book .entry)) (now (c .entry)) r (now (c .exit)) ⌝ }
 {
-    let mut voids = [0u64; 32];
+    let mut voids = [0u64; matrices::ROW_WORDS];
     closure::marking::mark_voids(book, &mut voids);
     let mut order = [0u16; matrices::ROWS];
     let mut lead = [0u16; matrices::ROWS];

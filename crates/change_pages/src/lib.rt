@@ -9,6 +9,8 @@ ghost use Rattle.sentences.specs.Unread.{unreadLine};
 ghost use Rattle.change_pages.specs.Change.{New, Kept, newLine};
 ghost use Rattle.change_pages.specs.Changes.{judged, packing, converting, adding, withdrawing, withdrawn, without};
 ghost use Rattle.change_pages.specs.Made.{Made};
+ghost use Rattle.sentences.specs.Rooms.{REFUSED-LINE};
+ghost use Rattle.text.specs.Rooms.{BOOK-ROOM};
 use convert::Conversion;
 use matrices::Matrix;
 use outcomes::Outcome;
@@ -17,6 +19,9 @@ use records::Refusal;
 use sentences::sources::Source;
 use sentences::sources::Words;
 use text::Form;
+
+// The bytes of a new book: a record more than a book that is read.
+pub const OUT_BYTES: usize = 49164;
 
 // The page, how many bytes of the lent ones are the new book, and whether there is one.
 pub struct Changed {
@@ -28,10 +33,10 @@ pub struct Changed {
 // The line of a new book, on a page of its own.
 fn write_line(page: &mut [u8], run: &[u8]) -> Written
     ensures { λ r. ⌜ Page (now (page .entry)) (newLine (now (run .entry))) (now (page .exit)) r ⌝ }
-    ensures { λ r. ⌜ length (newLine (now (run .entry))) ≤ 142 ⌝ }
+    ensures { λ r. ⌜ length (newLine (now (run .entry))) ≤ REFUSED-LINE ⌝ }
 {
     let at = pages::put(page, 0, b"RECORDS ");
-    let at = pages::put_number(page, at, run.len() / 6, b' ');
+    let at = pages::put_number(page, at, run.len() / records::RECORD_BYTES, b' ');
     let at = pages::put(page, at, b"PIECES ");
     let at = pages::put_number(page, at, records::piece_count(run), b'\n');
     pages::finish(page.len(), at)
@@ -40,7 +45,7 @@ fn write_line(page: &mut [u8], run: &[u8]) -> Written
 // The page of an empty book that was made.
 pub fn write_new(page: &mut [u8]) -> Written
     ensures { λ r. ⌜ Page (now (page .entry)) (newLine []) (now (page .exit)) r ⌝ }
-    ensures { λ r. ⌜ length (newLine []) ≤ 142 ⌝ }
+    ensures { λ r. ⌜ length (newLine []) ≤ REFUSED-LINE ⌝ }
 {
     let none = [0u8; 0];
     write_line(page, &none)
@@ -110,7 +115,7 @@ fn settle(
 // A book in either form as records.
 pub fn write_packed(
     source: &[u8],
-    out: &mut [u8; 49164],
+    out: &mut [u8; OUT_BYTES],
     page: &mut [u8],
     e: &mut Matrix,
     d: &mut Matrix,
@@ -131,7 +136,7 @@ pub fn write_packed(
 // A book of the former edition, converted.
 pub fn write_converted(
     source: &[u8],
-    out: &mut [u8; 49164],
+    out: &mut [u8; OUT_BYTES],
     page: &mut [u8],
     e: &mut Matrix,
     d: &mut Matrix,
@@ -139,7 +144,7 @@ pub fn write_converted(
 ) -> Changed
     ensures { λ r. ⌜ Made (converting (now (source .entry))) (now (out .exit)) (now (page .entry)) (now (page .exit)) r ⌝ }
 {
-    let mut book = [0u8; 49158];
+    let mut book = [0u8; text::BOOK_ROOM];
     let read = sentences::sources::read_source(Form::Records, source, &mut book);
     match read {
         Source::Unread(bad, reason) => tell(page, sentences::BOOK, bad, reason),
@@ -156,9 +161,9 @@ pub fn write_converted(
 // A book of records with six bytes behind it.
 fn extend(
     book: &[u8],
-    six: [u8; 6],
+    six: [u8; records::RECORD_BYTES],
     source: &[u8],
-    out: &mut [u8; 49164],
+    out: &mut [u8; OUT_BYTES],
     page: &mut [u8],
     e: &mut Matrix,
     d: &mut Matrix,
@@ -167,10 +172,10 @@ fn extend(
     p: &mut Matrix,
     q: &mut Matrix,
 ) -> Changed
-    requires { ⌜ length (now book) ≤ 49158 ⌝ }
+    requires { ⌜ length (now book) ≤ BOOK-ROOM ⌝ }
     ensures { λ r. ⌜ Made (judged (now (source .entry)) (now (book .entry) ++ six) (freshCall (now (book .entry) ++ six) [])) (now (out .exit)) (now (page .entry)) (now (page .exit)) r ⌝ }
 {
-    let n = book.len() + 6;
+    let n = book.len() + records::RECORD_BYTES;
     working::runs::write_runs(book, &six, out);
     settle(page, source, out, n, e, d, t, u, p, q)
 }
@@ -179,7 +184,7 @@ fn extend(
 pub fn write_added(
     source: &[u8],
     words: &[u8],
-    out: &mut [u8; 49164],
+    out: &mut [u8; OUT_BYTES],
     page: &mut [u8],
     e: &mut Matrix,
     d: &mut Matrix,
@@ -195,9 +200,9 @@ pub fn write_added(
         Words::Wrong(reason) => tell(page, sentences::WORDS, 0, reason),
         Words::Entry(record) => {
             if text::is_text(source) {
-                return tell(page, sentences::BOOK, 0, 6);
+                return tell(page, sentences::BOOK, 0, sentences::TOO_LONG);
             }
-            let n = numbers::smaller_of(source.len(), 49158);
+            let n = numbers::smaller_of(source.len(), text::BOOK_ROOM);
             let six = sentences::sources::six_bytes(record);
             extend(&source[..n], six, source, out, page, e, d, t, u, p, q)
         }
@@ -209,7 +214,7 @@ fn withdraw(
     book: &[u8],
     i: usize,
     source: &[u8],
-    out: &mut [u8; 49164],
+    out: &mut [u8; OUT_BYTES],
     page: &mut [u8],
     e: &mut Matrix,
     d: &mut Matrix,
@@ -218,21 +223,21 @@ fn withdraw(
     p: &mut Matrix,
     q: &mut Matrix,
 ) -> Changed
-    requires { ⌜ length (now book) ≤ 49158 ⌝ }
+    requires { ⌜ length (now book) ≤ BOOK-ROOM ⌝ }
     ensures { λ r. ⌜ Made (judged (now (source .entry)) (without (now (book .entry)) i) (withdrawn (now (book .entry)) i)) (now (out .exit)) (now (page .entry)) (now (page .exit)) r ⌝ }
 {
     let end = book.len();
-    if end % 6 != 0 {
+    if end % records::RECORD_BYTES != 0 {
         return refuse(page, Refusal::BookLength, 0, source);
     }
-    if 8192 < end / 6 {
+    if records::RECORDS < end / records::RECORD_BYTES {
         return refuse(page, Refusal::TooManyRecords, 0, source);
     }
-    if end / 6 <= i {
+    if end / records::RECORD_BYTES <= i {
         return refuse(page, Refusal::NotStanding, 0, source);
     }
-    working::runs::write_without(book, 6 * i, end, out);
-    let n = end - 6;
+    working::runs::write_without(book, records::RECORD_BYTES * i, end, out);
+    let n = end - records::RECORD_BYTES;
     settle(page, source, out, n, e, d, t, u, p, q)
 }
 
@@ -240,7 +245,7 @@ fn withdraw(
 pub fn write_withdrawn(
     source: &[u8],
     words: &[u8],
-    out: &mut [u8; 49164],
+    out: &mut [u8; OUT_BYTES],
     page: &mut [u8],
     e: &mut Matrix,
     d: &mut Matrix,
@@ -256,9 +261,9 @@ pub fn write_withdrawn(
         Words::Wrong(reason) => tell(page, sentences::WORDS, 0, reason),
         Words::Entry(number) => {
             if text::is_text(source) {
-                return tell(page, sentences::BOOK, 0, 6);
+                return tell(page, sentences::BOOK, 0, sentences::TOO_LONG);
             }
-            let n = numbers::smaller_of(source.len(), 49158);
+            let n = numbers::smaller_of(source.len(), text::BOOK_ROOM);
             withdraw(&source[..n], number.a, source, out, page, e, d, t, u, p, q)
         }
     }

@@ -4,23 +4,10 @@ ghost use lib.ListN.{length};
 ghost use Rattle.records.specs.Facts.{facts};
 ghost use Rattle.records.specs.Kept.{sheets};
 ghost use Rattle.closure.specs.Void.{voidOf};
-ghost use Rattle.verdicts.specs.Answers.{answerByte};
 ghost use Rattle.records.specs.Claimed.{answersTo};
 ghost use Rattle.claims.specs.Answered.{Closing, AnsweredFrom, Answers, restricted, Restrictable, Answerable};
 use matrices::Matrix;
 use matrices::RowNumbers;
-use verdicts::Answer;
-
-// The byte of an answer.
-fn byte_of(answer: Answer) -> u8
-    ensures { λ r. ⌜ r ≡ answerByte answer ⌝ }
-{
-    match answer {
-        Answer::Follows => 1,
-        Answer::Denied => 2,
-        Answer::Open => 3,
-    }
-}
 
 // Answers each claim of one origin from the marks and the closure that are lent.
 fn answer_each(
@@ -46,7 +33,7 @@ fn answer_each(
             continue;
         }
         let answer = verdicts::answer_to(claim.kind, claim.a, claim.b, voids, d, u, p, t, q);
-        answers[i] = byte_of(answer);
+        answers[i] = verdicts::byte_of(answer);
         i += 1;
     }
 }

@@ -8,6 +8,8 @@ ghost use Rattle.records.specs.declared.BookCheck.the-variants as is;
 ghost use Rattle.clash.specs.declared.Reply.the-variants.{Refused};
 ghost use Rattle.clash.specs.Clash.{unrestricted, clashOk, passes, Written};
 ghost use Rattle.clash.specs.Silenced.{silencedByte, silenced, Placed, Behind};
+ghost use Rattle.chain_format.specs.Sizes.{CHAIN-BYTES};
+ghost use Rattle.records.specs.Sizes.{RECORD-BYTES};
 use contradiction::Row14;
 use derivations::showing::Fact;
 use matrices::Matrix;
@@ -34,10 +36,10 @@ fn silenced_byte(book: &[u8], i: usize, p: usize) -> u8
     ensures { λ r. ⌜ r ≡ silencedByte i p (getD (now (book .entry)) p 0) ⌝ }
 {
     let x = book[p];
-    if p % 6 != 0 {
+    if p % records::RECORD_BYTES != 0 {
         return x;
     }
-    if p / 6 < i {
+    if p / records::RECORD_BYTES < i {
         return x;
     }
     if x < 1 {
@@ -64,7 +66,7 @@ fn silence(book: &[u8], i: usize, out: &mut [u8])
 
 // Record i as a claim that picks all facts.
 fn claim_at(book: &[u8], i: usize) -> Record
-    requires { ⌜ 6 * i + 6 ≤ length (now book) ⌝ }
+    requires { ⌜ RECORD-BYTES * i + RECORD-BYTES ≤ length (now book) ⌝ }
     ensures { λ r. ⌜ r ≡ unrestricted (recordAt (now (book .entry)) i) ⌝ }
 {
     let r = records::record_at(book, i);
@@ -90,7 +92,7 @@ fn write_behind(
     t: &mut Matrix,
     c: &mut [u8],
 ) -> usize
-    requires { ⌜ Placed (now book) place n (now voids) × (164000 ≤ length (now c)) ⌝ }
+    requires { ⌜ Placed (now book) place n (now voids) × (CHAIN-BYTES ≤ length (now c)) ⌝ }
     ensures { λ r. ⌜ Behind (now (book .entry)) place (now (c .entry)) r (now (c .exit)) ⌝ }
 {
     let mut copy = [0u8; records::BOOK_BYTES];
@@ -101,7 +103,7 @@ fn write_behind(
     closure::edges(run, n, e);
     let claim = claim_at(book, place);
     let opposite = Fact {
-        kind: 5 - claim.kind,
+        kind: records::OPPOSITES - claim.kind,
         a: claim.a,
         b: claim.b,
     };
@@ -117,10 +119,10 @@ fn judge(
     d: &mut Matrix,
     t: &mut Matrix,
 ) -> Clash
-    requires { ⌜ (bookCheck (now book) ≡ is.Accepted n) × (164000 ≤ length (now c)) ⌝ }
+    requires { ⌜ (bookCheck (now book) ≡ is.Accepted n) × (CHAIN-BYTES ≤ length (now c)) ⌝ }
     ensures { λ r. ⌜ Written (now (book .entry)) (now (c .entry)) r (now (c .exit)) ⌝ }
 {
-    let mut voids = [0u64; 32];
+    let mut voids = [0u64; matrices::ROW_WORDS];
     closure::marking::mark_voids(book, &mut voids);
     let mut order = [0u16; matrices::ROWS];
     let mut lead = [0u16; matrices::ROWS];
@@ -183,7 +185,7 @@ fn check_behind(book: &[u8], place: usize, n: usize, voids: &[u64], c: &[u8]) ->
         return false;
     }
     let last = chain_format::step_at(c, c.len() / chain_format::STEP_BYTES - 1);
-    chain_format::shows(last, 5 - claim.kind, claim.a, claim.b)
+    chain_format::shows(last, records::OPPOSITES - claim.kind, claim.a, claim.b)
 }
 
 // Row 14 and the steps, for a book of n pieces that passes the rows before.
@@ -198,7 +200,7 @@ fn check_sound(
     requires { ⌜ bookCheck (now book) ≡ is.Accepted n ⌝ }
     ensures { λ r. ⌜ r ≡ passes (now (book .entry)) (now (steps .entry)) ⌝ }
 {
-    let mut voids = [0u64; 32];
+    let mut voids = [0u64; matrices::ROW_WORDS];
     closure::marking::mark_voids(book, &mut voids);
     let mut order = [0u16; matrices::ROWS];
     let mut lead = [0u16; matrices::ROWS];

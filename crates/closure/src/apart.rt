@@ -11,11 +11,13 @@ ghost use Rattle.closure.specs.Stepped.{Stepped};
 ghost use Rattle.closure.specs.Closed.{Grown, Holds, partBit};
 ghost use Rattle.closure.specs.Apart.{markedApart, apartBit, Aparts};
 ghost use Rattle.matrices.specs.Matrix.{IsMatrix};
+ghost use Rattle.matrices.specs.Sizes.{ROW-WORDS};
+ghost use Rattle.records.specs.Sizes.{PIECES};
 use crate::storing;
 
 // Each marked piece as apart from piece 0, in both orders.
 fn part_marked(n: usize, voids: &[u64], m: &mut [u64])
-    requires { ⌜ (length (now voids) ≡ 32) × (IsMatrix (now m)) × (n ≤ 2048) ⌝ }
+    requires { ⌜ (length (now voids) ≡ ROW-WORDS) × (IsMatrix (now m)) × (n ≤ PIECES) ⌝ }
     ensures { λ _. ⌜ Grown (now (m .entry)) (now (m .exit)) (markedApart (voidOf (now (voids .entry))) n) ⌝ }
 {
     let mut i: usize = 0;
@@ -32,7 +34,7 @@ fn apart_told(run: &[u8], n: usize, voids: &[u64], m: &mut [u64])
     requires { ⌜ Bounded n (facts (now run)) × Voids (now voids) × (IsMatrix (now m)) ⌝ }
     ensures { λ _. ⌜ Holds n (now (m .exit)) (apartBit (voidOf (now (voids .entry))) n (facts (now (run .entry)))) ⌝ }
 {
-    storing::store(run, n, 2, true, true, m);
+    storing::store(run, n, records::APART, true, true, m);
     part_marked(n, voids, m);
 }
 

@@ -13,6 +13,7 @@ ghost use Rattle.matrices.specs.Flow.{Sorted, Carried};
 ghost use Rattle.matrices.specs.Led.{Led};
 ghost use Rattle.closure.specs.Stepped.{Stepped};
 ghost use Rattle.matrices.specs.Matrix.{IsMatrix};
+ghost use Rattle.records.specs.Sizes.{PIECES};
 pub use storing::edges;
 pub use storing::step_stored;
 pub use storing::steps;
@@ -26,13 +27,13 @@ fn meets(run: &[u8], n: usize, voids: &[u64], m: &mut [u64])
     requires { ⌜ Bounded n (facts (now run)) × Voids (now voids) × (IsMatrix (now m)) ⌝ }
     ensures { λ _. ⌜ Holds n (now (m .exit)) (meetBit (voidOf (now (voids .entry))) n (facts (now (run .entry)))) ⌝ }
 {
-    storing::store(run, n, 3, true, true, m);
+    storing::store(run, n, records::MEETS, true, true, m);
     storing::diagonal_unmarked(n, voids, m);
 }
 
 // Each row below n becomes the union of the rows of its parts: followers' rows are joined at their leaders.
 fn join_parts(n: usize, e: &[u64], order: &[u16], lead: &[u16], m: &mut [u64])
-    requires { ⌜ (IsMatrix (now m)) × (IsMatrix (now e)) × (n ≤ 2048) × Sorted (now e) n (now order) × Led n (now lead) ⌝ }
+    requires { ⌜ (IsMatrix (now m)) × (IsMatrix (now e)) × (n ≤ PIECES) × Sorted (now e) n (now order) × Led n (now lead) ⌝ }
     ensures { λ _. ⌜ ((fs : List Fact) → Bounded n fs → Stepped n fs (now (e .entry)) (now (order .entry)) (now (lead .entry)) → Carried (partBit n fs) n (now (m .entry)) (now (m .exit))) ⌝ }
 {
     matrices::pool_rows(lead, n, m);
@@ -42,7 +43,7 @@ fn join_parts(n: usize, e: &[u64], order: &[u16], lead: &[u16], m: &mut [u64])
 
 // Each row below n becomes the union of the rows of what it is part of.
 fn join_wholes(n: usize, e: &[u64], order: &[u16], lead: &[u16], m: &mut [u64])
-    requires { ⌜ (IsMatrix (now m)) × (IsMatrix (now e)) × (n ≤ 2048) × Sorted (now e) n (now order) × Led n (now lead) ⌝ }
+    requires { ⌜ (IsMatrix (now m)) × (IsMatrix (now e)) × (n ≤ PIECES) × Sorted (now e) n (now order) × Led n (now lead) ⌝ }
     ensures { λ _. ⌜ ((fs : List Fact) → Bounded n fs → Stepped n fs (now (e .entry)) (now (order .entry)) (now (lead .entry)) → Carried (wholeBit n fs) n (now (m .entry)) (now (m .exit))) ⌝ }
 {
     matrices::pool_rows(lead, n, m);
@@ -52,7 +53,7 @@ fn join_wholes(n: usize, e: &[u64], order: &[u16], lead: &[u16], m: &mut [u64])
 
 // D: the parts of each piece below n, from the steps alone.
 pub fn part_rows(n: usize, e: &[u64], order: &[u16], lead: &[u16], d: &mut [u64])
-    requires { ⌜ (IsMatrix (now d)) × (IsMatrix (now e)) × (n ≤ 2048) × Sorted (now e) n (now order) × Led n (now lead) ⌝ }
+    requires { ⌜ (IsMatrix (now d)) × (IsMatrix (now e)) × (n ≤ PIECES) × Sorted (now e) n (now order) × Led n (now lead) ⌝ }
     ensures { λ _. ⌜ ((fs : List Fact) → Bounded n fs → Stepped n fs (now (e .entry)) (now (order .entry)) (now (lead .entry)) → Holds n (now (d .exit)) (partBit n fs)) ⌝ }
 {
     matrices::clear_rows(d, n);
@@ -82,7 +83,7 @@ fn parting(run: &[u8], n: usize, e: &[u64], order: &[u16], lead: &[u16], p: &mut
     requires { ⌜ Bounded n (facts (now run)) × Stepped n (facts (now run)) (now e) (now order) (now lead) × (IsMatrix (now p)) ⌝ }
     ensures { λ _. ⌜ Holds n (now (p .exit)) (awayBit n (facts (now (run .entry)))) ⌝ }
 {
-    storing::store(run, n, 2, true, true, p);
+    storing::store(run, n, records::APART, true, true, p);
     join_wholes(n, e, order, lead, p);
 }
 
@@ -102,7 +103,7 @@ fn outing(
     ensures { λ _. ⌜ Holds n (now (q .exit)) (outBit (voidOf (now (voids .entry))) n (facts (now (run .entry)))) ⌝ }
 {
     meets(run, n, voids, m);
-    storing::store(run, n, 4, true, false, q);
+    storing::store(run, n, records::NOTPART, true, false, q);
     matrices::product(q, m, p, n);
     join_parts(n, e, order, lead, q);
 }

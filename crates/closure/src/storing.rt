@@ -12,11 +12,13 @@ ghost use Rattle.closure.specs.Closed.{Grown, Holds};
 ghost use Rattle.closure.specs.Bounded.{Bounded};
 ghost use Rattle.matrices.specs.Led.{Led};
 ghost use Rattle.matrices.specs.Matrix.{IsMatrix};
+ghost use Rattle.matrices.specs.Sizes.{ROW-WORDS};
+ghost use Rattle.records.specs.Sizes.{NOTPART, PART, PIECES};
 use records::Record;
 
 // Sets bit i of row r, if so told.
 pub fn insert_where(on: bool, m: &mut [u64], r: usize, i: usize)
-    requires { ⌜ (IsMatrix (now m)) × (r < 2048) × (i < 2048) ⌝ }
+    requires { ⌜ (IsMatrix (now m)) × (r < PIECES) × (i < PIECES) ⌝ }
     ensures { λ _. ⌜ Grown (now (m .entry)) (now (m .exit)) (λ x y. on && (eqb r x && eqb i y)) ⌝ }
 {
     if !on {
@@ -27,7 +29,7 @@ pub fn insert_where(on: bool, m: &mut [u64], r: usize, i: usize)
 
 // Sets the bits of one record of that kind.
 fn store_record(m: &mut [u64], r: Record, kind: u8, straight: bool, swapped: bool)
-    requires { ⌜ (IsMatrix (now m)) × (r .kind ≡ kind → (r .a < 2048) × (r .b < 2048)) ⌝ }
+    requires { ⌜ (IsMatrix (now m)) × (r .kind ≡ kind → (r .a < PIECES) × (r .b < PIECES)) ⌝ }
     ensures { λ _. ⌜ Grown (now (m .entry)) (now (m .exit)) (λ x y. eqb (r .kind) kind && ((straight && (eqb (r .a) x && eqb (r .b) y)) || (swapped && (eqb (r .a) y && eqb (r .b) x)))) ⌝ }
 {
     if r.kind != kind {
@@ -39,7 +41,7 @@ fn store_record(m: &mut [u64], r: Record, kind: u8, straight: bool, swapped: boo
 
 // The stored facts of one kind as a matrix: bit b of row a where `straight`, bit a of row b where `swapped`.
 pub fn store(run: &[u8], n: usize, kind: u8, straight: bool, swapped: bool, m: &mut [u64])
-    requires { ⌜ (IsMatrix (now m)) × (1 ≤ kind) × (kind ≤ 4) × Bounded n (facts (now run)) ⌝ }
+    requires { ⌜ (IsMatrix (now m)) × (PART ≤ kind) × (kind ≤ NOTPART) × Bounded n (facts (now run)) ⌝ }
     ensures { λ _. ⌜ Holds n (now (m .exit)) (storedBit (facts (now (run .entry))) kind straight swapped) ⌝ }
 {
     matrices::clear_rows(m, n);
@@ -54,7 +56,7 @@ pub fn store(run: &[u8], n: usize, kind: u8, straight: bool, swapped: bool, m: &
 
 // Sets the first n bits of the diagonal.
 pub fn diagonal(n: usize, m: &mut [u64])
-    requires { ⌜ (IsMatrix (now m)) × (n ≤ 2048) ⌝ }
+    requires { ⌜ (IsMatrix (now m)) × (n ≤ PIECES) ⌝ }
     ensures { λ _. ⌜ Grown (now (m .entry)) (now (m .exit)) (λ x y. eqb x y && ltb x n) ⌝ }
 {
     let mut i: usize = 0;
@@ -66,7 +68,7 @@ pub fn diagonal(n: usize, m: &mut [u64])
 
 // The same, but for the pieces that are marked.
 pub fn diagonal_unmarked(n: usize, voids: &[u64], m: &mut [u64])
-    requires { ⌜ (length (now voids) ≡ 32) × (IsMatrix (now m)) × (n ≤ 2048) ⌝ }
+    requires { ⌜ (length (now voids) ≡ ROW-WORDS) × (IsMatrix (now m)) × (n ≤ PIECES) ⌝ }
     ensures { λ _. ⌜ Grown (now (m .entry)) (now (m .exit)) (λ x y. eqb x y && (ltb x n && not (voidOf (now (voids .entry)) x))) ⌝ }
 {
     let mut i: usize = 0;
@@ -78,7 +80,7 @@ pub fn diagonal_unmarked(n: usize, voids: &[u64], m: &mut [u64])
 
 // Every piece but 0 as a part of piece 0.
 fn crown(n: usize, e: &mut [u64])
-    requires { ⌜ (IsMatrix (now e)) × (n ≤ 2048) × (0 < n) ⌝ }
+    requires { ⌜ (IsMatrix (now e)) × (n ≤ PIECES) × (0 < n) ⌝ }
     ensures { λ _. ⌜ Grown (now (e .entry)) (now (e .exit)) (λ x y. eqb x 0 && (ltb 0 y && ltb y n)) ⌝ }
 {
     let mut p: usize = 1;
@@ -93,7 +95,7 @@ pub fn edges(run: &[u8], n: usize, e: &mut [u64])
     requires { ⌜ Bounded n (facts (now run)) × (IsMatrix (now e)) ⌝ }
     ensures { λ _. ⌜ Holds n (now (e .exit)) (edgeBit n (facts (now (run .entry)))) ⌝ }
 {
-    store(run, n, 1, false, true, e);
+    store(run, n, records::PART, false, true, e);
     crown(n, e);
 }
 
@@ -106,8 +108,8 @@ fn leader(lead: &[u16], g: usize) -> usize
 
 // Sets the step that a record makes between the leaders of its pieces, where they differ.
 fn step_record(r: Record, lead: &[u16], e: &mut [u64])
-    requires { ⌜ (IsMatrix (now e)) × (r .kind ≡ 1 → (r .a < length (now lead)) × (r .b < length (now lead)) × (getD (now lead) (r .a) 0 < 2048) × (getD (now lead) (r .b) 0 < 2048)) ⌝ }
-    ensures { λ _. ⌜ Grown (now (e .entry)) (now (e .exit)) (λ x y. eqb (r .kind) 1 && stepping (now (lead .entry)) x y (r .a) (r .b)) ⌝ }
+    requires { ⌜ (IsMatrix (now e)) × (r .kind ≡ PART → (r .a < length (now lead)) × (r .b < length (now lead)) × (getD (now lead) (r .a) 0 < PIECES) × (getD (now lead) (r .b) 0 < PIECES)) ⌝ }
+    ensures { λ _. ⌜ Grown (now (e .entry)) (now (e .exit)) (λ x y. eqb (r .kind) PART && stepping (now (lead .entry)) x y (r .a) (r .b)) ⌝ }
 {
     if r.kind != records::PART {
         return;
@@ -120,7 +122,7 @@ fn step_record(r: Record, lead: &[u16], e: &mut [u64])
 // The stored PARTs, container to part, between pieces that go by different names: their leaders, or the numbers of their groups.
 pub fn step_stored(run: &[u8], lead: &[u16], n: usize, e: &mut [u64])
     requires { ⌜ Bounded n (facts (now run)) × (n ≤ length (now lead)) × ((g : ℕ) → g < n → getD (now lead) g 0 < n) × (IsMatrix (now e)) ⌝ }
-    ensures { λ _. ⌜ Holds n (now (e .exit)) (λ x y. storing (facts (now (run .entry))) 1 (stepping (now (lead .entry)) x y)) ⌝ }
+    ensures { λ _. ⌜ Holds n (now (e .exit)) (λ x y. storing (facts (now (run .entry))) PART (stepping (now (lead .entry)) x y)) ⌝ }
 {
     matrices::clear_rows(e, n);
     let count = run.len() / records::RECORD_BYTES;
@@ -134,7 +136,7 @@ pub fn step_stored(run: &[u8], lead: &[u16], n: usize, e: &mut [u64])
 
 // Every leader but 0 as a part of piece 0.
 fn crown_leaders(lead: &[u16], n: usize, e: &mut [u64])
-    requires { ⌜ (IsMatrix (now e)) × (n ≤ 2048) × (0 < n) × (n ≤ length (now lead)) ⌝ }
+    requires { ⌜ (IsMatrix (now e)) × (n ≤ PIECES) × (0 < n) × (n ≤ length (now lead)) ⌝ }
     ensures { λ _. ⌜ Grown (now (e .entry)) (now (e .exit)) (λ x y. eqb x 0 && (ltb 0 y && (ltb y n && eqb (getD (now (lead .entry)) y 0) y))) ⌝ }
 {
     let mut p: usize = 1;

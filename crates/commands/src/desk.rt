@@ -137,7 +137,7 @@ pub fn change_page(
     which: Change,
     source: &[u8],
     words: &[u8],
-    out: &mut [u8; 49164],
+    out: &mut [u8; change_pages::OUT_BYTES],
     page: &mut [u8],
     e: &mut Matrix,
     d: &mut Matrix,
@@ -168,7 +168,7 @@ pub fn change_page(
 pub fn export_page(
     which: Export,
     source: &[u8],
-    out: &mut [u8; 49164],
+    out: &mut [u8; change_pages::OUT_BYTES],
     page: &mut [u8],
     e: &mut Matrix,
     d: &mut Matrix,

@@ -6,6 +6,16 @@ ghost use Rattle.lists.specs.Front.{front};
 ghost use Rattle.compare.specs.Agreement.{agreement, threes};
 ghost use Rattle.compare.specs.Together.{Joins};
 
+// The byte of an answer OPEN, and those of two answers that differ.
+const OPEN: u8 = 3;
+
+const ONE_OPEN: u8 = 2;
+
+const OPPOSED: u8 = 3;
+
+// A comparison has three bytes a claim.
+pub const COMPARED_BYTES: usize = 3;
+
 // The records of two books.
 pub const JOINT_BYTES: usize = 98304;
 
@@ -16,13 +26,13 @@ fn agreement_of(x: u8, y: u8) -> u8
     if x == y {
         return 1;
     }
-    if x == 3 {
-        return 2;
+    if x == OPEN {
+        return ONE_OPEN;
     }
-    if y == 3 {
-        return 2;
+    if y == OPEN {
+        return ONE_OPEN;
     }
-    3
+    OPPOSED
 }
 
 // Three bytes for each claim.
@@ -35,7 +45,7 @@ pub fn write_answers(ours: &[u8], theirs: &[u8], out: &mut [u8])
     while i < n {
         let x = ours[i];
         let y = theirs[i];
-        let at = 3 * i;
+        let at = COMPARED_BYTES * i;
         out[at] = x;
         out[at + 1] = y;
         out[at + 2] = agreement_of(x, y);

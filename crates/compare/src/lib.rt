@@ -21,6 +21,9 @@ use records::Refusal;
 
 pub mod joint;
 
+// The number of the second book in a refusal.
+pub const SECOND: usize = 2;
+
 // What a comparison comes to: whether both books can be laid together, or the refusal of a book, 1 or 2, or of buffers and claims, 0, and its place.
 pub enum Comparison {
     Compared(bool),
@@ -32,7 +35,7 @@ fn are_consistent(run: &[u8], n: usize, e: &mut Matrix, d: &mut Matrix, t: &mut 
     requires { ⌜ Judgeable (now run) n ⌝ }
     ensures { λ r. ⌜ r ≡ not (clash (marked (now (run .entry))) n (facts (now (run .entry)))) ⌝ }
 {
-    let mut voids = [0u64; 32];
+    let mut voids = [0u64; matrices::ROW_WORDS];
     closure::marking::mark_voids(run, &mut voids);
     !contradiction::contradicts(run, n, &voids, e, d, t)
 }
@@ -105,7 +108,7 @@ fn judge_both(
     }
     let two = answer_book(second, n, claims, e, d, t, u, p, q, &mut theirs[..asked]);
     if let Outcome::Refused(refusal, place) = two {
-        return Comparison::Refused(2, refusal, place);
+        return Comparison::Refused(SECOND, refusal, place);
     }
     let consistent = are_consistent(run, n, e, d, t);
     joint::write_answers(&ours[..asked], &theirs[..asked], out);
@@ -156,7 +159,7 @@ fn check_asked(
     match fit {
         ClaimsCheck::Refused(refusal, place) => {
             let rest = after(
-                2,
+                SECOND,
                 second,
                 Comparison::Refused(0, refusal, place),
                 e,
@@ -215,7 +218,7 @@ fn check_books(
                     after(
                         1,
                         first,
-                        Comparison::Refused(2, refusal, place),
+                        Comparison::Refused(SECOND, refusal, place),
                         e,
                         d,
                         t,
@@ -263,7 +266,7 @@ pub fn compare(
     ensures demanded { λ r. ⌜ Demanded (now (first .entry)) (now (second .entry)) (now (claims .entry)) (length (now (out .entry))) (now (out .exit)) r ⌝ }
 {
     let asked = claims.len() / records::RECORD_BYTES;
-    if out.len() < 3 * asked {
+    if out.len() < joint::COMPARED_BYTES * asked {
         return Comparison::Refused(0, Refusal::ShortBuffer, 0);
     }
     let mut run = [0u8; joint::JOINT_BYTES];

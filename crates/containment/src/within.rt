@@ -6,6 +6,8 @@ ghost use Rattle.containment.specs.Filling.{Setting, Leads, Seeded, Fill
 ghost use Rattle.containment.specs.Contents.{Stored, Contents};
 ghost use Rattle.matrices.specs.Led.{Led};
 ghost use Rattle.matrices.specs.Matrix.{IsMatrix};
+ghost use Rattle.index.specs.Sizes.{NODES};
+ghost use Rattle.matrices.specs.Sizes.{ROWS};
 use index::DatasetId;
 use index::TreeId;
 use numbers::shorts;
@@ -56,7 +58,7 @@ fn end_at(ends: &[u16], q: TreeId) -> TreeId
 
 // Puts each piece below n that follows another into that one's row, and clears every other bit of the rows below n.
 fn seed(n: usize, lead: &[u16], rows: &mut [u64])
-    requires { ⌜ (n ≤ 2048) × (IsMatrix (now rows)) × Led n (now lead) ⌝ }
+    requires { ⌜ (n ≤ ROWS) × (IsMatrix (now rows)) × Led n (now lead) ⌝ }
     ensures { λ _. ⌜ Seeded n n (now (lead .entry)) (now (rows .exit)) ⌝ }
 {
     matrices::clear_rows(rows, n);
@@ -99,7 +101,7 @@ fn contents_by(
     ends: &mut [u16],
     turned: &mut [u16],
 )
-    requires { ⌜ (n ≤ 2048) × (nodes ≤ 10240) × (IsMatrix (now rows)) × Stored n nodes (now parens) (now marks) (now shadows) (now places) (now lead) × (nodes ≤ length (now ends)) × (nodes ≤ length (now turned)) ⌝ }
+    requires { ⌜ (n ≤ ROWS) × (nodes ≤ NODES) × (IsMatrix (now rows)) × Stored n nodes (now parens) (now marks) (now shadows) (now places) (now lead) × (nodes ≤ length (now ends)) × (nodes ≤ length (now turned)) ⌝ }
     ensures { λ _. ⌜ Contents n (now (parens .entry)) (now (marks .entry)) (now (shadows .entry)) (now (places .entry)) (now (rows .exit)) ⌝ }
 {
     let bytes = (nodes + 3) / 4;
@@ -122,7 +124,7 @@ pub fn contents(
     lead: &[u16],
     rows: &mut [u64],
 )
-    requires { ⌜ (n ≤ 2048) × (nodes ≤ 10240) × (IsMatrix (now rows)) × Stored n nodes (now parens) (now marks) (now shadows) (now places) (now lead) ⌝ }
+    requires { ⌜ (n ≤ ROWS) × (nodes ≤ NODES) × (IsMatrix (now rows)) × Stored n nodes (now parens) (now marks) (now shadows) (now places) (now lead) ⌝ }
     ensures { λ _. ⌜ Contents n (now (parens .entry)) (now (marks .entry)) (now (shadows .entry)) (now (places .entry)) (now (rows .exit)) ⌝ }
 {
     if nodes <= SMALL_TREE {

@@ -14,6 +14,7 @@ ghost use Rattle.records.specs.PartIn.{partIn};
 ghost use Rattle.contradiction.specs.Numbered.{Numbered};
 ghost use Rattle.contradiction.specs.Opened.{Opened};
 ghost use Rattle.contradiction.specs.Settleable.{Settleable};
+ghost use Rattle.records.specs.Sizes.{RECORD-BYTES};
 use matrices::Matrix;
 use matrices::RowNumbers;
 
@@ -45,7 +46,7 @@ fn index_of(
     shadows: &mut [u16],
     places: &mut [u16],
 ) -> index::Counts
-    requires { ⌜ Bounded n (facts (now run)) × Numbered n (facts (now run)) (now number) count × Roomy n (length (now run) / 6) (length (now parens)) (length (now marks)) (length (now shadows)) (length (now places)) ⌝ }
+    requires { ⌜ Bounded n (facts (now run)) × Numbered n (facts (now run)) (now number) count × Roomy n (length (now run) / RECORD-BYTES) (length (now parens)) (length (now marks)) (length (now shadows)) (length (now places)) ⌝ }
     ensures { λ r. ⌜ BookIndex n (partIn (facts (now (run .entry)))) (now (parens .exit)) (now (marks .exit)) (now (shadows .exit)) (now (places .exit)) (r .nodes) (r .shadows) ⌝ }
 {
     let mut groups = [0u16; matrices::ROWS];

@@ -31,7 +31,7 @@ fn contradiction(
     let mut high = book.len() / records::RECORD_BYTES;
     while low + 1 < high {
         let mid = (low + high) / 2;
-        let end = 6 * mid;
+        let end = records::RECORD_BYTES * mid;
         if first_matrices::contradicts(&book[..end], n, voids, e, d, t) {
             high = mid;
             continue;

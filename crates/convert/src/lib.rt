@@ -43,7 +43,14 @@ fn write_book(book: &[u8], n: usize, out: &mut [u8]) -> usize
     if n <= records::piece_count(&out[..at]) {
         return at;
     }
-    let last = [1u8, 0, ((n - 1) % 256) as u8, ((n - 1) / 256) as u8, 0, 0];
+    let last = [
+        records::PART,
+        0,
+        ((n - 1) % numbers::BYTE_VALUES) as u8,
+        ((n - 1) / numbers::BYTE_VALUES) as u8,
+        0,
+        0,
+    ];
     records::copy_where(true, &last, 0, out, at)
 }
 
@@ -52,7 +59,7 @@ fn settle(book: &[u8], n: usize, e: &mut Matrix, d: &mut Matrix, t: &mut Matrix)
     requires { ⌜ FormerBook (now book) n ⌝ }
     ensures { λ r. ⌜ Judged (now (book .entry)) n r ⌝ }
 {
-    let voids = [0u64; 32];
+    let voids = [0u64; matrices::ROW_WORDS];
     let mut order = [0u16; matrices::ROWS];
     let mut lead = [0u16; matrices::ROWS];
     contradiction::settle_alone(book, n, &voids, e, &mut order, &mut lead, d, t)

@@ -1,3 +1,4 @@
+pub mod Sizes
 pub mod Climbs
 pub mod Distinct
 pub mod Hops

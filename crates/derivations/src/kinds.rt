@@ -9,6 +9,8 @@ ghost use Rattle.records.specs.Marked.{marked};
 ghost use Rattle.derivations.specs.Aim.{serving};
 ghost use Rattle.derivations.specs.declared.search.Aim.the-variants.{Outside};
 ghost use Rattle.derivations.specs.Found.{Ground, Voided, Chained};
+ghost use Rattle.chain_format.specs.Sizes.{CHAIN-BYTES};
+ghost use Rattle.records.specs.Sizes.{PIECES, RECORDS};
 use crate::search::Aim;
 use crate::showing;
 use crate::showing::Fact;
@@ -27,7 +29,7 @@ fn chain_part(
     f: Fact,
     c: &mut [u8],
 ) -> usize
-    requires { ⌜ Ground n claim (now book) (now voids) (now e) (now d) (now t) × (f .a < n) × (f .b < n) × (164000 ≤ length (now c)) ⌝ }
+    requires { ⌜ Ground n claim (now book) (now voids) (now e) (now d) (now t) × (f .a < n) × (f .b < n) × (CHAIN-BYTES ≤ length (now c)) ⌝ }
     ensures { λ r. ⌜ Chained n claim (now (book .entry)) (fact.PART (f .a) (f .b)) (now (c .entry)) (now (c .exit)) r ⌝ }
 {
     let a = f.a;
@@ -56,7 +58,7 @@ fn chain_part(
 
 // The step a APART b by a mark of g, which is a or b.
 fn void_step(book: &[u8], g: usize, a: usize, b: usize, c: &mut [u8]) -> usize
-    requires { ⌜ (marked (now book) g ≡ true) × (records (now book) ≤ 8192) × (a < 2048) × (b < 2048) × (164000 ≤ length (now c)) ⌝ }
+    requires { ⌜ (marked (now book) g ≡ true) × (records (now book) ≤ RECORDS) × (a < PIECES) × (b < PIECES) × (CHAIN-BYTES ≤ length (now c)) ⌝ }
     ensures { λ r. ⌜ Voided (now (book .entry)) g a b (now (c .entry)) (now (c .exit)) r ⌝ }
 {
     let i = crate::search::find_mark(book, g);
@@ -87,7 +89,7 @@ fn chain_apart(
     f: Fact,
     c: &mut [u8],
 ) -> usize
-    requires { ⌜ Ground n claim (now book) (now voids) (now e) (now d) (now t) × (f .a < n) × (f .b < n) × (164000 ≤ length (now c)) ⌝ }
+    requires { ⌜ Ground n claim (now book) (now voids) (now e) (now d) (now t) × (f .a < n) × (f .b < n) × (CHAIN-BYTES ≤ length (now c)) ⌝ }
     ensures { λ r. ⌜ Chained n claim (now (book .entry)) (fact.APART (f .a) (f .b)) (now (c .entry)) (now (c .exit)) r ⌝ }
 {
     let a = f.a;
@@ -123,7 +125,7 @@ fn chain_meets(
     f: Fact,
     c: &mut [u8],
 ) -> usize
-    requires { ⌜ Ground n claim (now book) (now voids) (now e) (now d) (now t) × (f .a < n) × (f .b < n) × (164000 ≤ length (now c)) ⌝ }
+    requires { ⌜ Ground n claim (now book) (now voids) (now e) (now d) (now t) × (f .a < n) × (f .b < n) × (CHAIN-BYTES ≤ length (now c)) ⌝ }
     ensures { λ r. ⌜ Chained n claim (now (book .entry)) (fact.MEETS (f .a) (f .b)) (now (c .entry)) (now (c .exit)) r ⌝ }
 {
     let met = crate::search::find_meeting(n, claim, book, voids, e, d, t, f.a, f.b);
@@ -146,7 +148,7 @@ fn chain_outside_void(
     f: Fact,
     c: &mut [u8],
 ) -> usize
-    requires { ⌜ Ground n claim (now book) (now voids) (now e) (now d) (now t) × (f .a < n) × (f .b < n) × (marked (now book) (f .a) ≡ false) × (marked (now book) (f .b) ≡ true) × (164000 ≤ length (now c)) ⌝ }
+    requires { ⌜ Ground n claim (now book) (now voids) (now e) (now d) (now t) × (f .a < n) × (f .b < n) × (marked (now book) (f .a) ≡ false) × (marked (now book) (f .b) ≡ true) × (CHAIN-BYTES ≤ length (now c)) ⌝ }
     ensures { λ r. ⌜ Chained n claim (now (book .entry)) (fact.NOTPART (f .a) (f .b)) (now (c .entry)) (now (c .exit)) r ⌝ }
 {
     let a = f.a;
@@ -204,7 +206,7 @@ fn chain_outside(
     i: usize,
     c: &mut [u8],
 ) -> usize
-    requires { ⌜ Ground n claim (now book) (now voids) (now e) (now d) (now t) × (f .a < n) × (f .b < n) × (i < records (now book)) × (serving Outside claim (now d) (now t) (f .a) (f .b) (recordAt (now book) i) ≡ true) × (164000 ≤ length (now c)) ⌝ }
+    requires { ⌜ Ground n claim (now book) (now voids) (now e) (now d) (now t) × (f .a < n) × (f .b < n) × (i < records (now book)) × (serving Outside claim (now d) (now t) (f .a) (f .b) (recordAt (now book) i) ≡ true) × (CHAIN-BYTES ≤ length (now c)) ⌝ }
     ensures { λ r. ⌜ Chained n claim (now (book .entry)) (fact.NOTPART (f .a) (f .b)) (now (c .entry)) (now (c .exit)) r ⌝ }
 {
     let u = crate::search::cite_record(Aim::Outside, n, claim, book, d, t, f.a, f.b, i);
@@ -228,12 +230,12 @@ fn chain_notpart(
     f: Fact,
     c: &mut [u8],
 ) -> usize
-    requires { ⌜ Ground n claim (now book) (now voids) (now e) (now d) (now t) × (f .a < n) × (f .b < n) × (164000 ≤ length (now c)) ⌝ }
+    requires { ⌜ Ground n claim (now book) (now voids) (now e) (now d) (now t) × (f .a < n) × (f .b < n) × (CHAIN-BYTES ≤ length (now c)) ⌝ }
     ensures { λ r. ⌜ Chained n claim (now (book .entry)) (fact.NOTPART (f .a) (f .b)) (now (c .entry)) (now (c .exit)) r ⌝ }
 {
     let a = f.a;
     let b = f.b;
-    if verdicts::marks_tell(4, a, b, voids) {
+    if verdicts::marks_tell(records::NOTPART, a, b, voids) {
         return chain_outside_void(n, claim, book, voids, e, d, t, f, c);
     }
     let m = book.len() / records::RECORD_BYTES;
@@ -266,7 +268,7 @@ pub fn chain_for(
     f: Fact,
     c: &mut [u8],
 ) -> usize
-    requires { ⌜ Ground n claim (now book) (now voids) (now e) (now d) (now t) × (f .a < n) × (f .b < n) × (164000 ≤ length (now c)) ⌝ }
+    requires { ⌜ Ground n claim (now book) (now voids) (now e) (now d) (now t) × (f .a < n) × (f .b < n) × (CHAIN-BYTES ≤ length (now c)) ⌝ }
     ensures { λ r. ⌜ Chained n claim (now (book .entry)) (fact.factOf (f .kind) (f .a) (f .b)) (now (c .entry)) (now (c .exit)) r ⌝ }
 {
     if f.kind == records::PART {

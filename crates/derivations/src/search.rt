@@ -12,6 +12,8 @@ ghost use Rattle.closure.specs.Void.{voidOf};
 ghost use Rattle.chain_format.specs.Citing.{citing};
 ghost use Rattle.derivations.specs.Aim.{kindFor, joining, serving};
 ghost use Rattle.derivations.specs.Found.{Found, Singly, Ground, Citable, Witnessed, Met};
+ghost use Rattle.matrices.specs.Sizes.{ROW-WORDS};
+ghost use Rattle.records.specs.Sizes.{NOTPART, PART, PIECES, RECORDS};
 use chain_format::Step;
 use records::Record;
 
@@ -44,7 +46,7 @@ pub struct Single {
 
 // Two bits of a matrix.
 fn both(d: &[u64], r: usize, i: usize, s: usize, j: usize) -> bool
-    requires { ⌜ (IsMatrix (now d)) × (r < 2048) × (i < 2048) × (s < 2048) × (j < 2048) ⌝ }
+    requires { ⌜ (IsMatrix (now d)) × (r < PIECES) × (i < PIECES) × (s < PIECES) × (j < PIECES) ⌝ }
     ensures { λ b. ⌜ b ≡ (bitOf (now (d .entry)) r i && bitOf (now (d .entry)) s j) ⌝ }
 {
     if !matrices::test(d, r, i) {
@@ -55,7 +57,7 @@ fn both(d: &[u64], r: usize, i: usize, s: usize, j: usize) -> bool
 
 // Whether the pieces x and y of a record lead to a fact about a and b.
 fn joins(aim: Aim, d: &[u64], t: &[u64], a: usize, b: usize, x: usize, y: usize) -> bool
-    requires { ⌜ (IsMatrix (now d)) × (IsMatrix (now t)) × (a < 2048) × (b < 2048) × (x < 2048) × (y < 2048) ⌝ }
+    requires { ⌜ (IsMatrix (now d)) × (IsMatrix (now t)) × (a < PIECES) × (b < PIECES) × (x < PIECES) × (y < PIECES) ⌝ }
     ensures { λ r. ⌜ r ≡ joining aim (now (d .entry)) (now (t .entry)) a b x y ⌝ }
 {
     match aim {
@@ -75,16 +77,16 @@ fn kind_for(aim: Aim) -> u8
     ensures { λ k. ⌜ k ≡ kindFor aim ⌝ }
 {
     match aim {
-        Aim::Apart => 2,
-        Aim::Meets => 3,
-        Aim::NotPart => 4,
-        Aim::Outside => 2,
+        Aim::Apart => records::APART,
+        Aim::Meets => records::MEETS,
+        Aim::NotPart => records::NOTPART,
+        Aim::Outside => records::APART,
     }
 }
 
 // Whether a record may be cited and leads to a fact about a and b.
 fn serves(aim: Aim, claim: Record, d: &[u64], t: &[u64], a: usize, b: usize, r: Record) -> bool
-    requires { ⌜ (IsMatrix (now d)) × (IsMatrix (now t)) × (a < 2048) × (b < 2048) × (1 ≤ r .kind → r .kind ≤ 4 → (r .a < 2048) × (r .b < 2048)) ⌝ }
+    requires { ⌜ (IsMatrix (now d)) × (IsMatrix (now t)) × (a < PIECES) × (b < PIECES) × (PART ≤ r .kind → r .kind ≤ NOTPART → (r .a < PIECES) × (r .b < PIECES)) ⌝ }
     ensures { λ x. ⌜ x ≡ serving aim claim (now (d .entry)) (now (t .entry)) a b r ⌝ }
 {
     if r.kind != kind_for(aim) {
@@ -112,7 +114,7 @@ pub fn find_record(
     a: usize,
     b: usize,
 ) -> usize
-    requires { ⌜ (IsMatrix (now d)) × (IsMatrix (now t)) × (a < 2048) × (b < 2048) × AllWithin 2048 (facts (now book)) ⌝ }
+    requires { ⌜ (IsMatrix (now d)) × (IsMatrix (now t)) × (a < PIECES) × (b < PIECES) × AllWithin PIECES (facts (now book)) ⌝ }
     ensures { λ r. ⌜ Found (λ i. serving aim claim (now (d .entry)) (now (t .entry)) a b (recordAt (now (book .entry)) i)) (records (now (book .entry))) r ⌝ }
 {
     let m = book.len() / records::RECORD_BYTES;
@@ -167,7 +169,7 @@ pub fn cite_record(
 
 // A step that shows the fact of this kind about a and b by rule (f), or by a record that may be cited. No matrix is asked.
 pub fn find_single(n: usize, claim: Record, book: &[u8], kind: u8, a: usize, b: usize) -> Single
-    requires { ⌜ (n ≤ 2048) × (a < n) × (b < n) × (records (now book) ≤ 8192) ⌝ }
+    requires { ⌜ (n ≤ PIECES) × (a < n) × (b < n) × (records (now book) ≤ RECORDS) ⌝ }
     ensures { λ r. ⌜ Singly n (citing claim (now (book .entry))) kind a b r ⌝ }
 {
     let mut step = Step {
@@ -222,7 +224,7 @@ pub fn find_mark(book: &[u8], g: usize) -> usize
 
 // The first piece in both a and b that is not marked; n where there is none.
 fn find_common(n: usize, voids: &[u64], d: &[u64], a: usize, b: usize) -> usize
-    requires { ⌜ (n ≤ 2048) × (length (now voids) ≡ 32) × (IsMatrix (now d)) × (a < 2048) × (b < 2048) ⌝ }
+    requires { ⌜ (n ≤ PIECES) × (length (now voids) ≡ ROW-WORDS) × (IsMatrix (now d)) × (a < PIECES) × (b < PIECES) ⌝ }
     ensures { λ r. ⌜ Found (λ x. not (voidOf (now (voids .entry)) x) && (bitOf (now (d .entry)) a x && bitOf (now (d .entry)) b x)) n r ⌝ }
 {
     let mut x: usize = 0;

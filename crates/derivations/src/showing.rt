@@ -11,6 +11,9 @@ ghost use Rattle.derivations.specs.Distinct.{Upward};
 ghost use Rattle.derivations.specs.Lifts.{Setting, Telling, Unmarked, Inside, Reached, Leads, Lifted, Grounded, Carried, Lifts, Routed, Spans, Outlies};
 ghost use Rattle.derivations.specs.Routes.{liftTo, routeTo};
 ghost use Rattle.derivations.specs.Commons.{Last, Risen, Joined};
+ghost use Rattle.chain_format.specs.Sizes.{CHAIN-BYTES, STEPS};
+ghost use Rattle.derivations.specs.Sizes.{HOPS, LIFT-STEPS, LIFTS-STEPS};
+ghost use Rattle.records.specs.Sizes.{MEETS, PIECES};
 use crate::search::Witness;
 use chain_format::Step;
 use records::Record;
@@ -47,7 +50,7 @@ pub fn show_part(
     c: &mut [u8],
     at: usize,
 ) -> usize
-    requires { ⌜ Setting n claim (now book) (now e) × (g < n) × (k < n) × Inside n claim (now book) g k × (164000 ≤ length (now c)) × (at + 4095 ≤ 16400) ⌝ }
+    requires { ⌜ Setting n claim (now book) (now e) × (g < n) × (k < n) × Inside n claim (now book) g k × (CHAIN-BYTES ≤ length (now c)) × (at + LIFT-STEPS ≤ STEPS) ⌝ }
     ensures { λ r. ⌜ Reached n claim (now (book .entry)) g k (now (c .entry)) at (now (c .exit)) r ⌝ }
 {
     let mut hop = [0u16; matrices::ROWS];
@@ -68,7 +71,7 @@ pub fn show_lift(
     c: &mut [u8],
     at: usize,
 ) -> usize
-    requires { ⌜ Setting n claim (now book) (now e) × Leads n claim (now book) l × (164000 ≤ length (now c)) × (at + 4095 ≤ 16400) × (1 ≤ at) ⌝ }
+    requires { ⌜ Setting n claim (now book) (now e) × Leads n claim (now book) l × (CHAIN-BYTES ≤ length (now c)) × (at + LIFT-STEPS ≤ STEPS) × (1 ≤ at) ⌝ }
     ensures { λ r. ⌜ Lifted n claim (now (book .entry)) l (now (c .entry)) at (now (c .exit)) r ⌝ }
 {
     if l.g == l.k {
@@ -117,7 +120,7 @@ fn carry(
     c: &mut [u8],
     at: usize,
 ) -> usize
-    requires { ⌜ Setting n claim (now book) (now e) × Grounded n (citing claim (now book)) base × Carried base route × Leads n claim (now book) (route .once) × Leads n claim (now book) (route .twice) × (164000 ≤ length (now c)) × (at + 8190 ≤ 16400) ⌝ }
+    requires { ⌜ Setting n claim (now book) (now e) × Grounded n (citing claim (now book)) base × Carried base route × Leads n claim (now book) (route .once) × Leads n claim (now book) (route .twice) × (CHAIN-BYTES ≤ length (now c)) × (at + LIFTS-STEPS ≤ STEPS) ⌝ }
     ensures { λ r. ⌜ Lifts n claim (now (book .entry)) base route (now (c .entry)) at (now (c .exit)) r ⌝ }
 {
     let once = route.once;
@@ -181,7 +184,7 @@ pub fn show_fact(
     c: &mut [u8],
     at: usize,
 ) -> usize
-    requires { ⌜ Setting n claim (now book) (now e) × Grounded n (citing claim (now book)) (w .step) × (showing (w .step) (f .kind) (w .x) (w .y) ≡ true) × Routed n claim (now book) (f .kind) (f .a) (f .b) (w .x) (w .y) × (164000 ≤ length (now c)) × (at + 8190 ≤ 16400) ⌝ }
+    requires { ⌜ Setting n claim (now book) (now e) × Grounded n (citing claim (now book)) (w .step) × (showing (w .step) (f .kind) (w .x) (w .y) ≡ true) × Routed n claim (now book) (f .kind) (f .a) (f .b) (w .x) (w .y) × (CHAIN-BYTES ≤ length (now c)) × (at + LIFTS-STEPS ≤ STEPS) ⌝ }
     ensures { λ r. ⌜ Spans n claim (now (book .entry)) (f .kind) (f .a) (f .b) (w .x) (w .y) (now (c .entry)) at (now (c .exit)) r ⌝ }
 {
     let base = w.step;
@@ -191,7 +194,7 @@ pub fn show_fact(
 
 // From g MEETS g, which step `at - 1` shows, to k MEETS g along the hops; nothing where g is k.
 fn rise(n: usize, hop: &[u16], source: &[u16], g: usize, k: usize, c: &mut [u8], at: usize) -> usize
-    requires { ⌜ (length (now hop) ≡ 2048) × (length (now source) ≡ 2048) × (164000 ≤ length (now c)) × (1 ≤ at) × (at + 4095 ≤ 16400) × (g < n) × (k < n) × (n ≤ 2048) × Reaches (now hop) k g 2047 ⌝ }
+    requires { ⌜ (length (now hop) ≡ PIECES) × (length (now source) ≡ PIECES) × (CHAIN-BYTES ≤ length (now c)) × (1 ≤ at) × (at + LIFT-STEPS ≤ STEPS) × (g < n) × (k < n) × (n ≤ PIECES) × Reaches (now hop) k g HOPS ⌝ }
     ensures { λ r. ⌜ Risen n (now (hop .entry)) (now (source .entry)) g k (now (c .entry)) at (now (c .exit)) r ⌝ }
 {
     if g == k {
@@ -215,13 +218,13 @@ fn rise(n: usize, hop: &[u16], source: &[u16], g: usize, k: usize, c: &mut [u8],
 
 // The last piece in b on the way that the hops lead from x, which is in b, to a.
 fn last_inside(hop: &[u16], d: &[u64], x: usize, a: usize, b: usize) -> usize
-    requires { ⌜ (length (now hop) ≡ 2048) × (IsMatrix (now d)) × (b < 2048) × Reaches (now hop) a x 2047 × (bitOf (now d) b x ≡ true) × ((y : ℕ) → Upward (now hop) a x y → y < 2048) ⌝ }
+    requires { ⌜ (length (now hop) ≡ PIECES) × (IsMatrix (now d)) × (b < PIECES) × Reaches (now hop) a x HOPS × (bitOf (now d) b x ≡ true) × ((y : ℕ) → Upward (now hop) a x y → y < PIECES) ⌝ }
     ensures { λ r. ⌜ Last (now (hop .entry)) (now (d .entry)) a b x r ⌝ }
 {
     let mut last = x;
     let mut y = x;
     let mut i: usize = 0;
-    while i < 2047 {
+    while i < records::LAST_PIECE {
         if y == a {
             return last;
         }
@@ -248,7 +251,7 @@ fn show_common(
     c: &mut [u8],
     at: usize,
 ) -> usize
-    requires { ⌜ Setting n claim (now book) (now e) × Telling n claim (now book) (now d) × Unmarked n claim (now book) x × (x < n) × (f .a < n) × (f .b < n) × Inside n claim (now book) x (f .a) × Inside n claim (now book) x (f .b) × (164000 ≤ length (now c)) × (at + 8190 ≤ 16400) ⌝ }
+    requires { ⌜ Setting n claim (now book) (now e) × Telling n claim (now book) (now d) × Unmarked n claim (now book) x × (x < n) × (f .a < n) × (f .b < n) × Inside n claim (now book) x (f .a) × Inside n claim (now book) x (f .b) × (CHAIN-BYTES ≤ length (now c)) × (at + LIFTS-STEPS ≤ STEPS) ⌝ }
     ensures { λ r. ⌜ Joined n claim (now (book .entry)) x x (f .a) (f .b) (now (c .entry)) at (now (c .exit)) r ⌝ }
 {
     let mut hop = [0u16; matrices::ROWS];
@@ -299,7 +302,7 @@ pub fn show_meeting(
     c: &mut [u8],
     at: usize,
 ) -> usize
-    requires { ⌜ Setting n claim (now book) (now e) × Telling n claim (now book) (now d) × Grounded n (citing claim (now book)) (w .step) × (showing (w .step) 3 (w .x) (w .y) ≡ true) × (w .x ≡ w .y → Unmarked n claim (now book) (w .x)) × (w .x < n) × (w .y < n) × (f .a < n) × (f .b < n) × Inside n claim (now book) (w .x) (f .a) × Inside n claim (now book) (w .y) (f .b) × (164000 ≤ length (now c)) × (at + 8190 ≤ 16400) ⌝ }
+    requires { ⌜ Setting n claim (now book) (now e) × Telling n claim (now book) (now d) × Grounded n (citing claim (now book)) (w .step) × (showing (w .step) MEETS (w .x) (w .y) ≡ true) × (w .x ≡ w .y → Unmarked n claim (now book) (w .x)) × (w .x < n) × (w .y < n) × (f .a < n) × (f .b < n) × Inside n claim (now book) (w .x) (f .a) × Inside n claim (now book) (w .y) (f .b) × (CHAIN-BYTES ≤ length (now c)) × (at + LIFTS-STEPS ≤ STEPS) ⌝ }
     ensures { λ r. ⌜ Joined n claim (now (book .entry)) (w .x) (w .y) (f .a) (f .b) (now (c .entry)) at (now (c .exit)) r ⌝ }
 {
     if w.x == w.y {
@@ -325,7 +328,7 @@ pub fn show_outside(
     f: Fact,
     c: &mut [u8],
 ) -> usize
-    requires { ⌜ Setting n claim (now book) (now e) × Grounded n (citing claim (now book)) (apart .step) × (showing (apart .step) 2 (apart .x) (apart .y) ≡ true) × Grounded n (citing claim (now book)) (meets .step) × (showing (meets .step) 3 (meets .x) (meets .y) ≡ true) × Telling n claim (now book) (now d) × (meets .x ≡ meets .y → Unmarked n claim (now book) (meets .x)) × (apart .x < n) × (apart .y < n) × (meets .x < n) × (meets .y < n) × (f .a < n) × (f .b < n) × Inside n claim (now book) (f .b) (apart .x) × Inside n claim (now book) (meets .x) (f .a) × Inside n claim (now book) (meets .y) (apart .y) × (164000 ≤ length (now c)) ⌝ }
+    requires { ⌜ Setting n claim (now book) (now e) × Grounded n (citing claim (now book)) (apart .step) × (showing (apart .step) 2 (apart .x) (apart .y) ≡ true) × Grounded n (citing claim (now book)) (meets .step) × (showing (meets .step) MEETS (meets .x) (meets .y) ≡ true) × Telling n claim (now book) (now d) × (meets .x ≡ meets .y → Unmarked n claim (now book) (meets .x)) × (apart .x < n) × (apart .y < n) × (meets .x < n) × (meets .y < n) × (f .a < n) × (f .b < n) × Inside n claim (now book) (f .b) (apart .x) × Inside n claim (now book) (meets .x) (f .a) × Inside n claim (now book) (meets .y) (apart .y) × (CHAIN-BYTES ≤ length (now c)) ⌝ }
     ensures { λ r. ⌜ Outlies n claim (now (book .entry)) (f .a) (f .b) (apart .x) (apart .y) (meets .x) (meets .y) (now (c .entry)) 0 (now (c .exit)) r ⌝ }
 {
     let base = apart.step;

@@ -8,21 +8,25 @@ ghost use Rattle.chain_format.specs.Step.{stepAt, shows};
 ghost use Rattle.derivations.specs.Written.{Numbered, Put};
 ghost use Rattle.derivations.specs.Hops.{Reaches, hopStep};
 ghost use Rattle.derivations.specs.Climbs.{Climbed, Contained};
+ghost use Rattle.chain_format.specs.Sizes.{CHAIN-BYTES, STEP-BYTES, STEPS};
+ghost use Rattle.derivations.specs.Sizes.{HOPS, LIFT-STEPS, WAY-STEPS};
+ghost use Rattle.numbers.specs.Sizes.{SHORT-VALUES};
+ghost use Rattle.records.specs.Sizes.{PIECES};
 use chain_format::Step;
 use numbers::shorts;
 
 // A 16-bit number, low byte first.
 fn put_number(c: &mut [u8], at: usize, x: usize)
-    requires { ⌜ (at + 2 ≤ length (now c)) × (x < 65536) ⌝ }
+    requires { ⌜ (at + 2 ≤ length (now c)) × (x < SHORT-VALUES) ⌝ }
     ensures { λ _. ⌜ Numbered (now (c .entry)) (now (c .exit)) at x ⌝ }
 {
     c[at] = numbers::low(x);
-    c[at + 1] = numbers::low(x / 256);
+    c[at + 1] = numbers::low(x / numbers::BYTE_VALUES);
 }
 
 // The one writer of steps.
 pub fn put_step(c: &mut [u8], i: usize, s: Step)
-    requires { ⌜ (10 * i + 10 ≤ length (now c)) × (s .a < 65536) × (s .b < 65536) × (s .first < 65536) × (s .second < 65536) ⌝ }
+    requires { ⌜ (STEP-BYTES * i + STEP-BYTES ≤ length (now c)) × (s .a < SHORT-VALUES) × (s .b < SHORT-VALUES) × (s .first < SHORT-VALUES) × (s .second < SHORT-VALUES) ⌝ }
     ensures { λ _. ⌜ Put (now (c .entry)) (now (c .exit)) i s ⌝ }
 {
     let at = chain_format::STEP_BYTES * i;
@@ -68,7 +72,7 @@ fn climb(
     c: &mut [u8],
     at: usize,
 ) -> usize
-    requires { ⌜ (length (now hop) ≡ 2048) × (length (now source) ≡ 2048) × (164000 ≤ length (now c)) × (1 ≤ at) × (at + 4094 ≤ 16400) × (g < 2048) × Reaches (now hop) k from 2047 × (shows (stepAt (now c) (at - 1)) (fact.PART g from) ≡ true) ⌝ }
+    requires { ⌜ (length (now hop) ≡ PIECES) × (length (now source) ≡ PIECES) × (CHAIN-BYTES ≤ length (now c)) × (1 ≤ at) × (at + WAY-STEPS ≤ STEPS) × (g < PIECES) × Reaches (now hop) k from HOPS × (shows (stepAt (now c) (at - 1)) (fact.PART g from) ≡ true) ⌝ }
     ensures { λ r. ⌜ Climbed (now (hop .entry)) (now (source .entry)) k g from (now (c .entry)) at (now (c .exit)) r ⌝ }
 {
     let mut x = from;
@@ -97,7 +101,7 @@ fn climb(
 
 // The steps that end in g PART k, where hops lead from g to k, from step `at` on; the number behind the last is returned.
 pub fn write_part(g: usize, k: usize, hop: &[u16], source: &[u16], c: &mut [u8], at: usize) -> usize
-    requires { ⌜ (length (now hop) ≡ 2048) × (length (now source) ≡ 2048) × (164000 ≤ length (now c)) × (at + 4095 ≤ 16400) × (g < 2048) × Reaches (now hop) k g 2047 ⌝ }
+    requires { ⌜ (length (now hop) ≡ PIECES) × (length (now source) ≡ PIECES) × (CHAIN-BYTES ≤ length (now c)) × (at + LIFT-STEPS ≤ STEPS) × (g < PIECES) × Reaches (now hop) k g HOPS ⌝ }
     ensures { λ r. ⌜ Contained (now (hop .entry)) (now (source .entry)) k g (now (c .entry)) at (now (c .exit)) r ⌝ }
 {
     if g == k {

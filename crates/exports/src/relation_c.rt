@@ -5,13 +5,14 @@ ghost use Prim.Native.Nat.{_<_};
 ghost use lib.ListN.{length};
 ghost use Rattle.matrices.specs.Matrix.{United, common};
 ghost use Rattle.exports.specs.Positions.{Either};
+ghost use Rattle.matrices.specs.Sizes.{ROWS, WORDS};
 
 #[no_mangle]
 pub extern "C" fn relation_union_within(m: &mut [u64], d: usize, s: usize)
-    ensures inside { λ _. ⌜ (length (now (m .entry)) ≡ 65536 → d < 2048 → s < 2048 → United (now (m .entry)) (now (m .exit)) d (now (m .entry)) s) ⌝ }
-    ensures outside { λ _. ⌜ (((length (now (m .entry)) ≡ 65536) × (d < 2048) × (s < 2048) → ⊥) → now (m .exit) ≡ now (m .entry)) ⌝ }
+    ensures inside { λ _. ⌜ (length (now (m .entry)) ≡ WORDS → d < ROWS → s < ROWS → United (now (m .entry)) (now (m .exit)) d (now (m .entry)) s) ⌝ }
+    ensures outside { λ _. ⌜ (((length (now (m .entry)) ≡ WORDS) × (d < ROWS) × (s < ROWS) → ⊥) → now (m .exit) ≡ now (m .entry)) ⌝ }
 {
-    if m.len() != 65536 {
+    if m.len() != matrices::WORDS {
         return;
     }
     if matrices::ROWS <= d {
@@ -25,12 +26,12 @@ pub extern "C" fn relation_union_within(m: &mut [u64], d: usize, s: usize)
 
 #[no_mangle]
 pub extern "C" fn relation_meet(m: &[u64], r: usize, n: &[u64], s: usize) -> bool
-    ensures { λ b. ⌜ Either ((length (now (m .entry)) ≡ 65536) × (length (now (n .entry)) ≡ 65536) × (r < 2048) × (s < 2048)) b (common (now (m .entry)) r (now (n .entry)) s) false ⌝ }
+    ensures { λ b. ⌜ Either ((length (now (m .entry)) ≡ WORDS) × (length (now (n .entry)) ≡ WORDS) × (r < ROWS) × (s < ROWS)) b (common (now (m .entry)) r (now (n .entry)) s) false ⌝ }
 {
-    if m.len() != 65536 {
+    if m.len() != matrices::WORDS {
         return false;
     }
-    if n.len() != 65536 {
+    if n.len() != matrices::WORDS {
         return false;
     }
     if matrices::ROWS <= r {

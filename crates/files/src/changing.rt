@@ -2,6 +2,14 @@
 ghost use Rattle.io.specs.Counts.{Counts};
 use crate::modes;
 
+// The bits of a mode that chmod sets.
+const MODE_BITS: u32 = 4096;
+
+// The bytes of ".lock", and of the longest name with it.
+const LOCK_SUFFIX: usize = 5;
+
+const LOCK_BYTES: usize = 4101;
+
 // What a file may be that is written anew.
 pub enum Standing {
     Missing,
@@ -30,7 +38,7 @@ pub fn look_at(name: &[u8]) -> Standing {
         return Standing::Other;
     }
     if mode & libc::S_IFMT == libc::S_IFREG {
-        return Standing::Plain(mode % 4096);
+        return Standing::Plain(mode % MODE_BITS);
     }
     crate::tell(name, b": not a plain file\n");
     Standing::Other
@@ -57,15 +65,15 @@ fn lock_name(name: &[u8], lock: &mut [u8]) -> usize
     ensures { λ r. ⌜ Counts r (now (lock .exit)) ⌝ }
 {
     let n = name.len();
-    if lock.len() < 5 {
+    if lock.len() < LOCK_SUFFIX {
         return 0;
     }
-    if lock.len() - 5 < n {
+    if lock.len() - LOCK_SUFFIX < n {
         return 0;
     }
     bytes::copy(name, lock);
     bytes::copy(b".lock", &mut lock[n..]);
-    n + 5
+    n + LOCK_SUFFIX
 }
 
 // Tells that a lock cannot be made, and where it is there what to do.
@@ -80,7 +88,7 @@ fn tell_taken(lock: &[u8]) {
 
 // Makes the lock of a file, a new file itself, and answers its descriptor, or a negative number, told, where that cannot be done.
 pub fn make_lock(name: &[u8]) -> i32 {
-    let mut lock = [0u8; 4101];
+    let mut lock = [0u8; LOCK_BYTES];
     let n = lock_name(name, &mut lock);
     let file = os::create(&lock[..n]);
     if file < 0 {
@@ -92,7 +100,7 @@ pub fn make_lock(name: &[u8]) -> i32 {
 // Takes back a lock that was made here.
 pub fn drop_lock(file: i32, name: &[u8]) {
     libc::close(file);
-    let mut lock = [0u8; 4101];
+    let mut lock = [0u8; LOCK_BYTES];
     let n = lock_name(name, &mut lock);
     os::unlink(&lock[..n]);
 }
@@ -109,7 +117,7 @@ fn fill(file: i32, bytes: &[u8], n: usize, mode: u32) -> bool {
 
 // Puts a lock that is filled and closed in the place of its file.
 fn rename_lock(name: &[u8]) -> bool {
-    let mut lock = [0u8; 4101];
+    let mut lock = [0u8; LOCK_BYTES];
     let n = lock_name(name, &mut lock);
     if os::rename(&lock[..n], name) == 0 {
         return true;
@@ -121,13 +129,19 @@ fn rename_lock(name: &[u8]) -> bool {
 
 // Tells of the lock what the system says.
 fn fail_lock(name: &[u8]) {
-    let mut lock = [0u8; 4101];
+    let mut lock = [0u8; LOCK_BYTES];
     let n = lock_name(name, &mut lock);
     os::fail(&lock[..n]);
 }
 
 // Writes the first n bytes to the lock and puts it in the file's place. Where that fails it is told, the lock is taken back, and the file is as it was.
-pub fn keep(file: i32, name: &[u8], bytes: &[u8; 49164], n: usize, mode: u32) -> bool {
+pub fn keep(
+    file: i32,
+    name: &[u8],
+    bytes: &[u8; crate::CONTENT_BYTES],
+    n: usize,
+    mode: u32,
+) -> bool {
     let filled = fill(file, bytes, n, mode);
     if filled == false {
         fail_lock(name);
@@ -146,13 +160,19 @@ fn mode_for(name: &[u8]) -> Standing {
         return Standing::Other;
     }
     if mode & libc::S_IFMT == libc::S_IFREG {
-        return Standing::Plain(mode % 4096);
+        return Standing::Plain(mode % MODE_BITS);
     }
     Standing::Plain(0o600)
 }
 
 // The same, under the name of a file that may be missing, with the mode of the file `from`.
-pub fn keep_from(file: i32, name: &[u8], bytes: &[u8; 49164], n: usize, from: &[u8]) -> bool {
+pub fn keep_from(
+    file: i32,
+    name: &[u8],
+    bytes: &[u8; crate::CONTENT_BYTES],
+    n: usize,
+    from: &[u8],
+) -> bool {
     let standing = look_at(name);
     if let Standing::Other = standing {
         drop_lock(file, name);

@@ -7,6 +7,9 @@ use libc::STDOUT_FILENO;
 pub mod changing;
 pub mod modes;
 
+// The bytes that a file may be changed to.
+pub const CONTENT_BYTES: usize = 49164;
+
 // What was read: how many bytes at the front of the buffer. Where that failed, and was told, there are none.
 pub struct Got {
     pub n: usize,

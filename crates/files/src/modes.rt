@@ -2,8 +2,14 @@
 ghost use Prim.Native.Nat.{_≤_};
 ghost use lib.ListN.{length};
 ghost use Rattle.libc.specs.Io.{Ended};
+ghost use Rattle.files.specs.Sizes.{PATH-BYTES};
 use libc::types::stat;
 use libc::types::timespec;
+
+// The longest path, and its room with the zero behind it.
+const PATH_BYTES: usize = 4095;
+
+const PATH_ROOM: usize = 4096;
 
 // Room for what the system says of a file.
 fn blank() -> stat {
@@ -40,7 +46,7 @@ fn told(status: i32, s: stat) -> u32 {
 }
 
 // What the system says of the file that the path leads to.
-fn look(path: &[u8; 4096], mut s: stat) -> u32
+fn look(path: &[u8; PATH_ROOM], mut s: stat) -> u32
     requires { ⌜ Ended (now path) ⌝ }
 {
     let status = libc::stat(path, &mut s);
@@ -48,19 +54,19 @@ fn look(path: &[u8; 4096], mut s: stat) -> u32
 }
 
 // A path as the system takes it: the name, and zeros behind it.
-fn ended(name: &[u8]) -> [u8; 4096]
-    requires { ⌜ length (now name) ≤ 4095 ⌝ }
+fn ended(name: &[u8]) -> [u8; PATH_ROOM]
+    requires { ⌜ length (now name) ≤ PATH-BYTES ⌝ }
     ensures { λ r. ⌜ Ended r ⌝ }
 {
     let mut path = io::buffer();
     bytes::copy(name, &mut path);
-    path[4095] = 0;
+    path[PATH_BYTES] = 0;
     path
 }
 
 // The kind and the mode of the file that a name leads to; 0 where the system cannot say, and errno then tells why, or where the name is longer than a path may be.
 pub fn mode_of(name: &[u8]) -> u32 {
-    if 4095 < name.len() {
+    if PATH_BYTES < name.len() {
         return 0;
     }
     look(&ended(name), blank())
@@ -68,7 +74,7 @@ pub fn mode_of(name: &[u8]) -> u32 {
 
 // Whether the name is a link: what is put in its place would leave the file that it leads to as it was.
 pub fn is_link(name: &[u8]) -> bool {
-    if 4095 < name.len() {
+    if PATH_BYTES < name.len() {
         return false;
     }
     let mut to = [0u8; 1];

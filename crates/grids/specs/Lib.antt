@@ -1,3 +1,4 @@
+pub mod Sizes
 pub mod Grid
 pub mod Closed
 pub mod Loaded

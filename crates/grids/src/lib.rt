@@ -13,6 +13,8 @@ ghost use Rattle.records.specs.Facts.{facts};
 ghost use Rattle.records.specs.Marked.{marked};
 ghost use Rattle.records.specs.Check.{bookCheck};
 ghost use Rattle.grids.specs.Gridded.{Blank, Gridded};
+ghost use Rattle.grids.specs.Sizes.{SIDE};
+ghost use Rattle.records.specs.Sizes.{NOTPART, PART};
 use matrices::Matrix;
 use outcomes::Outcome;
 use records::BookCheck;
@@ -24,7 +26,7 @@ pub mod rounds;
 
 // The grid with bit b of row a set.
 fn insert(l: Grid, a: usize, b: usize) -> Grid
-    requires { ⌜ (a < 64) × (b < 64) ⌝ }
+    requires { ⌜ (a < SIDE) × (b < SIDE) ⌝ }
     ensures { λ r. ⌜ Inserted l r a b ⌝ }
 {
     let mut r = l;
@@ -34,7 +36,7 @@ fn insert(l: Grid, a: usize, b: usize) -> Grid
 
 // The grids with the bit of a fact set.
 fn put(g: Grids, kind: u8, a: usize, b: usize) -> Grids
-    requires { ⌜ (1 ≤ kind) × (kind ≤ 4) × (a < 64) × (b < 64) ⌝ }
+    requires { ⌜ (PART ≤ kind) × (kind ≤ NOTPART) × (a < SIDE) × (b < SIDE) ⌝ }
     ensures { λ r. ⌜ Put g r (factOf kind a b) ⌝ }
 {
     let part = g.part;
@@ -79,7 +81,7 @@ fn put(g: Grids, kind: u8, a: usize, b: usize) -> Grids
 
 // The row of the pieces below n.
 fn pieces_below(n: usize) -> u64
-    requires { ⌜ n ≤ 64 ⌝ }
+    requires { ⌜ n ≤ SIDE ⌝ }
     ensures { λ r. ⌜ ((k : ℕ) → bit r k ≡ ltb k n) ⌝ }
 {
     let mut r: u64 = 0;
@@ -93,7 +95,7 @@ fn pieces_below(n: usize) -> u64
 
 // The bit of piece a where it is not marked; else no bit.
 fn live(marks: u64, a: usize) -> u64
-    requires { ⌜ a < 64 ⌝ }
+    requires { ⌜ a < SIDE ⌝ }
     ensures { λ r. ⌜ ((k : ℕ) → bit r k ≡ (eqb a k && not (bit marks a))) ⌝ }
 {
     if (marks >> a) & 1 == 1 {
@@ -116,7 +118,7 @@ fn no_bits() -> Grids
 
 // The grids of the rules without a premise: n pieces, those in `marks` void.
 fn start(n: usize, marks: u64) -> Grids
-    requires { ⌜ n ≤ 64 ⌝ }
+    requires { ⌜ n ≤ SIDE ⌝ }
     ensures { λ r. ⌜ Loaded (bit marks) n [] r ⌝ }
 {
     let all = pieces_below(n);
@@ -175,10 +177,10 @@ fn refuse(refusal: Refusal, place: usize) -> GridAnswer
 
 // The grids of an accepted book of n pieces.
 fn grids_of(book: &[u8], n: usize) -> Grids
-    requires { ⌜ (bookCheck (now book) ≡ BookCheck.Accepted n) × (n ≤ 64) ⌝ }
+    requires { ⌜ (bookCheck (now book) ≡ BookCheck.Accepted n) × (n ≤ SIDE) ⌝ }
     ensures { λ r. ⌜ Answers (marked (now (book .entry))) n (facts (now (book .entry))) r ⌝ }
 {
-    let mut voids = [0u64; 32];
+    let mut voids = [0u64; matrices::ROW_WORDS];
     closure::marking::mark_voids(book, &mut voids);
     rounds::close(load(book, n, voids[0]))
 }

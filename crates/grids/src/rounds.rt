@@ -5,6 +5,7 @@ ghost use Prim.Native.Nat.{ℕ, _<_};
 ghost use Rattle.matrices.specs.Matrix.{bit};
 ghost use Rattle.grids.specs.Grid.{bitAt, Gathered, Multiplied, Swept, Turned, Mirrored};
 ghost use Rattle.grids.specs.Closed.{holds, Closed, Grown, Same, Rounded};
+ghost use Rattle.grids.specs.Sizes.{SIDE};
 
 // How many pieces a grid has room for: a row is one word.
 pub const SIDE: usize = 64;
@@ -21,7 +22,7 @@ pub struct Grids {
 
 // The row where bit h of x is set; else no bit.
 pub fn chosen(x: u64, h: usize, row: u64) -> u64
-    requires { ⌜ h < 64 ⌝ }
+    requires { ⌜ h < SIDE ⌝ }
     ensures { λ r. ⌜ ((k : ℕ) → bit r k ≡ (bit x h && bit row k)) ⌝ }
 {
     if (x >> h) & 1 == 1 {
@@ -45,8 +46,8 @@ fn gather(y: u64, x: u64, z: &Grid) -> u64
 
 // Column i of x as a row.
 fn column(x: &Grid, i: usize) -> u64
-    requires { ⌜ i < 64 ⌝ }
-    ensures { λ r. ⌜ ((k : ℕ) → k < 64 → bit r k ≡ bitAt (now (x .entry)) k i) ⌝ }
+    requires { ⌜ i < SIDE ⌝ }
+    ensures { λ r. ⌜ ((k : ℕ) → k < SIDE → bit r k ≡ bitAt (now (x .entry)) k i) ⌝ }
 {
     let mut r: u64 = 0;
     let mut g: usize = 0;

@@ -5,6 +5,8 @@ ghost use Prim.Native.Nat.{ℕ, _+_, _-_, _<_, _≤_};
 ghost use lib.ListN.{length, getD, set};
 ghost use Rattle.matrices.specs.Matrix.{bitOf};
 ghost use Rattle.groups.specs.Search.{stateOf, WayOf, GoodOf, VisitedOf, Leading, Callable, Cut, Numbered, Inside, Room, Searchable, Searched};
+ghost use Rattle.matrices.specs.Sizes.{ROWS};
+ghost use Rattle.numbers.specs.Sizes.{SHORT-VALUES};
 use matrices::RowNumbers;
 use numbers::shorts;
 
@@ -17,7 +19,7 @@ struct Path {
 
 // How many bounds are left, if those after p go.
 fn cut(bounds: &RowNumbers, top: usize, p: usize) -> usize
-    requires { ⌜ top ≤ 2048 ⌝ }
+    requires { ⌜ top ≤ ROWS ⌝ }
     ensures { λ t. ⌜ Cut (now (bounds .entry)) top p t ⌝ }
 {
     let mut t = top;
@@ -32,7 +34,7 @@ fn cut(bounds: &RowNumbers, top: usize, p: usize) -> usize
 
 // Gives the pieces of the path from `at` on the number `count`.
 fn close(path: &RowNumbers, done: &mut RowNumbers, at: usize, len: usize, count: usize)
-    requires { ⌜ (len ≤ 2048) × (at ≤ len) × (count < 65536) × (length (now done) ≡ 2048) × Inside (now path) at len 2048 ⌝ }
+    requires { ⌜ (len ≤ ROWS) × (at ≤ len) × (count < SHORT-VALUES) × (length (now done) ≡ ROWS) × Inside (now path) at len ROWS ⌝ }
     ensures { λ _. ⌜ Numbered (now (path .entry)) (now (done .entry)) (now (done .exit)) at len count ⌝ }
 {
     let mut i = at;
@@ -52,7 +54,7 @@ fn push(
     len: usize,
     top: usize,
 )
-    requires { ⌜ (v < 2048) × (len < 2048) × (top < 2048) ⌝ }
+    requires { ⌜ (v < ROWS) × (len < ROWS) × (top < ROWS) ⌝ }
     ensures { λ _. ⌜ (now (pos .exit) ≡ set (now (pos .entry)) v len) × (now (path .exit) ≡ set (now (path .entry)) len v) × (now (bounds .exit) ≡ set (now (bounds .entry)) top len) ⌝ }
 {
     pos[v] = shorts::narrow(len);
@@ -111,8 +113,8 @@ fn visit(
 
 // The number of each piece's group, in an order in which parts come before what contains them. Row 0 of the matrix has every other piece.
 pub fn search(n: usize, e: &[u64]) -> RowNumbers
-    requires { ⌜ Searchable n (now e) 2048 ⌝ }
-    ensures { λ r. ⌜ Searched n 2048 (bitOf (now (e .entry))) (WayOf n (now (e .entry))) (λ x. getD r x 0) ⌝ }
+    requires { ⌜ Searchable n (now e) ROWS ⌝ }
+    ensures { λ r. ⌜ Searched n ROWS (bitOf (now (e .entry))) (WayOf n (now (e .entry))) (λ x. getD r x 0) ⌝ }
 {
     let mut pos = [index::NONE; matrices::ROWS];
     let mut done = [index::NONE; matrices::ROWS];

@@ -6,6 +6,7 @@ ghost use lib.ListN.{length, getD};
 ghost use Rattle.groups.specs.Grouped.{Edged, Grouped};
 ghost use Rattle.groups.specs.Ranks.{Numerable, Ranked, Arrangeable, Arranged};
 ghost use Rattle.groups.specs.Search.{Searchable};
+ghost use Rattle.matrices.specs.Sizes.{ROWS};
 use matrices::RowNumbers;
 use numbers::shorts;
 
@@ -66,7 +67,7 @@ fn arrange(n: usize, m: usize, done: &RowNumbers, lead: &[u16], order: &mut [u16
 
 // Each piece's group and the group's lowest member, an order of the pieces in which of two leaders the part comes first, and how many groups there are.
 pub fn group(n: usize, e: &[u64], number: &mut [u16], lead: &mut [u16], order: &mut [u16]) -> usize
-    requires { ⌜ Searchable n (now e) (length (now number)) × (length (now lead) ≡ 2048) × (length (now order) ≡ 2048) ⌝ }
+    requires { ⌜ Searchable n (now e) (length (now number)) × (length (now lead) ≡ ROWS) × (length (now order) ≡ ROWS) ⌝ }
     ensures { λ m. ⌜ ((fact : ℕ → ℕ → Bool) → Edged n fact (now (e .entry)) → Grouped n fact (now (number .exit)) (now (lead .exit)) (now (order .exit)) m) ⌝ }
 {
     let done = components::search(n, e);

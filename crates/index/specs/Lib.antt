@@ -1,3 +1,4 @@
+pub mod Sizes
 pub mod Pairs
 pub mod Breadth
 pub mod Tree

@@ -6,6 +6,7 @@ ghost use Rattle.index.specs.Index.{Indexed};
 ghost use Rattle.index.specs.Matrix.{pairOf, Buildable, Completed};
 ghost use Rattle.index.specs.Steps.{Held, Joinable, Parented, Zero, Walkable, Walked};
 ghost use Rattle.matrices.specs.Matrix.{IsMatrix};
+ghost use Rattle.matrices.specs.Sizes.{ROWS};
 use crate::GroupId;
 use crate::TreeId;
 use matrices::RowNumbers;
@@ -18,7 +19,7 @@ pub struct Counts {
 
 // Joins each group but 0 that is nobody's part to 0.
 fn join(n: usize, edges: &mut [u64], held: &RowNumbers)
-    requires { ⌜ (n ≤ 2048) × (0 < n) × (IsMatrix (now edges)) × Held n (now edges) (now held) ⌝ }
+    requires { ⌜ (n ≤ ROWS) × (0 < n) × (IsMatrix (now edges)) × Held n (now edges) (now held) ⌝ }
     ensures { λ _. ⌜ Completed n (now (edges .entry)) (now (edges .exit)) ⌝ }
 {
     let mut p: usize = 1;

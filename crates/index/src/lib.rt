@@ -8,6 +8,8 @@ ghost use Rattle.parentheses.specs.Padded.{padded};
 ghost use Rattle.index.specs.Matrix.{pairOf};
 ghost use Rattle.index.specs.Steps.{Marked, Held, Sized, fresh, unmet, Spread, Searched, Parented, Zero, Resolvable, Resolved};
 ghost use Rattle.matrices.specs.Matrix.{IsMatrix};
+ghost use Rattle.matrices.specs.Sizes.{ROWS};
+ghost use Rattle.numbers.specs.Sizes.{SHORT-VALUES};
 pub use building::Counts;
 pub use building::build;
 use matrices::RowNumbers;
@@ -60,7 +62,7 @@ fn group_of(number: &[u16], g: DatasetId) -> GroupId
 // The place of a group, by the list that the walk writes.
 fn place_of_group(groups: &[u16], k: GroupId) -> TreeId
     requires { ⌜ k .0 < length (now groups) ⌝ }
-    ensures { λ r. ⌜ (r .0 ≡ getD (now (groups .entry)) (k .0) 0) × (r .0 < 65536) ⌝ }
+    ensures { λ r. ⌜ (r .0 ≡ getD (now (groups .entry)) (k .0) 0) × (r .0 < SHORT-VALUES) ⌝ }
 {
     let i = k.0;
     TreeId(shorts::wide(groups[i]))
@@ -68,7 +70,7 @@ fn place_of_group(groups: &[u16], k: GroupId) -> TreeId
 
 // Marks the parts of c.
 fn mark_parts(edges: &[u64], c: usize, held: &mut RowNumbers)
-    requires { ⌜ (IsMatrix (now edges)) × (c < 2048) × (length (now held) ≡ 2048) ⌝ }
+    requires { ⌜ (IsMatrix (now edges)) × (c < ROWS) × (length (now held) ≡ ROWS) ⌝ }
     ensures { λ _. ⌜ Marked (now (edges .entry)) c (now (held .entry)) (now (held .exit)) ⌝ }
 {
     let mut p = matrices::next_bit(edges, c, 0);
@@ -80,7 +82,7 @@ fn mark_parts(edges: &[u64], c: usize, held: &mut RowNumbers)
 
 // Marks the pieces that are somebody's part.
 pub fn mark_held(n: usize, edges: &[u64], held: &mut RowNumbers)
-    requires { ⌜ (n ≤ 2048) × (IsMatrix (now edges)) × (length (now held) ≡ 2048) × Zero (now held) ⌝ }
+    requires { ⌜ (n ≤ ROWS) × (IsMatrix (now edges)) × (length (now held) ≡ ROWS) × Zero (now held) ⌝ }
     ensures { λ _. ⌜ Held n (now (edges .entry)) (now (held .exit)) ⌝ }
 {
     let mut c: usize = 0;
@@ -99,7 +101,7 @@ fn spread(
     order: &mut [u16],
     tail: usize,
 ) -> usize
-    requires { ⌜ (IsMatrix (now edges)) × (n ≤ 2048) × (c < n) × (length (now parent) ≡ 2048) × (length (now order) ≡ 2048) × (tail + length (unmet n (now parent)) ≤ 2048) ⌝ }
+    requires { ⌜ (IsMatrix (now edges)) × (n ≤ ROWS) × (c < n) × (length (now parent) ≡ ROWS) × (length (now order) ≡ ROWS) × (tail + length (unmet n (now parent)) ≤ ROWS) ⌝ }
     ensures { λ r. ⌜ Spread n (pairOf n (now (edges .entry))) c (now (parent .entry)) (now (order .entry)) tail (now (parent .exit)) (now (order .exit)) r ⌝ }
 {
     let mut end = tail;
@@ -119,7 +121,7 @@ fn spread(
 
 // Breadth first from k: each piece met gets as its parent the piece from which it is met. 2048 stands for none, at first everywhere.
 pub fn search_from(k: usize, n: usize, edges: &[u64], parent: &mut [u16], order: &mut [u16])
-    requires { ⌜ (IsMatrix (now edges)) × (n ≤ 2048) × (k < n) × (length (now parent) ≡ 2048) × (length (now order) ≡ 2048) × ((q : ℕ) → q < n → fresh (now parent) q ≡ true) ⌝ }
+    requires { ⌜ (IsMatrix (now edges)) × (n ≤ ROWS) × (k < n) × (length (now parent) ≡ ROWS) × (length (now order) ≡ ROWS) × ((q : ℕ) → q < n → fresh (now parent) q ≡ true) ⌝ }
     ensures { λ _. ⌜ Searched n (pairOf n (now (edges .entry))) k (now (parent .exit)) ⌝ }
 {
     parent[k] = shorts::narrow(k);
@@ -135,7 +137,7 @@ pub fn search_from(k: usize, n: usize, edges: &[u64], parent: &mut [u16], order:
 
 // The parent of each piece but 0, breadth first from 0.
 pub fn find_parents(n: usize, edges: &[u64]) -> RowNumbers
-    requires { ⌜ Sized n (now edges) 2048 2048 ⌝ }
+    requires { ⌜ Sized n (now edges) ROWS ROWS ⌝ }
     ensures { λ r. ⌜ Parented n (pairOf n (now (edges .entry))) r ⌝ }
 {
     let mut parent = [crate::NONE; matrices::ROWS];

@@ -1,3 +1,4 @@
+pub mod Sizes
 pub mod Matrix
 pub mod Flow
 pub mod Led

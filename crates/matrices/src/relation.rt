@@ -5,10 +5,11 @@ ghost use lib.ListN.{length, replicate};
 ghost use Rattle.lists.specs.First.{first};
 ghost use mathlib.Core.Bool.{false};
 ghost use Rattle.matrices.specs.Matrix.{bitOf, common, Blank, Inserted, United, IsMatrix};
+ghost use Rattle.matrices.specs.Sizes.{ROW-WORDS, ROWS, WORD-BITS};
 
 // Whether bit i of row r is set.
 pub fn test(m: &[u64], r: usize, i: usize) -> bool
-    requires { ⌜ (IsMatrix (now m)) × (r < 2048) × (i < 2048) ⌝ }
+    requires { ⌜ (IsMatrix (now m)) × (r < ROWS) × (i < ROWS) ⌝ }
     ensures { λ b. ⌜ b ≡ bitOf (now (m .entry)) r i ⌝ }
 {
     (m[r * crate::ROW_WORDS + i / crate::WORD_BITS] >> (i % crate::WORD_BITS)) & 1 == 1
@@ -16,7 +17,7 @@ pub fn test(m: &[u64], r: usize, i: usize) -> bool
 
 // Whether bit i of a row that stands alone is set.
 pub fn has(row: &[u64], i: usize) -> bool
-    requires { ⌜ (length (now row) ≡ 32) × (i < 2048) ⌝ }
+    requires { ⌜ (length (now row) ≡ ROW-WORDS) × (i < ROWS) ⌝ }
     ensures { λ b. ⌜ b ≡ bitOf (now (row .entry)) 0 i ⌝ }
 {
     (row[i / crate::WORD_BITS] >> (i % crate::WORD_BITS)) & 1 == 1
@@ -24,7 +25,7 @@ pub fn has(row: &[u64], i: usize) -> bool
 
 // Sets bit i of row r.
 pub fn insert(m: &mut [u64], r: usize, i: usize)
-    requires { ⌜ (IsMatrix (now m)) × (r < 2048) × (i < 2048) ⌝ }
+    requires { ⌜ (IsMatrix (now m)) × (r < ROWS) × (i < ROWS) ⌝ }
     ensures { λ _. ⌜ Inserted (now (m .entry)) (now (m .exit)) r i ⌝ }
 {
     let w = r * crate::ROW_WORDS + i / crate::WORD_BITS;
@@ -33,7 +34,7 @@ pub fn insert(m: &mut [u64], r: usize, i: usize)
 
 // Sets bit i of a row that stands alone.
 pub fn put(row: &mut [u64], i: usize)
-    requires { ⌜ (length (now row) ≡ 32) × (i < 2048) ⌝ }
+    requires { ⌜ (length (now row) ≡ ROW-WORDS) × (i < ROWS) ⌝ }
     ensures { λ _. ⌜ Inserted (now (row .entry)) (now (row .exit)) 0 i ⌝ }
 {
     let w = i / crate::WORD_BITS;
@@ -42,7 +43,7 @@ pub fn put(row: &mut [u64], i: usize)
 
 // Puts row s of src into row d of dst. Two words a turn, both read before either is written: such a pair is one vector.
 pub fn union_row(dst: &mut [u64], d: usize, src: &[u64], s: usize)
-    requires { ⌜ (IsMatrix (now dst)) × (IsMatrix (now src)) × (d < 2048) × (s < 2048) ⌝ }
+    requires { ⌜ (IsMatrix (now dst)) × (IsMatrix (now src)) × (d < ROWS) × (s < ROWS) ⌝ }
     ensures { λ _. ⌜ United (now (dst .entry)) (now (dst .exit)) d (now (src .entry)) s ⌝ }
 {
     let a = d * crate::ROW_WORDS;
@@ -60,7 +61,7 @@ pub fn union_row(dst: &mut [u64], d: usize, src: &[u64], s: usize)
 
 // Puts row s of m into row d of m.
 pub fn union_within(m: &mut [u64], d: usize, s: usize)
-    requires { ⌜ (IsMatrix (now m)) × (d < 2048) × (s < 2048) ⌝ }
+    requires { ⌜ (IsMatrix (now m)) × (d < ROWS) × (s < ROWS) ⌝ }
     ensures { λ _. ⌜ United (now (m .entry)) (now (m .exit)) d (now (m .entry)) s ⌝ }
 {
     let a = d * crate::ROW_WORDS;
@@ -74,7 +75,7 @@ pub fn union_within(m: &mut [u64], d: usize, s: usize)
 
 // Whether row r of m and row s of n have a bit in common.
 pub fn meet(m: &[u64], r: usize, n: &[u64], s: usize) -> bool
-    requires { ⌜ (IsMatrix (now m)) × (IsMatrix (now n)) × (r < 2048) × (s < 2048) ⌝ }
+    requires { ⌜ (IsMatrix (now m)) × (IsMatrix (now n)) × (r < ROWS) × (s < ROWS) ⌝ }
     ensures { λ t. ⌜ t ≡ common (now (m .entry)) r (now (n .entry)) s ⌝ }
 {
     let a = r * crate::ROW_WORDS;
@@ -102,7 +103,7 @@ pub fn clear(m: &mut [u64])
 
 // Clears the rows below n.
 pub fn clear_rows(m: &mut [u64], n: usize)
-    requires { ⌜ (IsMatrix (now m)) × (n ≤ 2048) ⌝ }
+    requires { ⌜ (IsMatrix (now m)) × (n ≤ ROWS) ⌝ }
     ensures { λ _. ⌜ Blank n (now (m .exit)) ⌝ }
 {
     let end = n * crate::ROW_WORDS;
@@ -115,8 +116,8 @@ pub fn clear_rows(m: &mut [u64], n: usize)
 
 // The first set bit of row r from word w on; 2,048 where there is none.
 fn next_word(m: &[u64], r: usize, w: usize) -> usize
-    requires { ⌜ (IsMatrix (now m)) × (r < 2048) × (w ≤ 32) ⌝ }
-    ensures { λ p. ⌜ p ≡ first (bitOf (now (m .entry)) r) (w * 64) (2048 - w * 64) ⌝ }
+    requires { ⌜ (IsMatrix (now m)) × (r < ROWS) × (w ≤ ROW-WORDS) ⌝ }
+    ensures { λ p. ⌜ p ≡ first (bitOf (now (m .entry)) r) (w * WORD-BITS) (ROWS - w * WORD-BITS) ⌝ }
 {
     let a = r * crate::ROW_WORDS;
     let mut i = w;
@@ -132,8 +133,8 @@ fn next_word(m: &[u64], r: usize, w: usize) -> usize
 
 // The first set bit of row r from column `from` on; 2,048 where there is none. Words that are 0 are passed over whole.
 pub fn next_bit(m: &[u64], r: usize, from: usize) -> usize
-    requires { ⌜ (IsMatrix (now m)) × (r < 2048) × (from ≤ 2048) ⌝ }
-    ensures { λ p. ⌜ p ≡ first (bitOf (now (m .entry)) r) from (2048 - from) ⌝ }
+    requires { ⌜ (IsMatrix (now m)) × (r < ROWS) × (from ≤ ROWS) ⌝ }
+    ensures { λ p. ⌜ p ≡ first (bitOf (now (m .entry)) r) from (ROWS - from) ⌝ }
 {
     if crate::ROWS <= from {
         return crate::ROWS;

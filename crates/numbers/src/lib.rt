@@ -3,21 +3,25 @@ ghost use mathlib.Core.Path.{_≡_};
 ghost use Prim.Native.Nat.{min, max, _+_, _*_, _%_, _≤_, _<_};
 ghost use lib.ListN.{length, getD, replicate};
 ghost use Rattle.lists.specs.Front.{placed};
+ghost use Rattle.numbers.specs.Sizes.{BYTE-VALUES, SHORT-VALUES};
 
 pub mod shorts;
 
+// How many values a byte has.
+pub const BYTE_VALUES: usize = 256;
+
 // A byte as a number that sums are made of.
 pub fn wide(x: u8) -> usize
-    ensures { λ r. ⌜ (r ≡ x) × (r < 256) ⌝ }
+    ensures { λ r. ⌜ (r ≡ x) × (r < BYTE-VALUES) ⌝ }
 {
     x as usize
 }
 
 // The low byte of a number.
 pub fn low(n: usize) -> u8
-    ensures { λ r. ⌜ r ≡ n % 256 ⌝ }
+    ensures { λ r. ⌜ r ≡ n % BYTE-VALUES ⌝ }
 {
-    (n % 256) as u8
+    (n % BYTE_VALUES) as u8
 }
 
 pub fn smaller_of(x: usize, y: usize) -> usize
@@ -35,9 +39,9 @@ pub fn larger_of(x: usize, y: usize) -> usize
 // The one reader of 16-bit numbers, low byte first.
 pub fn number_at(s: &[u8], at: usize) -> usize
     requires { ⌜ at + 2 ≤ length (now s) ⌝ }
-    ensures { λ r. ⌜ (r ≡ getD (now (s .entry)) at 0 + 256 * getD (now (s .entry)) (at + 1) 0) × (r < 65536) ⌝ }
+    ensures { λ r. ⌜ (r ≡ getD (now (s .entry)) at 0 + BYTE-VALUES * getD (now (s .entry)) (at + 1) 0) × (r < SHORT-VALUES) ⌝ }
 {
-    wide(s[at]) + 256 * wide(s[at + 1])
+    wide(s[at]) + BYTE_VALUES * wide(s[at + 1])
 }
 
 // All bytes become 0.

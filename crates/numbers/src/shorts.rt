@@ -2,16 +2,17 @@
 ghost use mathlib.Core.Path.{_≡_};
 ghost use Prim.Native.Nat.{_<_};
 ghost use lib.ListN.{length, replicate};
+ghost use Rattle.numbers.specs.Sizes.{SHORT-VALUES};
 
 // A number of a list as an index.
 pub fn wide(x: u16) -> usize
-    ensures { λ r. ⌜ (r ≡ x) × (r < 65536) ⌝ }
+    ensures { λ r. ⌜ (r ≡ x) × (r < SHORT-VALUES) ⌝ }
 {
     x as usize
 }
 
 pub fn narrow(x: usize) -> u16
-    requires { ⌜ x < 65536 ⌝ }
+    requires { ⌜ x < SHORT-VALUES ⌝ }
     ensures { λ r. ⌜ r ≡ x ⌝ }
 {
     x as u16

@@ -7,6 +7,9 @@ ghost use Rattle.pages.specs.Put.{Put};
 ghost use Rattle.pages.specs.Written.{writtenAt};
 ghost use Rattle.pages.specs.Entry.{entry};
 
+// The digits of the largest number.
+const DIGITS: usize = 20;
+
 // How many bytes of the page are text; or the text is longer than the page.
 pub enum Written {
     Text(usize),
@@ -51,7 +54,7 @@ pub fn put(page: &mut [u8], at: usize, text: &[u8]) -> usize
 pub fn put_number(page: &mut [u8], at: usize, n: usize, last: u8) -> usize
     ensures { λ r. ⌜ Put (now (page .entry)) at (field (decimal n) last) (now (page .exit)) r ⌝ }
 {
-    let mut digits = [0u8; 20];
+    let mut digits = [0u8; DIGITS];
     let k = io::decimal(n as u64, &mut digits);
     let end = put(page, at, &digits[..k]);
     put_byte(page, end, last)
@@ -67,7 +70,7 @@ pub fn put_line(page: &mut [u8], at: usize, table: &[u8], k: usize) -> usize
     while i < table.len() {
         let x = table[i];
         i += 1;
-        if x == 10 {
+        if x == b'\n' {
             if left == 0 {
                 return end;
             }

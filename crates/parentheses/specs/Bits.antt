@@ -15,6 +15,10 @@ digit b j = b / 2 ^ j % 2
 unfoldable pub bitOf : List ℕ → ℕ → Bool
 bitOf l k = eqb (digit (getD l (k / 8) 0) (k % 8)) 1
 
+-- how many bits a list of bytes has
+abbrev pub bitCount : List ℕ → ℕ
+bitCount l = 8 * length l
+
 -- all bits of the bytes l
 unfoldable pub bits : List ℕ → List Bool
-bits l = tab (bitOf l) 0 (8 * length l)
+bits l = tab (bitOf l) 0 (bitCount l)

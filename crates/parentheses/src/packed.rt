@@ -8,9 +8,13 @@ ghost use Rattle.parentheses.specs.Bits.{bits};
 ghost use Rattle.parentheses.specs.Rank.{rank};
 ghost use Rattle.parentheses.specs.Tables.{lowestOf};
 ghost use Rattle.parentheses.specs.Words.{wordAt, folded, onesIn};
+ghost use Rattle.numbers.specs.Sizes.{BYTE-VALUES};
+
+// How many bytes a word has.
+const WORD_BYTES: usize = 8;
 
 fn wide(x: u8) -> u64
-    ensures { λ r. ⌜ (r ≡ x) × (r < 256) ⌝ }
+    ensures { λ r. ⌜ (r ≡ x) × (r < BYTE-VALUES) ⌝ }
 {
     x as u64
 }
@@ -53,28 +57,28 @@ pub fn ones_in(bytes: &[u8], from: usize, to: usize) -> usize
     let mut n: usize = 0;
     let mut i = from;
     while i < to {
-        if to - i < 8 {
+        if to - i < WORD_BYTES {
             n += ones_of(wide(bytes[i]));
             i += 1;
             continue;
         }
         n += ones_of(word_at(bytes, i));
-        i += 8;
+        i += WORD_BYTES;
     }
     n
 }
 
 // The lowest running excess of b, by the table: +1 for a 1, -1 for a 0, low bit first, after at least one bit.
-fn lowest_of(table: &[i8; 256], b: u8) -> i8
-    requires { ⌜ now table ≡ tab lowestOf 0 256 ⌝ }
+fn lowest_of(table: &[i8; numbers::BYTE_VALUES], b: u8) -> i8
+    requires { ⌜ now table ≡ tab lowestOf 0 BYTE-VALUES ⌝ }
     ensures { λ r. ⌜ r ≡ lowestOf b ⌝ }
 {
     table[b as usize]
 }
 
 // Eight more than the lowest running excess of b, so that it is not negative.
-pub fn margin_of(table: &[i8; 256], b: u8) -> usize
-    requires { ⌜ now table ≡ tab lowestOf 0 256 ⌝ }
+pub fn margin_of(table: &[i8; numbers::BYTE_VALUES], b: u8) -> usize
+    requires { ⌜ now table ≡ tab lowestOf 0 BYTE-VALUES ⌝ }
     ensures { λ r. ⌜ pos r ≡ lowestOf b +ℤ pos 8 ⌝ }
 {
     (lowest_of(table, b) + 8) as usize

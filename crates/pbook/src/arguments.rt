@@ -2,6 +2,11 @@
 ghost use Rattle.io.specs.Counts.{Counts};
 use files::Got;
 
+// The places of the words of a command: the book, and what follows it.
+pub const BOOK: usize = 2;
+
+pub const NEXT: usize = 3;
+
 // A path, with the reason where there is none, or one that is longer than the buffer.
 pub fn path(i: usize, buf: &mut [u8]) -> Got
     ensures { λ r. ⌜ Counts (r .n) (now (buf .exit)) ⌝ }

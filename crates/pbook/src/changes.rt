@@ -84,7 +84,7 @@ fn change_book(
         return;
     }
     let n = open.n;
-    let mut out = [0u8; 49164];
+    let mut out = [0u8; change_pages::OUT_BYTES];
     let made = commands::desk::change_page(
         which,
         &source[..n],
@@ -123,7 +123,7 @@ pub fn change(
     q: &mut Matrix,
 ) {
     let mut line = io::buffer();
-    let said = crate::arguments::words(3, &mut line);
+    let said = crate::arguments::words(crate::arguments::NEXT, &mut line);
     let bad = commands::desk::end_of(book_pages::words::write_words(
         commands::desk::change_form(which),
         &line[..said],
@@ -134,7 +134,7 @@ pub fn change(
         return;
     }
     let mut path = io::buffer();
-    let book = crate::arguments::path(2, &mut path);
+    let book = crate::arguments::path(crate::arguments::BOOK, &mut path);
     if book.failed {
         return;
     }
@@ -204,7 +204,7 @@ fn export_book(
         return;
     }
     let n = open.n;
-    let mut out = [0u8; 49164];
+    let mut out = [0u8; change_pages::OUT_BYTES];
     let made = commands::desk::export_page(which, &source[..n], &mut out, page, e, d, t, u, p, q);
     let written = made.written;
     let end = commands::desk::end_of(written);
@@ -230,12 +230,12 @@ pub fn export(
     q: &mut Matrix,
 ) {
     let mut path = io::buffer();
-    let book = crate::arguments::path(2, &mut path);
+    let book = crate::arguments::path(crate::arguments::BOOK, &mut path);
     if book.failed {
         return;
     }
     let mut target = io::buffer();
-    let other = crate::arguments::path(3, &mut target);
+    let other = crate::arguments::path(crate::arguments::NEXT, &mut target);
     if other.failed {
         return;
     }
@@ -259,7 +259,7 @@ pub fn export(
 // An empty book in a new file.
 pub fn new(page: &mut [u8]) {
     let mut path = io::buffer();
-    let book = crate::arguments::path(2, &mut path);
+    let book = crate::arguments::path(crate::arguments::BOOK, &mut path);
     if book.failed {
         return;
     }

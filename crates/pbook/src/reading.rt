@@ -36,7 +36,7 @@ pub fn book(
     p: &mut Matrix,
     q: &mut Matrix,
 ) {
-    let got = read_named(2, source);
+    let got = read_named(crate::arguments::BOOK, source);
     if got.failed {
         return;
     }
@@ -58,7 +58,7 @@ pub fn words(
     q: &mut Matrix,
 ) {
     let mut line = io::buffer();
-    let said = crate::arguments::words(3, &mut line);
+    let said = crate::arguments::words(crate::arguments::NEXT, &mut line);
     let bad = commands::desk::end_of(book_pages::words::write_words(
         commands::desk::words_form(which),
         &line[..said],
@@ -68,7 +68,7 @@ pub fn words(
         files::write_page(page, bad);
         return;
     }
-    let got = read_named(2, source);
+    let got = read_named(crate::arguments::BOOK, source);
     if got.failed {
         return;
     }
@@ -100,7 +100,7 @@ pub fn input(
     p: &mut Matrix,
     q: &mut Matrix,
 ) {
-    let got = read_named(2, source);
+    let got = read_named(crate::arguments::BOOK, source);
     if got.failed {
         return;
     }
@@ -137,12 +137,12 @@ pub fn verify(
     p: &mut Matrix,
     q: &mut Matrix,
 ) {
-    let got = read_named(2, source);
+    let got = read_named(crate::arguments::BOOK, source);
     if got.failed {
         return;
     }
     let n = got.n;
-    let more = read_named(3, chain);
+    let more = read_named(crate::arguments::NEXT, chain);
     if more.failed {
         return;
     }
@@ -163,12 +163,12 @@ pub fn compare(
     p: &mut Matrix,
     q: &mut Matrix,
 ) {
-    let got = read_named(2, source);
+    let got = read_named(crate::arguments::BOOK, source);
     if got.failed {
         return;
     }
     let n = got.n;
-    let other = read_named(3, second);
+    let other = read_named(crate::arguments::NEXT, second);
     if other.failed {
         return;
     }

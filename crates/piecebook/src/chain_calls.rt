@@ -1,6 +1,5 @@
 // The chain calls of include/piecebook.h.
 ghost use mathlib.Core.Path.{_≡_};
-ghost use Rattle.verdicts.specs.Answers.{answerByte};
 ghost use Rattle.piecebook.specs.Chains.{Replied, Chained};
 ghost use Rattle.piecebook.specs.Clashes as clashes;
 ghost use Rattle.lists.specs.Tally.{num};
@@ -9,7 +8,6 @@ ghost use Rattle.clash.specs.Clash as clashing;
 ghost use Rattle.piecebook.specs.Clashes.{Clashed};
 use chain_writing::Reply;
 use matrices::Matrix;
-use verdicts::Answer;
 
 // What the writer comes to, as include/piecebook.h has it.
 #[repr(C)]
@@ -20,16 +18,6 @@ pub struct PiecebookChainResult {
     pub steps: usize,
 }
 
-fn byte_of(answer: Answer) -> usize
-    ensures { λ r. ⌜ r ≡ answerByte answer ⌝ }
-{
-    match answer {
-        Answer::Follows => 1,
-        Answer::Denied => 2,
-        Answer::Open => 3,
-    }
-}
-
 pub fn chained(reply: Reply, steps: usize) -> PiecebookChainResult
     ensures { λ r. ⌜ Replied reply steps r ⌝ }
 {
@@ -37,7 +25,7 @@ pub fn chained(reply: Reply, steps: usize) -> PiecebookChainResult
         Reply::Answered(answer) => PiecebookChainResult {
             number: 0,
             place: 0,
-            answer: byte_of(answer),
+            answer: numbers::wide(verdicts::byte_of(answer)),
             steps,
         },
         Reply::Refused(refusal, place) => PiecebookChainResult {

@@ -1,3 +1,4 @@
+pub mod Sizes
 pub mod Record
 pub mod Refusal
 pub mod Pieces

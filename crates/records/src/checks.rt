@@ -9,6 +9,8 @@ ghost use Rattle.records.specs.Rows.{admitted, badMark, rising};
 ghost use Rattle.records.specs.Key.{keyAt, slotOf, otherSlot};
 ghost use Rattle.records.specs.Met.{met, Marked, Noted, start};
 ghost use Rattle.records.specs.Check.{formFinding, recordsCheck, checkBy, bookCheck, formerCheck, claimAt, claimsCheck};
+ghost use Rattle.numbers.specs.Sizes.{BYTE-VALUES};
+ghost use Rattle.records.specs.Sizes.{RECORD-BYTES, RECORDS};
 use crate::BookCheck;
 use crate::Claim;
 use crate::ClaimsCheck;
@@ -16,6 +18,16 @@ use crate::Edition;
 use crate::Finding;
 use crate::Record;
 use crate::Refusal;
+
+// How many values a byte has.
+const BYTE: u64 = 256;
+
+// Two primes below the length of the filter, so that two keys rarely fall together in both.
+const FIRST_PRIME: u64 = 257731;
+
+const SECOND_PRIME: u64 = 246731;
+
+const WORD_BITS: usize = 64;
 
 // How many records are few: their keys and filter are shorter. A filter is words of 64 bits, and its mask the number of its last bit.
 const FEW_RECORDS: usize = 256;
@@ -90,32 +102,32 @@ fn check_form(edition: Edition, r: Record) -> Finding
 }
 
 fn wide64(x: u8) -> u64
-    ensures { λ r. ⌜ (r ≡ x) × (r < 256) ⌝ }
+    ensures { λ r. ⌜ (r ≡ x) × (r < BYTE-VALUES) ⌝ }
 {
     x as u64
 }
 
 // The six bytes of record i as one number, so that two records are compared at once.
 fn key_at(s: &[u8], i: usize) -> u64
-    requires { ⌜ 6 * i + 6 ≤ length (now s) ⌝ }
-    ensures { λ r. ⌜ r ≡ keyAt (now (s .entry)) (6 * i) ⌝ }
+    requires { ⌜ RECORD-BYTES * i + RECORD-BYTES ≤ length (now s) ⌝ }
+    ensures { λ r. ⌜ r ≡ keyAt (now (s .entry)) (RECORD-BYTES * i) ⌝ }
 {
-    let at = 6 * i;
-    let high = (wide64(s[at + 5]) * 256 + wide64(s[at + 4])) * 256 + wide64(s[at + 3]);
-    ((high * 256 + wide64(s[at + 2])) * 256 + wide64(s[at + 1])) * 256 + wide64(s[at])
+    let at = crate::RECORD_BYTES * i;
+    let high = (wide64(s[at + 5]) * BYTE + wide64(s[at + 4])) * BYTE + wide64(s[at + 3]);
+    ((high * BYTE + wide64(s[at + 2])) * BYTE + wide64(s[at + 1])) * BYTE + wide64(s[at])
 }
 
 // The two bits of the filter that stand for a key. These primes spread ordinary books.
 fn slot_of(key: u64) -> usize
     ensures { λ r. ⌜ r ≡ slotOf key ⌝ }
 {
-    (key % 257731) as usize
+    (key % FIRST_PRIME) as usize
 }
 
 fn other_slot(key: u64) -> usize
     ensures { λ r. ⌜ r ≡ otherSlot key ⌝ }
 {
-    (key % 246731) as usize
+    (key % SECOND_PRIME) as usize
 }
 
 // Sets bit k, and says whether it was set before.
@@ -123,10 +135,10 @@ fn mark(seen: &mut [u64], k: usize) -> bool
     requires { ⌜ k < 64 * length (now seen) ⌝ }
     ensures { λ t. ⌜ (t ≡ met (now (seen .entry)) k) × Marked (now (seen .entry)) (now (seen .exit)) k ⌝ }
 {
-    let w = k / 64;
+    let w = k / WORD_BITS;
     let x = seen[w];
-    seen[w] = x | (1 << (k % 64));
-    (x >> (k % 64)) & 1 == 1
+    seen[w] = x | (1 << (k % WORD_BITS));
+    (x >> (k % WORD_BITS)) & 1 == 1
 }
 
 // Sets both bits of a key, and says whether both were set before: if not, the key is new. The mask keeps them within a short filter.
@@ -159,7 +171,7 @@ fn check_records_by(
     keys: &mut [u64],
     seen: &mut [u64],
 ) -> BookCheck
-    requires { ⌜ (n ≤ 8192) × (6 * n ≤ length (now book)) × (n ≤ length (now keys)) × (mask < 64 * length (now seen)) ⌝ }
+    requires { ⌜ (n ≤ RECORDS) × (RECORD-BYTES * n ≤ length (now book)) × (n ≤ length (now keys)) × (mask < 64 * length (now seen)) ⌝ }
     ensures { λ r. ⌜ r ≡ recordsCheck edition (now (book .entry)) n ⌝ }
 {
     let mut pieces: usize = 1;
@@ -189,7 +201,7 @@ fn check_records_by(
 
 // The same with a list and a filter of its own: short ones for few records, since to clear long ones takes longer than to check them.
 fn check_records(edition: Edition, book: &[u8], n: usize) -> BookCheck
-    requires { ⌜ (n ≤ 8192) × (6 * n ≤ length (now book)) ⌝ }
+    requires { ⌜ (n ≤ RECORDS) × (RECORD-BYTES * n ≤ length (now book)) ⌝ }
     ensures { λ r. ⌜ r ≡ recordsCheck edition (now (book .entry)) n ⌝ }
 {
     if n <= FEW_RECORDS {
@@ -206,7 +218,7 @@ fn check_records(edition: Edition, book: &[u8], n: usize) -> BookCheck
 fn check_by(edition: Edition, book: &[u8]) -> BookCheck
     ensures { λ r. ⌜ r ≡ checkBy edition (now (book .entry)) ⌝ }
 {
-    if book.len() % 6 != 0 {
+    if book.len() % crate::RECORD_BYTES != 0 {
         return BookCheck::Refused(Refusal::BookLength, 0);
     }
     let n = book.len() / crate::RECORD_BYTES;
@@ -232,7 +244,7 @@ pub fn check_former(book: &[u8]) -> BookCheck
 
 // Claim i, by row 12.
 pub fn claim_at(claims: &[u8], i: usize) -> Claim
-    requires { ⌜ 6 * i + 6 ≤ length (now claims) ⌝ }
+    requires { ⌜ RECORD-BYTES * i + RECORD-BYTES ≤ length (now claims) ⌝ }
     ensures { λ r. ⌜ r ≡ claimAt (now (claims .entry)) i ⌝ }
 {
     let claim = crate::record_at(claims, i);
@@ -249,7 +261,7 @@ pub fn claim_at(claims: &[u8], i: usize) -> Claim
 pub fn check_claims(claims: &[u8], pieces: usize) -> ClaimsCheck
     ensures { λ r. ⌜ r ≡ claimsCheck pieces (now (claims .entry)) ⌝ }
 {
-    if claims.len() % 6 != 0 {
+    if claims.len() % crate::RECORD_BYTES != 0 {
         return ClaimsCheck::Refused(Refusal::ClaimsLength, 0);
     }
     let n = claims.len() / crate::RECORD_BYTES;

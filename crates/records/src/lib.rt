@@ -9,11 +9,15 @@ ghost use Rattle.records.specs.Refusal.{refusalNumber};
 ghost use Rattle.records.specs.declared.Refusal.the-variants.{VoidForm, Order};
 ghost use Rattle.records.specs.declared.Finding.the-variants.{Fit};
 ghost use Rattle.records.specs.Pieces.{stated, largest, pieceCount};
+ghost use Rattle.records.specs.Sizes.{RECORD-BYTES};
 pub use checks::check_book;
 pub use checks::check_claims;
 pub use checks::check_former;
 
 pub mod checks;
+
+// A kind of fact and its opposite add up to this.
+pub const OPPOSITES: u8 = 5;
 
 // What a book has at most: pieces, records, bytes; and claims about it.
 pub const PIECES: usize = 2048;
@@ -133,10 +137,10 @@ pub fn refusal_number(r: Refusal) -> u8
 
 // The one reader of records. Claims have the same layout.
 pub fn record_at(s: &[u8], i: usize) -> Record
-    requires { ⌜ 6 * i + 6 ≤ length (now s) ⌝ }
+    requires { ⌜ RECORD-BYTES * i + RECORD-BYTES ≤ length (now s) ⌝ }
     ensures { λ r. ⌜ r ≡ recordAt (now (s .entry)) i ⌝ }
 {
-    let at = 6 * i;
+    let at = RECORD_BYTES * i;
     let a = numbers::number_at(s, at + 2);
     let b = numbers::number_at(s, at + 4);
     Record {
@@ -186,10 +190,10 @@ pub fn piece_count(run: &[u8]) -> usize
 
 // Copies the six bytes of record i to place `at`.
 fn copy_record(s: &[u8], i: usize, out: &mut [u8], at: usize)
-    requires { ⌜ (6 * i + 6 ≤ length (now s)) × (at + 6 ≤ length (now out)) ⌝ }
+    requires { ⌜ (RECORD-BYTES * i + RECORD-BYTES ≤ length (now s)) × (at + RECORD-BYTES ≤ length (now out)) ⌝ }
     ensures { λ _. ⌜ now (out .exit) ≡ placed at (bytesAt (now (s .entry)) i) (now (out .entry)) ⌝ }
 {
-    let from = 6 * i;
+    let from = RECORD_BYTES * i;
     out[at] = s[from];
     out[at + 1] = s[from + 1];
     out[at + 2] = s[from + 2];
@@ -200,14 +204,14 @@ fn copy_record(s: &[u8], i: usize, out: &mut [u8], at: usize)
 
 // Copies record i to place `at`, if so told, and says where the next one goes.
 pub fn copy_where(on: bool, s: &[u8], i: usize, out: &mut [u8], at: usize) -> usize
-    requires { ⌜ (6 * i + 6 ≤ length (now s)) × (at + 6 ≤ length (now out)) ⌝ }
+    requires { ⌜ (RECORD-BYTES * i + RECORD-BYTES ≤ length (now s)) × (at + RECORD-BYTES ≤ length (now out)) ⌝ }
     ensures { λ r. ⌜ (now (out .exit) ≡ placed at (bytesWhere on (now (s .entry)) i) (now (out .entry))) × (r ≡ at + length (bytesWhere on (now (s .entry)) i)) ⌝ }
 {
     if !on {
         return at;
     }
     copy_record(s, i, out, at);
-    at + 6
+    at + RECORD_BYTES
 }
 
 // Writes the records of cutting sheets to the front of `out`, and says how many bytes they have.

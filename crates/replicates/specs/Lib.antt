@@ -1,3 +1,4 @@
+pub mod Sizes
 pub mod Before
 pub mod Looking
 pub mod Log

@@ -17,6 +17,7 @@ ghost use Rattle.records.specs.Marked.{marked};
 ghost use Rattle.records.specs.Facts.{facts};
 ghost use Rattle.closure.specs.Apart.{Aparts};
 ghost use Rattle.replicates.specs.Writing.{Free, Writable, Begun, Followed, Judged};
+ghost use Rattle.replicates.specs.Sizes.{SEQUENCE, WINDOW};
 use contradiction::Settled;
 use matrices::Matrix;
 use matrices::RowNumbers;
@@ -25,6 +26,9 @@ use records::BookCheck;
 use records::Refusal;
 
 pub mod windows;
+
+// A log has two bytes an entry.
+pub const ENTRY_BYTES: usize = 2;
 
 // How many entries a part of the log has at most.
 pub const LOG_ENTRIES: usize = 32768;
@@ -53,7 +57,7 @@ fn flag(b: bool) -> u8
 
 // The two bytes of each entry from number c on.
 fn write_bytes(xs: &[u16], c: usize, a: &[u64], out: &mut [u8])
-    requires { ⌜ Sequence (now xs) (now a) × (c ≤ length (now xs)) × (length (now xs) < 100000) × (2 * length (now xs) ≤ 2 * c + length (now out)) ⌝ }
+    requires { ⌜ Sequence (now xs) (now a) × (c ≤ length (now xs)) × (length (now xs) < SEQUENCE) × (2 * length (now xs) ≤ 2 * c + length (now out)) ⌝ }
     ensures { λ _. ⌜ now (out .exit) ≡ front (bytesFrom (bitOf (now (a .entry))) (now (xs .entry)) c (length (now (xs .entry)) - c)) (now (out .entry)) ⌝ }
 {
     let mut start = windows::reach(xs, c, a);
@@ -61,7 +65,7 @@ fn write_bytes(xs: &[u16], c: usize, a: &[u64], out: &mut [u8])
     while q < xs.len() {
         let seen = windows::look(xs, q, a);
         start = numbers::larger_of(start, seen.from);
-        let at = 2 * (q - c);
+        let at = ENTRY_BYTES * (q - c);
         out[at] = seen.apart;
         out[at + 1] = flag(start <= windows::oldest_of(q));
         q += 1;
@@ -73,7 +77,7 @@ fn entry_at(log: &[u8], i: usize) -> u16
     requires { ⌜ 2 * i + 2 ≤ length (now log) ⌝ }
     ensures { λ r. ⌜ r ≡ entryAt (now (log .entry)) i ⌝ }
 {
-    numbers::shorts::narrow(numbers::number_at(log, 2 * i))
+    numbers::shorts::narrow(numbers::number_at(log, ENTRY_BYTES * i))
 }
 
 // Row 21 of the window.
@@ -99,7 +103,7 @@ fn bad_window(n: usize, window: Window) -> bool
 fn check_entries(n: usize, nodes: usize, shadows: usize, log: &[u8]) -> Outcome
     ensures { λ r. ⌜ r ≡ scan Refused (Accepted n nodes shadows) (entryFinding n (now (log .entry))) 0 (entryCount (now (log .entry))) ⌝ }
 {
-    let count = log.len() / 2;
+    let count = log.len() / ENTRY_BYTES;
     let mut i: usize = 0;
     while i < count {
         if n <= entry_at(log, i) as usize {
@@ -114,10 +118,10 @@ fn check_entries(n: usize, nodes: usize, shadows: usize, log: &[u8]) -> Outcome
 fn check_part(n: usize, nodes: usize, shadows: usize, window: Window, log: &[u8]) -> Outcome
     ensures { λ r. ⌜ r ≡ byPart window (now (log .entry)) (Accepted n nodes shadows) ⌝ }
 {
-    if log.len() % 2 != 0 {
+    if log.len() % ENTRY_BYTES != 0 {
         return Outcome::Refused(Refusal::LogLength, 0);
     }
-    if LOG_ENTRIES < log.len() / 2 {
+    if LOG_ENTRIES < log.len() / ENTRY_BYTES {
         return Outcome::Refused(Refusal::LogLength, 0);
     }
     if bad_window(n, window) {
@@ -128,7 +132,7 @@ fn check_part(n: usize, nodes: usize, shadows: usize, window: Window, log: &[u8]
 
 // Puts the window in front.
 fn put_window(window: Window, xs: &mut [u16])
-    requires { ⌜ (window .count ≤ 31) × (31 ≤ length (now xs)) ⌝ }
+    requires { ⌜ (window .count ≤ WINDOW) × (WINDOW ≤ length (now xs)) ⌝ }
     ensures { λ _. ⌜ Begun window (now (xs .exit)) ⌝ }
 {
     let count = window.count;
@@ -142,10 +146,10 @@ fn put_window(window: Window, xs: &mut [u16])
 
 // Puts the entries of a part behind the first c places.
 fn put_entries(log: &[u8], c: usize, xs: &mut [u16])
-    requires { ⌜ (c + entryCount (now log) ≤ length (now xs)) × (c ≤ 31) ⌝ }
+    requires { ⌜ (c + entryCount (now log) ≤ length (now xs)) × (c ≤ WINDOW) ⌝ }
     ensures { λ _. ⌜ Followed (now (log .entry)) c (now (xs .entry)) (now (xs .exit)) ⌝ }
 {
-    let count = log.len() / 2;
+    let count = log.len() / ENTRY_BYTES;
     let mut i: usize = 0;
     while i < count {
         xs[c + i] = entry_at(log, i);
@@ -202,7 +206,7 @@ fn write_part(
     let count = window.count;
     put_window(window, &mut xs);
     put_entries(log, count, &mut xs);
-    let end = count + log.len() / 2;
+    let end = count + log.len() / ENTRY_BYTES;
     let seq = &xs[..end];
     write_bytes(seq, count, a, out);
     last_window(seq)
@@ -233,7 +237,7 @@ fn judge(
     requires { ⌜ (bookCheck (now book) ≡ on.Accepted n) × (2 * entryCount (now log) ≤ length (now out)) ⌝ }
     ensures { λ r. ⌜ Judged (now (book .entry)) n window (now (log .entry)) (now (out .entry)) r (now (out .exit)) ⌝ }
 {
-    let mut voids = [0u64; 32];
+    let mut voids = [0u64; matrices::ROW_WORDS];
     closure::marking::mark_voids(book, &mut voids);
     let mut order = [0u16; matrices::ROWS];
     let mut lead = [0u16; matrices::ROWS];
@@ -287,8 +291,8 @@ pub fn replicates(
 ) -> Replicated
     ensures { λ r. ⌜ Determined (now (book .entry)) window (now (log .entry)) (now (out .entry)) r (now (out .exit)) ⌝ }
 {
-    let count = log.len() / 2;
-    if out.len() < 2 * count {
+    let count = log.len() / ENTRY_BYTES;
+    if out.len() < ENTRY_BYTES * count {
         return refuse(Refusal::ShortBuffer, 0, window);
     }
     let checked = records::check_book(book);

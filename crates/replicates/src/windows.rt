@@ -5,6 +5,7 @@ ghost use Prim.Native.Nat.{_+_, _-_, _<_, _≤_};
 ghost use Rattle.matrices.specs.Matrix.{bitOf};
 ghost use Rattle.replicates.specs.Before.{oldest};
 ghost use Rattle.replicates.specs.Looking.{Sequence, seeing, Looked, Reach};
+ghost use Rattle.replicates.specs.Sizes.{SEQUENCE};
 
 // How many entries before one are looked at.
 pub const WINDOW: usize = 31;
@@ -27,7 +28,7 @@ pub fn oldest_of(q: usize) -> usize
 
 // One entry more, number j, that is apart or not.
 fn see(seen: Seen, j: usize, apart: bool) -> Seen
-    requires { ⌜ (seen .apart < 255) × (j < 100000) ⌝ }
+    requires { ⌜ (seen .apart < 255) × (j < SEQUENCE) ⌝ }
     ensures { λ r. ⌜ r ≡ seeing seen j apart ⌝ }
 {
     if apart {
@@ -44,7 +45,7 @@ fn see(seen: Seen, j: usize, apart: bool) -> Seen
 
 // Entry q against the up to 31 entries before it.
 pub fn look(xs: &[u16], q: usize, a: &[u64]) -> Seen
-    requires { ⌜ Sequence (now xs) (now a) × (q < length (now xs)) × (q < 100000) ⌝ }
+    requires { ⌜ Sequence (now xs) (now a) × (q < length (now xs)) × (q < SEQUENCE) ⌝ }
     ensures { λ r. ⌜ Looked (bitOf (now (a .entry))) (now (xs .entry)) q r ⌝ }
 {
     let oldest = oldest_of(q);
@@ -63,7 +64,7 @@ pub fn look(xs: &[u16], q: usize, a: &[u64]) -> Seen
 
 // From where on every two of the first c entries are apart, as far back as anyone looks.
 pub fn reach(xs: &[u16], c: usize, a: &[u64]) -> usize
-    requires { ⌜ Sequence (now xs) (now a) × (c ≤ length (now xs)) × (length (now xs) < 100000) ⌝ }
+    requires { ⌜ Sequence (now xs) (now a) × (c ≤ length (now xs)) × (length (now xs) < SEQUENCE) ⌝ }
     ensures { λ r. ⌜ Reach (bitOf (now (a .entry))) (now (xs .entry)) c r ⌝ }
 {
     let mut start: usize = 0;

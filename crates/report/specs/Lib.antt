@@ -1,3 +1,4 @@
+pub mod Rooms
 pub mod Session
 pub mod Room
 pub mod Page

@@ -10,6 +10,8 @@ ghost use Rattle.report.specs.Room.{bytesFor};
 ghost use Rattle.report.specs.Page.{printed};
 ghost use Rattle.report.specs.Answered.{Answered};
 ghost use Rattle.report.specs.Asked.{Asked};
+ghost use Rattle.report.specs.Rooms.{ANSWERS-MOST, ANSWERS-ROOM};
+ghost use Rattle.text.specs.Rooms.{CLAIMS-ROOM};
 use matrices::Matrix;
 use outcomes::Outcome;
 use pages::Written;
@@ -113,7 +115,7 @@ pub fn answer(
     p: &mut Matrix,
     q: &mut Matrix,
 ) -> Outcome
-    requires { ⌜ now answers ≡ replicate 4097 0 ⌝ }
+    requires { ⌜ now answers ≡ replicate ANSWERS-MOST 0 ⌝ }
     ensures { λ r. ⌜ Answered (now (book .entry)) (now (claims .entry)) (now (answers .exit)) r ⌝ }
 {
     let mut parens = [0u8; index::PARENTHESES_BYTES];
@@ -149,7 +151,7 @@ fn write_session(
     p: &mut Matrix,
     q: &mut Matrix,
 ) -> usize
-    requires { ⌜ (length (now claims) ≤ 24582) × (135285 ≤ length (now page)) ⌝ }
+    requires { ⌜ (length (now claims) ≤ CLAIMS-ROOM) × (ANSWERS-ROOM ≤ length (now page)) ⌝ }
     ensures { λ r. ⌜ Printed (now (page .entry)) (printed (now (book .entry)) (now (claims .entry))) (now (page .exit)) r ⌝ }
 {
     let mut answers = [0u8; records::CLAIMS + 1];

@@ -1,3 +1,4 @@
+pub mod Rooms
 pub mod Words
 pub mod Refusals
 pub mod Unread

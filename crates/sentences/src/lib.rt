@@ -10,10 +10,14 @@ ghost use Rattle.sentences.specs.Words.{kindName, answerName, agreementN
 ghost use Rattle.sentences.specs.Refusals.{sentence, refusalLine, lineOf, refused};
 ghost use Rattle.sentences.specs.Unread as unread;
 ghost use Rattle.sentences.specs.Unread.{prefix, reasonOf, unreadLine};
+ghost use Rattle.sentences.specs.Rooms.{REFUSED-LINE, UNREAD-LINE};
 use pages::Written;
 use records::Refusal;
 
 pub mod sources;
+
+// The reason that a text is too long.
+pub const TOO_LONG: usize = 6;
 
 // Of whom a line of what cannot be read speaks, and the line of a refusal in a second book.
 pub const BOOK: usize = 0;
@@ -118,7 +122,7 @@ pub fn put_refused(
     other: &[u8],
 ) -> usize
     ensures { λ r. ⌜ Put (now (page .entry)) at (refused refusal place (now (book .entry)) (now (other .entry))) (now (page .exit)) r ⌝ }
-    ensures { λ r. ⌜ length (refused refusal place (now (book .entry)) (now (other .entry))) ≤ 142 ⌝ }
+    ensures { λ r. ⌜ length (refused refusal place (now (book .entry)) (now (other .entry))) ≤ REFUSED-LINE ⌝ }
 {
     let number = records::refusal_number(refusal) as usize;
     let l = line_of(number, place, book, other);
@@ -134,7 +138,7 @@ pub fn put_refused_book(
     book: &[u8],
 ) -> usize
     ensures { λ r. ⌜ Put (now (page .entry)) at (refused refusal place (now (book .entry)) []) (now (page .exit)) r ⌝ }
-    ensures { λ r. ⌜ length (refused refusal place (now (book .entry)) []) ≤ 142 ⌝ }
+    ensures { λ r. ⌜ length (refused refusal place (now (book .entry)) []) ≤ REFUSED-LINE ⌝ }
 {
     let number = records::refusal_number(refusal) as usize;
     let l = record_line(number, place, book);
@@ -178,7 +182,7 @@ fn put_reason(page: &mut [u8], at: usize, source: usize, reason: usize) -> usize
 // The one line of what cannot be read: the number of its first bad line, and the reason.
 pub fn put_unread(page: &mut [u8], at: usize, source: usize, bad: usize, reason: usize) -> usize
     ensures { λ r. ⌜ Put (now (page .entry)) at (unreadLine source bad reason) (now (page .exit)) r ⌝ }
-    ensures { λ r. ⌜ length (unreadLine source bad reason) ≤ 95 ⌝ }
+    ensures { λ r. ⌜ length (unreadLine source bad reason) ≤ UNREAD-LINE ⌝ }
 {
     let at = put_prefix(page, at, source);
     let at = pages::put(page, at, b"UNREAD ");
@@ -193,7 +197,7 @@ pub fn put_unread(page: &mut [u8], at: usize, source: usize, bad: usize, reason:
 // The same on a page of its own: 95 bytes always serve.
 pub fn write_unread(page: &mut [u8], source: usize, bad: usize, reason: usize) -> Written
     ensures { λ r. ⌜ Page (now (page .entry)) (unreadLine source bad reason) (now (page .exit)) r ⌝ }
-    ensures { λ r. ⌜ length (unreadLine source bad reason) ≤ 95 ⌝ }
+    ensures { λ r. ⌜ length (unreadLine source bad reason) ≤ UNREAD-LINE ⌝ }
 {
     let end = put_unread(page, 0, source, bad, reason);
     pages::finish(page.len(), end)

@@ -13,6 +13,9 @@ use text::Form;
 use text::lines::Line;
 use text::reading::Read;
 
+// The longest words.
+const WORDS_BYTES: usize = 4095;
+
 // How many bytes of records, claims or a log were read; or the first bad line and the number of the reason.
 pub enum Source {
     Bytes(usize),
@@ -53,7 +56,7 @@ fn absent(form: Form) -> usize
 pub fn read_words(form: Form, words: &[u8]) -> Words
     ensures { λ r. ⌜ r ≡ wordsOf form (now (words .entry)) ⌝ }
 {
-    if 4095 < words.len() {
+    if WORDS_BYTES < words.len() {
         return Words::Wrong(7);
     }
     let line = text::lines::read_line(form, words);
@@ -65,7 +68,7 @@ pub fn read_words(form: Form, words: &[u8]) -> Words
 }
 
 // The bytes of a record or a claim.
-pub fn six_bytes(r: Record) -> [u8; 6]
+pub fn six_bytes(r: Record) -> [u8; records::RECORD_BYTES]
     ensures { λ x. ⌜ x ≡ sixBytes r ⌝ }
 {
     let a = r.a;
@@ -74,8 +77,8 @@ pub fn six_bytes(r: Record) -> [u8; 6]
         r.kind,
         r.origin,
         numbers::low(a),
-        numbers::low(a / 256),
+        numbers::low(a / numbers::BYTE_VALUES),
         numbers::low(b),
-        numbers::low(b / 256),
+        numbers::low(b / numbers::BYTE_VALUES),
     ]
 }

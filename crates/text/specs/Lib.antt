@@ -1,3 +1,4 @@
+pub mod Rooms
 pub mod Tests
 pub mod Runs
 pub mod Word

@@ -9,6 +9,13 @@ pub mod reading;
 pub mod showing;
 pub mod words;
 
+// What a text says has one entry more than a list may have at most, so that too long a list is told.
+pub const BOOK_ROOM: usize = 49158;
+
+pub const CLAIMS_ROOM: usize = 24582;
+
+pub const LOG_ROOM: usize = 65538;
+
 // What the lines of a text are.
 pub enum Form {
     Records,

@@ -29,16 +29,16 @@ fn fact_kind(w: &[u8]) -> u8
     ensures { λ r. ⌜ r ≡ place 1 kindNames (now (w .entry)) ⌝ }
 {
     if crate::words::is_word(w, b"PART") {
-        return 1;
+        return records::PART;
     }
     if crate::words::is_word(w, b"APART") {
-        return 2;
+        return records::APART;
     }
     if crate::words::is_word(w, b"MEETS") {
-        return 3;
+        return records::MEETS;
     }
     if crate::words::is_word(w, b"NOTPART") {
-        return 4;
+        return records::NOTPART;
     }
     0
 }
@@ -55,7 +55,7 @@ fn kind_of(form: Form, w: &[u8]) -> u8
                 return kind;
             }
             if crate::words::is_word(w, b"VOID") {
-                return 6;
+                return records::VOID;
             }
             0
         }
@@ -145,7 +145,7 @@ fn read_second(form: Form, kind: u8, a: usize, l: &[u8], at: usize) -> Line
     requires { ⌜ at ≤ length (now l) ⌝ }
     ensures { λ r. ⌜ r ≡ secondly form kind a (drop at (now (l .entry))) ⌝ }
 {
-    if kind == 6 {
+    if kind == records::VOID {
         return read_last(form, kind, a, 0, l, at);
     }
     let n = number_at(l, at);

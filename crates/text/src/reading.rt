@@ -15,6 +15,12 @@ use crate::lines::Line;
 use crate::words::Sort;
 use records::Record;
 
+// The longest text.
+const TEXT_BYTES: usize = 524288;
+
+// The bytes of the mark that may begin a text.
+const MARK_BYTES: usize = 3;
+
 // How many bytes are written after a line, or why it cannot be read.
 pub enum Step {
     Go(usize),
@@ -33,9 +39,9 @@ pub fn bytes_most(form: Form) -> usize
     ensures { λ r. ⌜ r ≡ bytesMost form ⌝ }
 {
     match form {
-        Form::Records => 49158,
-        Form::Claims => 24582,
-        Form::Log => 65538,
+        Form::Records => crate::BOOK_ROOM,
+        Form::Claims => crate::CLAIMS_ROOM,
+        Form::Log => crate::LOG_ROOM,
     }
 }
 
@@ -43,7 +49,7 @@ pub fn bytes_most(form: Form) -> usize
 fn mark_length(text: &[u8]) -> usize
     ensures { λ r. ⌜ r ≡ markLength (now (text .entry)) ⌝ }
 {
-    if text.len() < 3 {
+    if text.len() < MARK_BYTES {
         return 0;
     }
     if text[0] != 239 {
@@ -55,7 +61,7 @@ fn mark_length(text: &[u8]) -> usize
     if text[2] != 191 {
         return 0;
     }
-    3
+    MARK_BYTES
 }
 
 // Puts the bytes of an entry at a place, and answers the place behind them.
@@ -66,7 +72,7 @@ fn put_entry(form: Form, e: Record, out: &mut [u8], at: usize) -> usize
     let a = e.a;
     let b = e.b;
     if let Form::Log = form {
-        let two = [numbers::low(a), numbers::low(a / 256)];
+        let two = [numbers::low(a), numbers::low(a / numbers::BYTE_VALUES)];
         numbers::copy_to(&two, out, at);
         return at + 2;
     }
@@ -74,12 +80,12 @@ fn put_entry(form: Form, e: Record, out: &mut [u8], at: usize) -> usize
         e.kind,
         e.origin,
         numbers::low(a),
-        numbers::low(a / 256),
+        numbers::low(a / numbers::BYTE_VALUES),
         numbers::low(b),
-        numbers::low(b / 256),
+        numbers::low(b / numbers::BYTE_VALUES),
     ];
     numbers::copy_to(&six, out, at);
-    at + 6
+    at + records::RECORD_BYTES
 }
 
 // Reads one line, and puts what it says behind the bytes that are done.
@@ -128,7 +134,7 @@ pub fn read_text(form: Form, text: &[u8], out: &mut [u8]) -> Read
     if out.len() < bytes_most(form) {
         return Read::Short;
     }
-    if 524288 < text.len() {
+    if TEXT_BYTES < text.len() {
         return Read::Unread(0, Reason::TooLong);
     }
     read_lines(form, text, mark_length(text), out)

@@ -13,11 +13,11 @@ fn put_kind(page: &mut [u8], at: usize, kind: u8) -> usize
     ensures { λ e. ⌜ Put (now (page .entry)) at (field (kindWord kind) 32) (now (page .exit)) e ⌝ }
 {
     match kind {
-        1 => pages::put(page, at, b"PART "),
-        2 => pages::put(page, at, b"APART "),
-        3 => pages::put(page, at, b"MEETS "),
-        4 => pages::put(page, at, b"NOTPART "),
-        6 => pages::put(page, at, b"VOID "),
+        records::PART => pages::put(page, at, b"PART "),
+        records::APART => pages::put(page, at, b"APART "),
+        records::MEETS => pages::put(page, at, b"MEETS "),
+        records::NOTPART => pages::put(page, at, b"NOTPART "),
+        records::VOID => pages::put(page, at, b"VOID "),
         _ => pages::put(page, at, b" "),
     }
 }
@@ -40,7 +40,7 @@ pub fn put_record(page: &mut [u8], at: usize, choice: &[u8], r: Record) -> usize
 {
     let kind = r.kind;
     let at = put_kind(page, at, kind);
-    if kind == 6 {
+    if kind == records::VOID {
         return put_last(page, at, r.a, choice, r.origin);
     }
     let at = pages::put_number(page, at, r.a, b' ');
@@ -51,7 +51,7 @@ pub fn put_record(page: &mut [u8], at: usize, choice: &[u8], r: Record) -> usize
 fn put_records(page: &mut [u8], choice: &[u8], s: &[u8]) -> usize
     ensures { λ e. ⌜ Put (now (page .entry)) 0 (showRecords (now (choice .entry)) (now (s .entry))) (now (page .exit)) e ⌝ }
 {
-    let n = s.len() / 6;
+    let n = s.len() / records::RECORD_BYTES;
     let mut end: usize = 0;
     let mut i: usize = 0;
     while i < n {

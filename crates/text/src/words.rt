@@ -7,6 +7,14 @@ ghost use Rattle.text.specs.Number.{isDigit, number};
 ghost use Rattle.text.specs.Names.{lower, same};
 ghost use Rattle.text.specs.Reading.{WordAt};
 
+// The base of numbers in words, and the largest of them.
+const TEN: usize = 10;
+
+const LARGEST: usize = 65535;
+
+// From a capital letter to the small one.
+const CASE: u8 = 32;
+
 // A sort of bytes: between words, in a word, in a line; in a number, outside numbers.
 pub enum Sort {
     Blank,
@@ -30,25 +38,25 @@ pub struct Word {
 fn is_blank(x: u8) -> bool
     ensures { λ r. ⌜ r ≡ blank x ⌝ }
 {
-    if x == 32 {
+    if x == b' ' {
         return true;
     }
-    if x == 9 {
+    if x == b'\t' {
         return true;
     }
-    if x == 13 {
+    if x == b'\r' {
         return true;
     }
-    x == 10
+    x == b'\n'
 }
 
 fn is_digit(x: u8) -> bool
     ensures { λ r. ⌜ r ≡ isDigit x ⌝ }
 {
-    if x < 48 {
+    if x < b'0' {
         return false;
     }
-    x <= 57
+    x <= b'9'
 }
 
 fn is_of(sort: Sort, x: u8) -> bool
@@ -60,9 +68,9 @@ fn is_of(sort: Sort, x: u8) -> bool
             if is_blank(x) {
                 return false;
             }
-            x != 35
+            x != b'#'
         }
-        Sort::Inner => x != 10,
+        Sort::Inner => x != b'\n',
         Sort::Digit => is_digit(x),
         Sort::Gap => !is_digit(x),
     }
@@ -106,8 +114,8 @@ pub fn read_number(w: &[u8]) -> Number
         if !is_digit(x) {
             return Number::NoNumber;
         }
-        n = 10 * n + numbers::wide(x - 48);
-        if 65535 < n {
+        n = TEN * n + numbers::wide(x - b'0');
+        if LARGEST < n {
             return Number::NoNumber;
         }
         i += 1;
@@ -119,13 +127,13 @@ pub fn read_number(w: &[u8]) -> Number
 fn lower(x: u8) -> u8
     ensures { λ r. ⌜ r ≡ lower x ⌝ }
 {
-    if x < 65 {
+    if x < b'A' {
         return x;
     }
-    if 90 < x {
+    if b'Z' < x {
         return x;
     }
-    x + 32
+    x + CASE
 }
 
 // Whether a word is a name, in letters of either case.

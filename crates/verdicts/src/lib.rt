@@ -12,6 +12,8 @@ ghost use Rattle.matrices.specs.Matrix.{bitOf, IsMatrix};
 ghost use Rattle.verdicts.specs.Opposed.{opposed};
 ghost use Rattle.verdicts.specs.Tells.{Derived, Answered, Clashing};
 ghost use Rattle.verdicts.specs.Answers.{answerByte};
+ghost use Rattle.matrices.specs.Sizes.{ROW-WORDS};
+ghost use Rattle.records.specs.Sizes.{NOTPART, PART, PIECES};
 use records::Record;
 
 // What a book says of a claim.
@@ -21,9 +23,20 @@ pub enum Answer {
     Open,
 }
 
+// Document 01's byte of an answer.
+pub fn byte_of(answer: Answer) -> u8
+    ensures { λ r. ⌜ r ≡ answerByte answer ⌝ }
+{
+    match answer {
+        Answer::Follows => 1,
+        Answer::Denied => 2,
+        Answer::Open => 3,
+    }
+}
+
 // Whether one of two pieces is marked.
 fn either_marked(voids: &[u64], a: usize, b: usize) -> bool
-    requires { ⌜ (length (now voids) ≡ 32) × (a < 2048) × (b < 2048) ⌝ }
+    requires { ⌜ (length (now voids) ≡ ROW-WORDS) × (a < PIECES) × (b < PIECES) ⌝ }
     ensures { λ r. ⌜ r ≡ (voidOf (now (voids .entry)) a || voidOf (now (voids .entry)) b) ⌝ }
 {
     if matrices::has(voids, a) {
@@ -34,7 +47,7 @@ fn either_marked(voids: &[u64], a: usize, b: usize) -> bool
 
 // Whether of two pieces the second alone is marked.
 fn second_marked(voids: &[u64], a: usize, b: usize) -> bool
-    requires { ⌜ (length (now voids) ≡ 32) × (a < 2048) × (b < 2048) ⌝ }
+    requires { ⌜ (length (now voids) ≡ ROW-WORDS) × (a < PIECES) × (b < PIECES) ⌝ }
     ensures { λ r. ⌜ r ≡ (not (voidOf (now (voids .entry)) a) && voidOf (now (voids .entry)) b) ⌝ }
 {
     if matrices::has(voids, a) {
@@ -45,7 +58,7 @@ fn second_marked(voids: &[u64], a: usize, b: usize) -> bool
 
 // Whether a is marked, or part of b by the stored facts.
 fn part_or_marked(voids: &[u64], d: &[u64], a: usize, b: usize) -> bool
-    requires { ⌜ (length (now voids) ≡ 32) × (IsMatrix (now d)) × (a < 2048) × (b < 2048) ⌝ }
+    requires { ⌜ (length (now voids) ≡ ROW-WORDS) × (IsMatrix (now d)) × (a < PIECES) × (b < PIECES) ⌝ }
     ensures { λ r. ⌜ r ≡ (voidOf (now (voids .entry)) a || bitOf (now (d .entry)) b a) ⌝ }
 {
     if matrices::has(voids, a) {
@@ -56,7 +69,7 @@ fn part_or_marked(voids: &[u64], d: &[u64], a: usize, b: usize) -> bool
 
 // Whether the marks and the closure contradict a record.
 fn opposes(r: Record, voids: &[u64], d: &[u64], t: &[u64]) -> bool
-    requires { ⌜ (length (now voids) ≡ 32) × (IsMatrix (now d)) × (IsMatrix (now t)) × (1 ≤ r .kind → r .kind ≤ 4 → (r .a < 2048) × (r .b < 2048)) ⌝ }
+    requires { ⌜ (length (now voids) ≡ ROW-WORDS) × (IsMatrix (now d)) × (IsMatrix (now t)) × (PART ≤ r .kind → r .kind ≤ NOTPART → (r .a < PIECES) × (r .b < PIECES)) ⌝ }
     ensures { λ b. ⌜ b ≡ opposed (voidOf (now (voids .entry))) (now (d .entry)) (now (t .entry)) r ⌝ }
 {
     if r.kind == records::PART {
@@ -76,7 +89,7 @@ fn opposes(r: Record, voids: &[u64], d: &[u64], t: &[u64]) -> bool
 
 // Whether the run is contradictory, where d and t are those of its facts: only stored facts are looked at.
 pub fn clashes(run: &[u8], voids: &[u64], d: &[u64], t: &[u64]) -> bool
-    requires { ⌜ (length (now voids) ≡ 32) × (IsMatrix (now d)) × (IsMatrix (now t)) × AllWithin 2048 (facts (now run)) ⌝ }
+    requires { ⌜ (length (now voids) ≡ ROW-WORDS) × (IsMatrix (now d)) × (IsMatrix (now t)) × AllWithin PIECES (facts (now run)) ⌝ }
     ensures { λ b. ⌜ Clashing (voidOf (now (voids .entry))) (facts (now (run .entry))) (now (d .entry)) (now (t .entry)) b ⌝ }
 {
     let n = run.len() / records::RECORD_BYTES;
@@ -93,7 +106,7 @@ pub fn clashes(run: &[u8], voids: &[u64], d: &[u64], t: &[u64]) -> bool
 
 // Whether the marks alone tell the fact of a kind about a and b.
 pub fn marks_tell(kind: u8, a: usize, b: usize, voids: &[u64]) -> bool
-    requires { ⌜ (length (now voids) ≡ 32) × (a < 2048) × (b < 2048) ⌝ }
+    requires { ⌜ (length (now voids) ≡ ROW-WORDS) × (a < PIECES) × (b < PIECES) ⌝ }
     ensures { λ r. ⌜ r ≡ byMarks (voidOf (now (voids .entry))) (factOf kind a b) ⌝ }
 {
     if kind == records::PART {
@@ -119,7 +132,7 @@ fn derived(
     t: &[u64],
     q: &[u64],
 ) -> bool
-    requires { ⌜ (a < 2048) × (b < 2048) × (IsMatrix (now d)) × (IsMatrix (now u)) × (IsMatrix (now p)) × (IsMatrix (now t)) × (IsMatrix (now q)) ⌝ }
+    requires { ⌜ (a < PIECES) × (b < PIECES) × (IsMatrix (now d)) × (IsMatrix (now u)) × (IsMatrix (now p)) × (IsMatrix (now t)) × (IsMatrix (now q)) ⌝ }
     ensures { λ r. ⌜ Derived (now (d .entry)) (now (u .entry)) (now (p .entry)) (now (t .entry)) (now (q .entry)) kind a b r ⌝ }
 {
     if kind == records::PART {
@@ -136,7 +149,7 @@ fn derived(
 
 // The answer to a claim of a kind 1 to 4 about two pieces of which one is marked: the marks decide it.
 fn answer_marked(kind: u8, a: usize, b: usize, voids: &[u64]) -> Answer
-    requires { ⌜ (1 ≤ kind) × (kind ≤ 4) × (a < 2048) × (b < 2048) × (length (now voids) ≡ 32) × ((voidOf (now voids) a || voidOf (now voids) b) ≡ true) ⌝ }
+    requires { ⌜ (PART ≤ kind) × (kind ≤ NOTPART) × (a < PIECES) × (b < PIECES) × (length (now voids) ≡ ROW-WORDS) × ((voidOf (now voids) a || voidOf (now voids) b) ≡ true) ⌝ }
     ensures { λ r. ⌜ ((d u p t q : List ℕ) → Answered (voidOf (now (voids .entry))) d u p t q kind a b (answerByte r)) ⌝ }
 {
     if marks_tell(kind, a, b, voids) {
@@ -157,7 +170,7 @@ pub fn answer_to(
     t: &[u64],
     q: &[u64],
 ) -> Answer
-    requires { ⌜ (1 ≤ kind) × (kind ≤ 4) × (a < 2048) × (b < 2048) × (length (now voids) ≡ 32) × (IsMatrix (now d)) × (IsMatrix (now u)) × (IsMatrix (now p)) × (IsMatrix (now t)) × (IsMatrix (now q)) ⌝ }
+    requires { ⌜ (PART ≤ kind) × (kind ≤ NOTPART) × (a < PIECES) × (b < PIECES) × (length (now voids) ≡ ROW-WORDS) × (IsMatrix (now d)) × (IsMatrix (now u)) × (IsMatrix (now p)) × (IsMatrix (now t)) × (IsMatrix (now q)) ⌝ }
     ensures { λ r. ⌜ Answered (voidOf (now (voids .entry))) (now (d .entry)) (now (u .entry)) (now (p .entry)) (now (t .entry)) (now (q .entry)) kind a b (answerByte r) ⌝ }
 {
     if either_marked(voids, a, b) {
@@ -166,7 +179,7 @@ pub fn answer_to(
     if derived(kind, a, b, d, u, p, t, q) {
         return Answer::Follows;
     }
-    if derived(5 - kind, a, b, d, u, p, t, q) {
+    if derived(records::OPPOSITES - kind, a, b, d, u, p, t, q) {
         return Answer::Denied;
     }
     Answer::Open

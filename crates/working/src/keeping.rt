@@ -5,6 +5,7 @@ ghost use lib.ListN.{length};
 ghost use Rattle.records.specs.Check.{bookCheck};
 ghost use Rattle.outcomes.specs.One.{byOne};
 ghost use Rattle.working.specs.Kept.{keptState, keptArea, image};
+ghost use Rattle.records.specs.Sizes.{BOOK-BYTES, RECORD-BYTES};
 use crate::runs;
 use outcomes::Outcome;
 use records::BookCheck;
@@ -36,7 +37,7 @@ pub fn settle(
     records: usize,
     outcome: Outcome,
 ) -> Settled
-    requires { ⌜ (length (now run) ≤ 49152) × (49152 ≤ length (now area)) ⌝ }
+    requires { ⌜ (length (now run) ≤ BOOK-BYTES) × (BOOK-BYTES ≤ length (now area)) ⌝ }
     ensures { λ r. ⌜ (r .outcome ≡ outcome) × ((r .working ≡ keptState was records outcome) × (now (area .exit) ≡ keptArea (now (area .entry)) (image (now (run .entry))) outcome)) ⌝ }
 {
     match outcome {
@@ -66,7 +67,7 @@ pub fn refuse(was: Working, refusal: Refusal) -> Settled
 
 // A claim of other than 6 bytes: the book's rows, then 10.
 pub fn misfit(run: &[u8], claim: &[u8]) -> Outcome
-    requires { ⌜ (length (now claim) ≡ 6 → ⊥) ⌝ }
+    requires { ⌜ (length (now claim) ≡ RECORD-BYTES → ⊥) ⌝ }
     ensures { λ r. ⌜ r ≡ byOne (now (run .entry)) (now (claim .entry)) (bookCheck (now (run .entry))) ⌝ }
 {
     let checked = records::check_book(run);

@@ -7,6 +7,7 @@ ghost use Rattle.outcomes.specs.Fresh.{freshCall};
 ghost use Rattle.working.specs.Standing.{extended, without};
 ghost use Rattle.working.specs.Rows.{answerOf};
 ghost use Rattle.working.specs.Kept.{Extended, Started, Added, Withdrawn, Answered};
+ghost use Rattle.records.specs.Sizes.{BOOK-BYTES, RECORD-BYTES, RECORDS};
 use keeping::Asked;
 pub use keeping::Settled;
 pub use keeping::Working;
@@ -28,7 +29,7 @@ fn answer_run(
     p: &mut Matrix,
     q: &mut Matrix,
 ) -> Asked
-    requires { ⌜ length (now claim) ≡ 6 ⌝ }
+    requires { ⌜ length (now claim) ≡ RECORD-BYTES ⌝ }
     ensures { λ r. ⌜ (r .outcome ≡ freshCall (now (run .entry)) (now (claim .entry))) × (r .answer ≡ answerOf (now (run .entry)) (now (claim .entry)) (r .outcome)) ⌝ }
 {
     let mut parens = [0u8; index::PARENTHESES_BYTES];
@@ -93,12 +94,12 @@ fn extend(
     p: &mut Matrix,
     q: &mut Matrix,
 ) -> Settled
-    requires { ⌜ (was .records < 8192) × ((49152 ≤ length (now area)) × (length (now addition) ≡ 6)) ⌝ }
+    requires { ⌜ (was .records < RECORDS) × ((BOOK-BYTES ≤ length (now area)) × (length (now addition) ≡ RECORD-BYTES)) ⌝ }
     ensures { λ r. ⌜ Extended was (now (area .entry)) (extended (now (area .entry)) (was .records) (now (addition .entry))) r (now (area .exit)) ⌝ }
 {
     let records = was.records;
-    let end = 6 * records;
-    let next = end + 6;
+    let end = records::RECORD_BYTES * records;
+    let next = end + records::RECORD_BYTES;
     let mut run = [0u8; records::BOOK_BYTES];
     runs::write_runs(&area[..end], addition, &mut run[..next]);
     let outcome = answers::judge_run(&run[..next], e, d, t, u, p, q);
@@ -146,13 +147,13 @@ fn remove(
     p: &mut Matrix,
     q: &mut Matrix,
 ) -> Settled
-    requires { ⌜ (number < was .records) × ((was .records ≤ 8192) × (49152 ≤ length (now area))) ⌝ }
+    requires { ⌜ (number < was .records) × ((was .records ≤ RECORDS) × (BOOK-BYTES ≤ length (now area))) ⌝ }
     ensures { λ r. ⌜ Extended was (now (area .entry)) (without (now (area .entry)) (was .records) number) r (now (area .exit)) ⌝ }
 {
     let records = was.records;
-    let at = 6 * number;
-    let end = 6 * records;
-    let next = end - 6;
+    let at = records::RECORD_BYTES * number;
+    let end = records::RECORD_BYTES * records;
+    let next = end - records::RECORD_BYTES;
     let mut run = [0u8; records::BOOK_BYTES];
     runs::write_without(area, at, end, &mut run[..next]);
     let outcome = answers::judge_run(&run[..next], e, d, t, u, p, q);
@@ -211,7 +212,7 @@ pub fn ask_of(
             answer: 0,
         };
     }
-    let end = 6 * records;
+    let end = records::RECORD_BYTES * records;
     if claim.len() != records::RECORD_BYTES {
         let outcome = keeping::misfit(&area[..end], claim);
         return Asked { outcome, answer: 0 };

@@ -4,6 +4,7 @@ ghost use mathlib.Core.List.{_++_};
 ghost use Prim.Native.Nat.{_+_, _≤_};
 ghost use lib.ListN.{length, take, drop};
 ghost use Rattle.parentheses.specs.Padded.{padded};
+ghost use Rattle.records.specs.Sizes.{RECORD-BYTES};
 
 // Writes two runs one behind the other, and zeros behind them.
 pub fn write_runs(first: &[u8], second: &[u8], out: &mut [u8])
@@ -19,9 +20,9 @@ pub fn write_runs(first: &[u8], second: &[u8], out: &mut [u8])
 
 // Writes the bytes before `at` and those from `at` + 6 up to `end`, and zeros behind them.
 pub fn write_without(area: &[u8], at: usize, end: usize, out: &mut [u8])
-    requires { ⌜ (at + 6 ≤ end) × ((end ≤ length (now area)) × (end ≤ length (now out) + 6)) ⌝ }
-    ensures { λ _. ⌜ now (out .exit) ≡ padded 0 (length (now (out .entry))) (take at (take end (now (area .entry))) ++ drop (at + 6) (take end (now (area .entry)))) ⌝ }
+    requires { ⌜ (at + RECORD-BYTES ≤ end) × ((end ≤ length (now area)) × (end ≤ length (now out) + RECORD-BYTES)) ⌝ }
+    ensures { λ _. ⌜ now (out .exit) ≡ padded 0 (length (now (out .entry))) (take at (take end (now (area .entry))) ++ drop (at + RECORD-BYTES) (take end (now (area .entry)))) ⌝ }
 {
-    let next = at + 6;
+    let next = at + records::RECORD_BYTES;
     write_runs(&area[..at], &area[next..end], out);
 }
