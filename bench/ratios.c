@@ -201,6 +201,16 @@ static void make_usual(const column *c)
     shuffle(&s);
 }
 
+/* The claim is a fact that the book has: its chain has one step. */
+static void make_one_step(const column *c)
+{
+    make_usual(c);
+    unsigned i = 0;
+    while (s.book[i * 6] != PART)
+        i++;
+    memcpy(claim, s.book + i * 6, 6);
+}
+
 /* One record in ten is the scanner's. */
 static void make_text(const column *c)
 {
@@ -266,6 +276,8 @@ static const line lines[] = {
     {"ask", make_usual, our_ask, their_ask, NULL, 0, 0, 0},
     {"ask, to an answer call of one claim", make_usual, our_ask, our_claim, NULL, 0, 0, 1},
     {"chain, PART", make_usual, our_chain, their_chain, NULL, 0, 0, 0},
+    {"chain of one step", make_one_step, our_chain, their_chain, NULL, 0, 0, 0},
+    {"chain of one step, to an index call", make_one_step, our_chain, our_index, NULL, 0, 0, 1},
     {"chain_check", make_usual, our_chain_check, their_chain_check, NULL, 0, 0, 0},
     {"clash, APART", make_contradictory, our_clash, their_clash, NULL, 0, 14, 0},
     {"clash_check", make_contradictory, our_clash_check, their_clash_check, NULL, 0, 14, 0},
@@ -291,6 +303,8 @@ static int same(const line *l)
 {
     if (number_of(l, 0) != l->number || number_of(l, 1) != l->number || results[0].chain_check != results[1].chain_check ||
         results[0].clash_check != results[1].clash_check)
+        return 0;
+    if (l->make == make_one_step && results[0].chain.steps != 1)
         return 0;
     if ((l->ours == our_chain_check && results[0].chain_check != 1) || (l->ours == our_clash_check && results[0].clash_check != 1))
         return 0;
