@@ -19,6 +19,8 @@ CRATES = ROOT / "crates"
 LOGS = ROOT / "target" / "must-fail"
 # what antt says of a declaration that only rests on a refused one
 RESTING = "was not admitted (it has holes or undetermined implicits, or was rejected), so this cannot be checked"
+# and where a changed program asks for other facts than its proof has: its shape is not kept, and nothing is said of its meaning
+MISFIT = re.compile(r"has no `|has no field|expected type `tie\.(Need|After|At)-")
 
 
 def functions(source):
@@ -68,9 +70,10 @@ class Program:
 def own_errors(log):
     """The functions, as paths, whose own proofs are refused at a fact."""
     found = set()
-    for line in log.split("\n"):
-        error = re.match(r"\S*?/proofs/(\S+?)\.antt:\d+:\d+: error: (.*)", line)
-        if error and RESTING not in error[2]:
+    # an error goes on over lines that name no file
+    for line in re.split(r"\n(?=\S+\.antt:\d+|fn |\w+ \w+::|logic)", log):
+        error = re.match(r"\S*?/proofs/(\S+?)\.antt:\d+:\d+: error: (.*)", line, re.S)
+        if error and RESTING not in error[2] and not MISFIT.search(error[2]):
             parts = error[1].split("/")
             for name in parts[-2].strip("+").split("+") if len(parts) > 1 else []:
                 found.add(tuple(parts[:-2] + [name]))
