@@ -20,7 +20,7 @@ LOGS = ROOT / "target" / "must-fail"
 # what antt says of a declaration that only rests on a refused one
 RESTING = "was not admitted (it has holes or undetermined implicits, or was rejected), so this cannot be checked"
 # and where a changed program asks for other facts than its proof has: its shape is not kept, and nothing is said of its meaning
-MISFIT = re.compile(r"has no `|has no field|expected type `tie\.(Need|After|At)-")
+MISFIT = re.compile(r"needs a function \(or path\) type to bind|has no `|has no field|expected type `tie\.(Need|After|At)-")
 
 
 def functions(source):
