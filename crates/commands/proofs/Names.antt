@@ -36,14 +36,17 @@ told word name false t = by (known (same word name))
     by (is-true e) = absurd (false≢true (t .1 (same-is word name e)))
     by (is-false e) = e
 
-module _ {word name : List ℕ} {r : Bool} (t : Tells word name r) (rows : List Row) where
-  pub hit : {command : Command} → r ≡ true → command ≡ named (row name command ∷ rows) word
-  unfolding named
-  hit {command} e = sym (ap (λ (b : Bool). ifTrue b command (named rows word)) (told word name r t ∙ e))
+-- a row's command or the one below it, by what the test returned
+module _ {word name : List ℕ} {r : Bool} (t : Tells word name r) (command below : Command) where
+  pub taken : r ≡ true → command ≡ ifTrue (same word name) command below
+  taken e = sym (ap (λ (b : Bool). ifTrue b command below) (told word name r t ∙ e))
 
-  pub next : (command : Command) {x : Command} → r ≡ false → x ≡ named rows word → x ≡ named (row name command ∷ rows) word
-  unfolding named
-  next command e p = p ∙ sym (ap (λ (b : Bool). ifTrue b command (named rows word)) (told word name r t ∙ e))
+  pub left : r ≡ false → below ≡ ifTrue (same word name) command below
+  left e = sym (ap (λ (b : Bool). ifTrue b command below) (told word name r t ∙ e))
+
+pub upon : (word name : List ℕ) (rows : List Row) (command below : Command) {r : Command} → r ≡ ifTrue (same word name) command below → below ≡ named rows word → r ≡ named (row name command ∷ rows) word
+unfolding named
+upon word name rows command below e p = e ∙ ap (λ (x : Command). ifTrue (same word name) command x) p
 
 pub none : (word : List ℕ) → Help ≡ named [] word
 unfolding named

@@ -2,8 +2,8 @@
 // Commands that read and write alike are one family: the program has a function for each family, and `desk` a page for each command.
 ghost use mathlib.Core.Path.{_≡_};
 ghost use mathlib.Core.List.{_++_};
-ghost use Rattle.commands.specs.Named.{named, ofBook, ofWords, ofFiles, commandOf};
-use check::same;
+ghost use Rattle.text.specs.Tests.{ifTrue};
+ghost use Rattle.commands.specs.Named.{same, named, ofBook, ofWords, ofFiles, commandOf};
 
 pub mod desk;
 
@@ -54,79 +54,63 @@ pub enum Command {
     Help,
 }
 
-// The commands of one argument, a book.
+// One row of a table: its command where the word is its name, or else that of the rows below it.
+fn row(word: &[u8], name: &[u8], command: Command, below: Command) -> Command
+    ensures { λ r. ⌜ r ≡ ifTrue (same (now (word .entry)) (now (name .entry))) command below ⌝ }
+{
+    if check::same(word, name) {
+        return command;
+    }
+    below
+}
+
+// The commands of one argument, a book. The rows stand from the last to the first.
 fn of_one(word: &[u8]) -> Command
     ensures { λ r. ⌜ r ≡ named ofBook (now (word .entry)) ⌝ }
 {
-    if same(word, b"check") {
-        return Command::Book(BookPage::Check);
-    }
-    if same(word, b"why") {
-        return Command::Book(BookPage::Why);
-    }
-    if same(word, b"grid") {
-        return Command::Book(BookPage::Grid);
-    }
-    if same(word, b"show") {
-        return Command::Book(BookPage::Show);
-    }
-    if same(word, b"ask") {
-        return Command::Input(InputPage::Ask);
-    }
-    if same(word, b"replicates") {
-        return Command::Input(InputPage::Replicates);
-    }
-    if same(word, b"new") {
-        return Command::New;
-    }
-    Command::Help
+    let command = Command::Help;
+    let command = row(word, b"new", Command::New, command);
+    let command = row(
+        word,
+        b"replicates",
+        Command::Input(InputPage::Replicates),
+        command,
+    );
+    let command = row(word, b"ask", Command::Input(InputPage::Ask), command);
+    let command = row(word, b"show", Command::Book(BookPage::Show), command);
+    let command = row(word, b"grid", Command::Book(BookPage::Grid), command);
+    let command = row(word, b"why", Command::Book(BookPage::Why), command);
+    row(word, b"check", Command::Book(BookPage::Check), command)
 }
 
 // The commands of a book and words.
 fn of_words(word: &[u8]) -> Command
     ensures { λ r. ⌜ r ≡ named ofWords (now (word .entry)) ⌝ }
 {
-    if same(word, b"ask") {
-        return Command::Words(WordsPage::Ask);
-    }
-    if same(word, b"why") {
-        return Command::Words(WordsPage::Why);
-    }
-    if same(word, b"inside") {
-        return Command::Words(WordsPage::Inside);
-    }
-    if same(word, b"touching") {
-        return Command::Words(WordsPage::Touching);
-    }
-    if same(word, b"apart") {
-        return Command::Words(WordsPage::Apart);
-    }
-    if same(word, b"add") {
-        return Command::Edit(Change::Add);
-    }
-    if same(word, b"withdraw") {
-        return Command::Edit(Change::Withdraw);
-    }
-    Command::Help
+    let command = Command::Help;
+    let command = row(word, b"withdraw", Command::Edit(Change::Withdraw), command);
+    let command = row(word, b"add", Command::Edit(Change::Add), command);
+    let command = row(word, b"apart", Command::Words(WordsPage::Apart), command);
+    let command = row(
+        word,
+        b"touching",
+        Command::Words(WordsPage::Touching),
+        command,
+    );
+    let command = row(word, b"inside", Command::Words(WordsPage::Inside), command);
+    let command = row(word, b"why", Command::Words(WordsPage::Why), command);
+    row(word, b"ask", Command::Words(WordsPage::Ask), command)
 }
 
 // The commands of two files, or else of a book and words.
 fn of_two(word: &[u8]) -> Command
     ensures { λ r. ⌜ r ≡ named (ofFiles ++ ofWords) (now (word .entry)) ⌝ }
 {
-    if same(word, b"verify") {
-        return Command::Verify;
-    }
-    if same(word, b"compare") {
-        return Command::Compare;
-    }
-    if same(word, b"pack") {
-        return Command::Write(Export::Pack);
-    }
-    if same(word, b"convert") {
-        return Command::Write(Export::Convert);
-    }
-    of_words(word)
+    let command = of_words(word);
+    let command = row(word, b"convert", Command::Write(Export::Convert), command);
+    let command = row(word, b"pack", Command::Write(Export::Pack), command);
+    let command = row(word, b"compare", Command::Compare, command);
+    row(word, b"verify", Command::Verify, command)
 }
 
 pub fn command_of(word: &[u8], count: usize) -> Command

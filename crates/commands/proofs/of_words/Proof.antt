@@ -1,133 +1,78 @@
 -- `commands::of_words` meets its contract, row by row. Assumes nothing.
 use borrow.Author.Needs.{needs}
-use Rattle.commands.proofs.Names.{hit, next, none}
+use Rattle.commands.proofs.Names.{upon, none}
 use Rattle.commands.proofs.of_words.Statement.{statement}
 use Rattle.commands.proofs.of_words.Tie as tie
 
-slice-aggregate-same : tie.Need-slice-aggregate-same
-slice-aggregate-same c = search needs
+slice-aggregate-row : tie.Need-slice-aggregate-row
+slice-aggregate-row c = search needs
 
-same-requires : tie.Need-same-requires
-same-requires c κs = search needs
+row-requires : tie.Need-row-requires
+row-requires c κs = search needs
+
+slice-aggregate-row-2 : tie.Need-slice-aggregate-row-2
+slice-aggregate-row-2 c = search needs
+
+row-requires-2 : tie.Need-row-requires-2
+row-requires-2 c κs = search needs
+
+slice-aggregate-row-3 : tie.Need-slice-aggregate-row-3
+slice-aggregate-row-3 c = search needs
+
+row-requires-3 : tie.Need-row-requires-3
+row-requires-3 c κs = search needs
+
+slice-aggregate-row-4 : tie.Need-slice-aggregate-row-4
+slice-aggregate-row-4 c = search needs
+
+row-requires-4 : tie.Need-row-requires-4
+row-requires-4 c κs = search needs
+
+slice-aggregate-row-5 : tie.Need-slice-aggregate-row-5
+slice-aggregate-row-5 c = search needs
+
+row-requires-5 : tie.Need-row-requires-5
+row-requires-5 c κs = search needs
+
+slice-aggregate-row-6 : tie.Need-slice-aggregate-row-6
+slice-aggregate-row-6 c = search needs
+
+row-requires-6 : tie.Need-row-requires-6
+row-requires-6 c κs = search needs
+
+slice-aggregate-row-7 : tie.Need-slice-aggregate-row-7
+slice-aggregate-row-7 c = search needs
+
+row-requires-7 : tie.Need-row-requires-7
+row-requires-7 c κs = search needs
 
 returns : tie.Need-returns
-returns c = hit (c .before .same .ensures) _ (c .if1 .taken)
-
-slice-aggregate-same-2 : tie.Need-slice-aggregate-same-2
-slice-aggregate-same-2 c = search needs
-
-same-requires-2 : tie.Need-same-requires-2
-same-requires-2 c κs = search needs
-
-returns-2 : tie.Need-returns-2
-returns-2 c =
-    next (c .before .before .before .before .same .ensures) _ _ (c .before .before .before .if1 .left)
-    (hit (c .before .same2 .ensures) _ (c .if2 .taken))
-
-slice-aggregate-same-3 : tie.Need-slice-aggregate-same-3
-slice-aggregate-same-3 c = search needs
-
-same-requires-3 : tie.Need-same-requires-3
-same-requires-3 c κs = search needs
-
-returns-3 : tie.Need-returns-3
-returns-3 c =
-    next (c .before .before .before .before .before .before .before .same .ensures) _ _ (c .before .before .before .before .before .before .if1 .left)
-    (next (c .before .before .before .before .same2 .ensures) _ _ (c .before .before .before .if2 .left)
-    (hit (c .before .same3 .ensures) _ (c .if3 .taken)))
-
-slice-aggregate-same-4 : tie.Need-slice-aggregate-same-4
-slice-aggregate-same-4 c = search needs
-
-same-requires-4 : tie.Need-same-requires-4
-same-requires-4 c κs = search needs
-
-returns-4 : tie.Need-returns-4
-returns-4 c =
-    next (c .before .before .before .before .before .before .before .before .before .before .same .ensures) _ _ (c .before .before .before .before .before .before .before .before .before .if1 .left)
-    (next (c .before .before .before .before .before .before .before .same2 .ensures) _ _ (c .before .before .before .before .before .before .if2 .left)
-    (next (c .before .before .before .before .same3 .ensures) _ _ (c .before .before .before .if3 .left)
-    (hit (c .before .same4 .ensures) _ (c .if4 .taken))))
-
-slice-aggregate-same-5 : tie.Need-slice-aggregate-same-5
-slice-aggregate-same-5 c = search needs
-
-same-requires-5 : tie.Need-same-requires-5
-same-requires-5 c κs = search needs
-
-returns-5 : tie.Need-returns-5
-returns-5 c =
-    next (c .before .before .before .before .before .before .before .before .before .before .before .before .before .same .ensures) _ _ (c .before .before .before .before .before .before .before .before .before .before .before .before .if1 .left)
-    (next (c .before .before .before .before .before .before .before .before .before .before .same2 .ensures) _ _ (c .before .before .before .before .before .before .before .before .before .if2 .left)
-    (next (c .before .before .before .before .before .before .before .same3 .ensures) _ _ (c .before .before .before .before .before .before .if3 .left)
-    (next (c .before .before .before .before .same4 .ensures) _ _ (c .before .before .before .if4 .left)
-    (hit (c .before .same5 .ensures) _ (c .if5 .taken)))))
-
-slice-aggregate-same-6 : tie.Need-slice-aggregate-same-6
-slice-aggregate-same-6 c = search needs
-
-same-requires-6 : tie.Need-same-requires-6
-same-requires-6 c κs = search needs
-
-returns-6 : tie.Need-returns-6
-returns-6 c =
-    next (c .before .before .before .before .before .before .before .before .before .before .before .before .before .before .before .before .same .ensures) _ _ (c .before .before .before .before .before .before .before .before .before .before .before .before .before .before .before .if1 .left)
-    (next (c .before .before .before .before .before .before .before .before .before .before .before .before .before .same2 .ensures) _ _ (c .before .before .before .before .before .before .before .before .before .before .before .before .if2 .left)
-    (next (c .before .before .before .before .before .before .before .before .before .before .same3 .ensures) _ _ (c .before .before .before .before .before .before .before .before .before .if3 .left)
-    (next (c .before .before .before .before .before .before .before .same4 .ensures) _ _ (c .before .before .before .before .before .before .if4 .left)
-    (next (c .before .before .before .before .same5 .ensures) _ _ (c .before .before .before .if5 .left)
-    (hit (c .before .same6 .ensures) _ (c .if6 .taken))))))
-
-slice-aggregate-same-7 : tie.Need-slice-aggregate-same-7
-slice-aggregate-same-7 c = search needs
-
-same-requires-7 : tie.Need-same-requires-7
-same-requires-7 c κs = search needs
-
-returns-7 : tie.Need-returns-7
-returns-7 c =
-    next (c .before .before .before .before .before .before .before .before .before .before .before .before .before .before .before .before .before .before .before .same .ensures) _ _ (c .before .before .before .before .before .before .before .before .before .before .before .before .before .before .before .before .before .before .if1 .left)
-    (next (c .before .before .before .before .before .before .before .before .before .before .before .before .before .before .before .before .same2 .ensures) _ _ (c .before .before .before .before .before .before .before .before .before .before .before .before .before .before .before .if2 .left)
-    (next (c .before .before .before .before .before .before .before .before .before .before .before .before .before .same3 .ensures) _ _ (c .before .before .before .before .before .before .before .before .before .before .before .before .if3 .left)
-    (next (c .before .before .before .before .before .before .before .before .before .before .same4 .ensures) _ _ (c .before .before .before .before .before .before .before .before .before .if4 .left)
-    (next (c .before .before .before .before .before .before .before .same5 .ensures) _ _ (c .before .before .before .before .before .before .if5 .left)
-    (next (c .before .before .before .before .same6 .ensures) _ _ (c .before .before .before .if6 .left)
-    (hit (c .before .same7 .ensures) _ (c .if7 .taken)))))))
-
-returns-8 : tie.Need-returns-8
-returns-8 c =
-    next (c .before .before .before .before .before .before .before .before .before .before .before .before .before .before .before .before .before .before .before .same .ensures) _ _ (c .before .before .before .before .before .before .before .before .before .before .before .before .before .before .before .before .before .before .if1 .left)
-    (next (c .before .before .before .before .before .before .before .before .before .before .before .before .before .before .before .before .same2 .ensures) _ _ (c .before .before .before .before .before .before .before .before .before .before .before .before .before .before .before .if2 .left)
-    (next (c .before .before .before .before .before .before .before .before .before .before .before .before .before .same3 .ensures) _ _ (c .before .before .before .before .before .before .before .before .before .before .before .before .if3 .left)
-    (next (c .before .before .before .before .before .before .before .before .before .before .same4 .ensures) _ _ (c .before .before .before .before .before .before .before .before .before .if4 .left)
-    (next (c .before .before .before .before .before .before .before .same5 .ensures) _ _ (c .before .before .before .before .before .before .if5 .left)
-    (next (c .before .before .before .before .same6 .ensures) _ _ (c .before .before .before .if6 .left)
-    (next (c .before .same7 .ensures) _ _ (c .if7 .left)
+returns c =
+    upon _ _ _ _ _ (c .row7 .ensures)
+    (upon _ _ _ _ _ (c .before .before .row6 .ensures)
+    (upon _ _ _ _ _ (c .before .before .before .before .row5 .ensures)
+    (upon _ _ _ _ _ (c .before .before .before .before .before .before .row4 .ensures)
+    (upon _ _ _ _ _ (c .before .before .before .before .before .before .before .before .row3 .ensures)
+    (upon _ _ _ _ _ (c .before .before .before .before .before .before .before .before .before .before .row2 .ensures)
+    (upon _ _ _ _ _ (c .before .before .before .before .before .before .before .before .before .before .before .before .row .ensures)
     (none _)))))))
 
 pub of-words-spec : {M : Type 1} → statement M
 of-words-spec =
     tie.close
     (tie.spec
-    slice-aggregate-same
-    same-requires
-    returns
-    slice-aggregate-same-2
-    same-requires-2
-    returns-2
-    slice-aggregate-same-3
-    same-requires-3
-    returns-3
-    slice-aggregate-same-4
-    same-requires-4
-    returns-4
-    slice-aggregate-same-5
-    same-requires-5
-    returns-5
-    slice-aggregate-same-6
-    same-requires-6
-    returns-6
-    slice-aggregate-same-7
-    same-requires-7
-    returns-7
-    returns-8)
+    slice-aggregate-row
+    row-requires
+    slice-aggregate-row-2
+    row-requires-2
+    slice-aggregate-row-3
+    row-requires-3
+    slice-aggregate-row-4
+    row-requires-4
+    slice-aggregate-row-5
+    row-requires-5
+    slice-aggregate-row-6
+    row-requires-6
+    slice-aggregate-row-7
+    row-requires-7
+    returns)
