@@ -136,11 +136,9 @@ fn write_restricted(
     ensures { λ r. ⌜ Answering n claim (now (book .entry)) (now (c .entry)) r (now (c .exit)) ⌝ }
 {
     let mut kept = [0u8; records::BOOK_BYTES];
-    let mut order = [0u16; matrices::ROWS];
-    let mut lead = [0u16; matrices::ROWS];
     let length = records::keep_sheets(book, &mut kept);
     let run = &kept[..length];
-    contradiction::settle_alone(run, n, voids, e, &mut order, &mut lead, d, t);
+    contradiction::settle_run(run, n, voids, e, d, t);
     closure::edges(run, n, e);
     write_found(n, claim, book, voids, e, d, t, c)
 }
@@ -168,10 +166,7 @@ fn judge(
     ensures { λ r. ⌜ Judged n claim (now (book .entry)) (now (c .entry)) r (now (c .exit)) ⌝ }
 {
     let mut voids = [0u64; matrices::ROW_WORDS];
-    closure::marking::mark_voids(book, &mut voids);
-    let mut order = [0u16; matrices::ROWS];
-    let mut lead = [0u16; matrices::ROWS];
-    let settled = contradiction::settle_alone(book, n, &voids, e, &mut order, &mut lead, d, t);
+    let settled = contradiction::settle_book(book, n, &mut voids, e, d, t);
     match settled {
         Row14::Clash(place) => refuse(Refusal::Contradiction, place),
         Row14::Free => {

@@ -13,7 +13,6 @@ ghost use Rattle.records.specs.Sizes.{RECORD-BYTES};
 use contradiction::Row14;
 use derivations::showing::Fact;
 use matrices::Matrix;
-use matrices::RowNumbers;
 use records::BookCheck;
 use records::Record;
 use records::Refusal;
@@ -79,15 +78,13 @@ fn claim_at(book: &[u8], i: usize) -> Record
 }
 
 // The chain, for a book of n pieces that 14 refuses at this place. The facts of the copy are those before the place, which are free of contradiction. The
-// matrices and lists are scratch.
+// matrices are scratch.
 fn write_behind(
     book: &[u8],
     place: usize,
     n: usize,
     voids: &[u64],
     e: &mut Matrix,
-    order: &mut RowNumbers,
-    lead: &mut RowNumbers,
     d: &mut Matrix,
     t: &mut Matrix,
     c: &mut [u8],
@@ -99,7 +96,7 @@ fn write_behind(
     silence(book, place, &mut copy);
     let length = book.len();
     let run = &copy[..length];
-    contradiction::settle_alone(run, n, voids, e, order, lead, d, t);
+    contradiction::settle_run(run, n, voids, e, d, t);
     closure::edges(run, n, e);
     let claim = claim_at(book, place);
     let opposite = Fact {
@@ -123,17 +120,14 @@ fn judge(
     ensures { λ r. ⌜ Written (now (book .entry)) (now (c .entry)) r (now (c .exit)) ⌝ }
 {
     let mut voids = [0u64; matrices::ROW_WORDS];
-    closure::marking::mark_voids(book, &mut voids);
-    let mut order = [0u16; matrices::ROWS];
-    let mut lead = [0u16; matrices::ROWS];
-    let settled = contradiction::settle_alone(book, n, &voids, e, &mut order, &mut lead, d, t);
+    let settled = contradiction::settle_book(book, n, &mut voids, e, d, t);
     match settled {
         Row14::Free => Clash {
             reply: Reply::Free,
             steps: 0,
         },
         Row14::Clash(place) => {
-            let m = write_behind(book, place, n, &voids, e, &mut order, &mut lead, d, t, c);
+            let m = write_behind(book, place, n, &voids, e, d, t, c);
             Clash {
                 reply: Reply::Refused(Refusal::Contradiction, place),
                 steps: m,
@@ -201,10 +195,7 @@ fn check_sound(
     ensures { λ r. ⌜ r ≡ passes (now (book .entry)) (now (steps .entry)) ⌝ }
 {
     let mut voids = [0u64; matrices::ROW_WORDS];
-    closure::marking::mark_voids(book, &mut voids);
-    let mut order = [0u16; matrices::ROWS];
-    let mut lead = [0u16; matrices::ROWS];
-    let settled = contradiction::settle_alone(book, n, &voids, e, &mut order, &mut lead, d, t);
+    let settled = contradiction::settle_book(book, n, &mut voids, e, d, t);
     match settled {
         Row14::Free => false,
         Row14::Clash(place) => check_behind(book, place, n, &voids, steps),

@@ -5,7 +5,11 @@ ghost use Prim.Native.Nat.{_+_, _/_};
 ghost use lib.ListN.{length};
 ghost use Rattle.rules.specs.Follows.{clash};
 ghost use Rattle.rules.specs.Entries.{shortestClash};
+ghost use Rattle.records.specs.Check.{bookCheck};
 ghost use Rattle.records.specs.Facts.{entries, facts};
+ghost use Rattle.records.specs.declared.BookCheck.the-variants as is;
+ghost use Rattle.matrices.specs.Sizes.{ROW-WORDS};
+ghost use Rattle.closure.specs.Counted.{MarksOf};
 ghost use Rattle.closure.specs.Void.{voidOf, Voids};
 ghost use Rattle.contradiction.specs.Settleable.{Settleable};
 ghost use Rattle.closure.specs.Bounded.{Bounded};
@@ -109,4 +113,37 @@ pub fn settle_alone(
         return Row14::Clash(contradiction(run, n, voids, e, d, t));
     }
     Row14::Free
+}
+
+// The same for a caller that needs D and T alone.
+pub fn settle_run(
+    run: &[u8],
+    n: usize,
+    voids: &[u64],
+    e: &mut Matrix,
+    d: &mut Matrix,
+    t: &mut Matrix,
+) -> Row14
+    requires { ⌜ Bounded n (facts (now run)) × Voids (now voids) ⌝ }
+    ensures { λ r. ⌜ Settles (voidOf (now (voids .entry))) n (now (run .entry)) (now (d .exit)) (now (t .exit)) r ⌝ }
+{
+    let mut order = [0u16; matrices::ROWS];
+    let mut lead = [0u16; matrices::ROWS];
+    settle_alone(run, n, voids, e, &mut order, &mut lead, d, t)
+}
+
+// The marks of a book of n pieces that passes the rows before, then its row 14, D and T.
+pub fn settle_book(
+    book: &[u8],
+    n: usize,
+    voids: &mut [u64],
+    e: &mut Matrix,
+    d: &mut Matrix,
+    t: &mut Matrix,
+) -> Row14
+    requires { ⌜ (bookCheck (now book) ≡ is.Accepted n) × (length (now voids) ≡ ROW-WORDS) ⌝ }
+    ensures { λ r. ⌜ MarksOf (now (book .entry)) (now (voids .exit)) × Settles (voidOf (now (voids .exit))) n (now (book .entry)) (now (d .exit)) (now (t .exit)) r ⌝ }
+{
+    closure::marking::mark_voids(book, voids);
+    settle_run(book, n, voids, e, d, t)
 }
