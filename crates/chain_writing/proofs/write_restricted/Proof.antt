@@ -24,14 +24,14 @@ array-share-prefix-kept c = let K = c .before .keep-sheets in omega (arith, K .e
 slice-aggregate-run : tie.Need-slice-aggregate-run
 slice-aggregate-run c = sym (length-take-le _ _ (array-share-prefix-kept (c .before)))
 
-settle-alone-requires : tie.Need-settle-alone-requires
-settle-alone-requires c κs = let K = c .before .before .before .before .before .before .before .keep-sheets in let run = sheets-taken _ _ _ (K .ensures .0) (K .ensures .1) in (sheets-bounded _ (own-count (c .before .before .before .before .before .before .before .before .before .before .before .before .pre .0)) run, c .before .before .before .before .before .before .before .before .before .before .before .before .pre .1 .0)
+settle-run-requires : tie.Need-settle-run-requires
+settle-run-requires c κs = let K = c .before .before .before .before .before .keep-sheets in let run = sheets-taken _ _ _ (K .ensures .0) (K .ensures .1) in (sheets-bounded _ (own-count (c .before .before .before .before .before .before .before .before .before .before .pre .0)) run, c .before .before .before .before .before .before .before .before .before .before .pre .1 .0)
 
 edges-requires : tie.Need-edges-requires
-edges-requires c κs = let K = c .before .before .before .before .before .before .before .before .before .keep-sheets in let run = sheets-taken _ _ _ (K .ensures .0) (K .ensures .1) in (sheets-bounded _ (own-count (c .before .before .before .before .before .before .before .before .before .before .before .before .before .before .pre .0)) run, search needs)
+edges-requires c κs = let K = c .before .before .before .before .before .before .before .keep-sheets in let run = sheets-taken _ _ _ (K .ensures .0) (K .ensures .1) in (sheets-bounded _ (own-count (c .before .before .before .before .before .before .before .before .before .before .before .before .pre .0)) run, search needs)
 
 write-found-requires : tie.Need-write-found-requires
-write-found-requires c κs = let K = c .before .before .before .before .before .before .before .before .before .before .before .before .before .before .keep-sheets in let T = c .before .before .before .before .before .before .settle-alone in let run = sheets-taken _ _ _ (K .ensures .0) (K .ensures .1) in let O = sheets-opened _ (own-count (c .before .before .before .before .before .before .before .before .before .before .before .before .before .before .before .before .before .before .before .pre .0)) run _ (c .before .before .before .before .before .before .before .before .before .before .before .before .before .before .before .before .before .before .before .pre .1 .0 .whole) (free-by _ _ _ (c .before .before .before .before .before .before .before .before .before .before .before .before .before .before .before .before .before .before .before .pre .1) (c .before .before .before .before .before .before .before .before .before .before .before .before .before .before .before .before .before .before .before .pre .2)) (T .result) (T .ensures .0) in (ground-of _ _ _ _ _ (c .before .before .before .before .before .before .before .before .before .before .before .before .before .before .before .before .before .before .before .pre .0) (c .before .before .before .before .before .before .before .before .before .before .before .before .before .before .before .before .before .before .before .pre .1) (run ∙ sym (picked-sheets _ _ (c .before .before .before .before .before .before .before .before .before .before .before .before .before .before .before .before .before .before .before .pre .3))) O (c .before .before .before .before .edges .ensures), c .before .before .before .before .before .before .before .before .before .before .before .before .before .before .before .before .before .before .before .pre .4, c .before .before .before .before .before .before .before .before .before .before .before .before .before .before .before .before .before .before .before .pre .5, c .before .before .before .before .before .before .before .before .before .before .before .before .before .before .before .before .before .before .before .pre .6)
+write-found-requires c κs = let K = c .before .before .before .before .before .before .before .before .before .before .before .before .keep-sheets in let T = c .before .before .before .before .before .before .settle-run in let run = sheets-taken _ _ _ (K .ensures .0) (K .ensures .1) in let O = sheets-opened _ (own-count (c .before .before .before .before .before .before .before .before .before .before .before .before .before .before .before .before .before .pre .0)) run _ (c .before .before .before .before .before .before .before .before .before .before .before .before .before .before .before .before .before .pre .1 .0 .whole) (free-by _ _ _ (c .before .before .before .before .before .before .before .before .before .before .before .before .before .before .before .before .before .pre .1) (c .before .before .before .before .before .before .before .before .before .before .before .before .before .before .before .before .before .pre .2)) (T .result) (T .ensures) in (ground-of _ _ _ _ _ (c .before .before .before .before .before .before .before .before .before .before .before .before .before .before .before .before .before .pre .0) (c .before .before .before .before .before .before .before .before .before .before .before .before .before .before .before .before .before .pre .1) (run ∙ sym (picked-sheets _ _ (c .before .before .before .before .before .before .before .before .before .before .before .before .before .before .before .before .before .pre .3))) O (c .before .before .before .before .edges .ensures), c .before .before .before .before .before .before .before .before .before .before .before .before .before .before .before .before .before .pre .4, c .before .before .before .before .before .before .before .before .before .before .before .before .before .before .before .before .before .pre .5, c .before .before .before .before .before .before .before .before .before .before .before .before .before .before .before .before .before .pre .6)
 
 same-length : tie.Need-same-length
 same-length c = c .before .before .write-found .kept .1 .1 .1 .1 .1 .1 .1 .0
@@ -47,7 +47,7 @@ write-restricted-spec =
     keep-sheets-requires
     array-share-prefix-kept
     slice-aggregate-run
-    settle-alone-requires
+    settle-run-requires
     edges-requires
     write-found-requires
     same-length
