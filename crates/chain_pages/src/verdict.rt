@@ -1,7 +1,6 @@
 // The page of `verify`: whether a page of `why` passes.
 ghost use Rattle.pages.specs.Put.{Put};
 ghost use Rattle.chain_pages.specs.Verdict.{verdictLine, Verdict};
-use matrices::Matrix;
 use pages::Written;
 use sentences::sources::Source;
 use text::Form;
@@ -20,12 +19,6 @@ pub fn write_verdict(
     source: &[u8],
     chain: &[u8],
     page: &mut [u8],
-    e: &mut Matrix,
-    d: &mut Matrix,
-    t: &mut Matrix,
-    u: &mut Matrix,
-    p: &mut Matrix,
-    q: &mut Matrix,
 ) -> Written
     ensures { λ r. ⌜ Verdict (now (source .entry)) (now (chain .entry)) (now (page .entry)) (now (page .exit)) r ⌝ }
 {
@@ -34,7 +27,7 @@ pub fn write_verdict(
     match read {
         Source::Unread(l, reason) => sentences::write_unread(page, sentences::BOOK, l, reason),
         Source::Bytes(n) => {
-            let passes = chain_text::verify(&book[..n], chain, e, d, t, u, p, q);
+            let passes = chain_text::verify(&book[..n], chain);
             let end = put_verdict(page, passes);
             pages::finish(page.len(), end)
         }
