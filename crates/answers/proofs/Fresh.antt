@@ -59,3 +59,7 @@ pub counts-accepted : (o : Outcome) {n : ℕ} → uncounted o ≡ book.Accepted 
 unfolding uncounted
 counts-accepted (Refused x j) e = let z : _≡_ {A = ℕ} 0 1 = cc in absurd (omega arith)
 counts-accepted (Accepted m v h) {n} e = let a : m ≡ n = cc in (v, h, ap (λ (k : ℕ). Accepted k v h) a)
+
+-- a book that the fresh call accepts without counts passes the rows of books
+pub uncounted-sound : (s : List ℕ) {n : ℕ} → uncounted (freshCall s []) ≡ book.Accepted n → bookCheck s ≡ book.Accepted n
+uncounted-sound s e = fresh-sound s (counts-accepted (freshCall s []) e .2)

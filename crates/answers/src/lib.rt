@@ -13,6 +13,8 @@ ghost use Rattle.outcomes.specs.Demands.{Demand2, Demand3, Contradicted};
 ghost use Rattle.outcomes.specs.Fitting.{Fitting};
 ghost use Rattle.answers.specs.Judging.{rowsCheck, Cleared, Exact, Judged};
 ghost use Rattle.index.specs.Sizes.{MARKS-BYTES, PARENTHESES-BYTES, PLACES, SHADOWS};
+pub use alone::answer_alone;
+pub use alone::judge_alone;
 pub use books::judge_book;
 pub use books::judge_run;
 use contradiction::Settled;
@@ -22,6 +24,7 @@ use records::BookCheck;
 use records::ClaimsCheck;
 use records::Refusal;
 
+pub mod alone;
 pub mod books;
 
 // Zeroes the four parts of the index.
