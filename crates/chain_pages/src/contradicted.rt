@@ -21,7 +21,7 @@ fn put_lines(page: &mut [u8], at: usize, c: &[u8]) -> usize
 }
 
 // The writer's call, which works in these matrices.
-fn write_clash(book: &[u8], steps: &mut [u8; crate::CHAIN_BYTES]) -> clash::Clash
+fn write_clash(book: &[u8], steps: &mut [u8; chain_format::CHAIN_BYTES]) -> clash::Clash
     ensures { λ r. ⌜ Shown (now (book .entry)) (r .steps) (now (steps .exit)) ⌝ }
 {
     let mut e = [0u64; matrices::WORDS];
@@ -37,32 +37,21 @@ fn judge(book: &[u8]) -> Outcome
     let mut e = [0u64; matrices::WORDS];
     let mut d = [0u64; matrices::WORDS];
     let mut t = [0u64; matrices::WORDS];
-    let mut u = [0u64; matrices::WORDS];
-    let mut p = [0u64; matrices::WORDS];
-    let mut q = [0u64; matrices::WORDS];
-    answers::judge_run(book, &mut e, &mut d, &mut t, &mut u, &mut p, &mut q)
+    answers::judge_run(book, &mut e, &mut d, &mut t)
 }
 
 // The lines of a chain behind the contradiction of a book, where it has one.
-fn put_clash(
-    page: &mut [u8],
-    at: usize,
-    book: &[u8],
-) -> usize
+fn put_clash(page: &mut [u8], at: usize, book: &[u8]) -> usize
     ensures { λ r. ⌜ StepsOf (now (book .entry)) (now (page .entry)) at (now (page .exit)) r ⌝ }
 {
-    let mut c = [0u8; crate::CHAIN_BYTES];
+    let mut c = [0u8; chain_format::CHAIN_BYTES];
     let written = write_clash(book, &mut c);
     let n = chain_format::STEP_BYTES * written.steps;
     put_lines(page, at, &c[..n])
 }
 
 // The text of a book that was read from the source.
-fn clash_book(
-    page: &mut [u8],
-    source: &[u8],
-    book: &[u8],
-) -> usize
+fn clash_book(page: &mut [u8], source: &[u8], book: &[u8]) -> usize
     ensures { λ r. ⌜ OfBook (now (source .entry)) (now (book .entry)) (now (page .entry)) (now (page .exit)) r ⌝ }
 {
     let outcome = judge(book);
@@ -82,13 +71,10 @@ fn clash_book(
 }
 
 // The page of the book of a source: the refusal, and a chain behind it where it is 14; or the counts.
-pub fn write_contradiction(
-    source: &[u8],
-    page: &mut [u8],
-) -> Written
+pub fn write_contradiction(source: &[u8], page: &mut [u8]) -> Written
     ensures { λ r. ⌜ Clash (now (source .entry)) (now (page .entry)) (now (page .exit)) r ⌝ }
 {
-    let mut book = [0u8; crate::BOOK_BYTES];
+    let mut book = [0u8; text::BOOK_ROOM];
     let read = sentences::sources::read_source(Form::Records, source, &mut book);
     match read {
         Source::Unread(l, reason) => sentences::write_unread(page, sentences::BOOK, l, reason),

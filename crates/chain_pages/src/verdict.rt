@@ -15,14 +15,10 @@ fn put_verdict(page: &mut [u8], passes: bool) -> usize
 }
 
 // Whether the chain, a page that `why` may have printed about the book of a source, passes the check of R-2.
-pub fn write_verdict(
-    source: &[u8],
-    chain: &[u8],
-    page: &mut [u8],
-) -> Written
+pub fn write_verdict(source: &[u8], chain: &[u8], page: &mut [u8]) -> Written
     ensures { λ r. ⌜ Verdict (now (source .entry)) (now (chain .entry)) (now (page .entry)) (now (page .exit)) r ⌝ }
 {
-    let mut book = [0u8; crate::BOOK_BYTES];
+    let mut book = [0u8; text::BOOK_ROOM];
     let read = sentences::sources::read_source(Form::Records, source, &mut book);
     match read {
         Source::Unread(l, reason) => sentences::write_unread(page, sentences::BOOK, l, reason),

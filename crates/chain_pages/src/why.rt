@@ -38,7 +38,7 @@ fn put_why(page: &mut [u8], source: &[u8], claim: &[u8], reply: Reply, c: &[u8])
 }
 
 // The writer's call, which works in these matrices.
-fn write_chain(book: &[u8], claim: &[u8], steps: &mut [u8; crate::CHAIN_BYTES]) -> Chain
+fn write_chain(book: &[u8], claim: &[u8], steps: &mut [u8; chain_format::CHAIN_BYTES]) -> Chain
     ensures { λ r. ⌜ Shown (now (book .entry)) (now (claim .entry)) r (now (steps .exit)) ⌝ }
 {
     let mut e = [0u64; matrices::WORDS];
@@ -48,15 +48,10 @@ fn write_chain(book: &[u8], claim: &[u8], steps: &mut [u8; crate::CHAIN_BYTES]) 
 }
 
 // The page of the answer to the one claim about the book, and of a chain behind it. The book was read from the source.
-fn why_book(
-    page: &mut [u8],
-    source: &[u8],
-    book: &[u8],
-    claim: &[u8],
-) -> Written
+fn why_book(page: &mut [u8], source: &[u8], book: &[u8], claim: &[u8]) -> Written
     ensures { λ r. ⌜ OfBook (now (source .entry)) (now (book .entry)) (now (claim .entry)) (now (page .entry)) (now (page .exit)) r ⌝ }
 {
-    let mut c = [0u8; crate::CHAIN_BYTES];
+    let mut c = [0u8; chain_format::CHAIN_BYTES];
     let written = write_chain(book, claim, &mut c);
     let reply = written.reply;
     let n = chain_format::STEP_BYTES * written.steps;
@@ -65,14 +60,10 @@ fn why_book(
 }
 
 // The same for the book of a source.
-fn why_source(
-    page: &mut [u8],
-    source: &[u8],
-    claim: Record,
-) -> Written
+fn why_source(page: &mut [u8], source: &[u8], claim: Record) -> Written
     ensures { λ r. ⌜ OfSource (now (source .entry)) claim (now (page .entry)) (now (page .exit)) r ⌝ }
 {
-    let mut book = [0u8; crate::BOOK_BYTES];
+    let mut book = [0u8; text::BOOK_ROOM];
     let read = sentences::sources::read_source(Form::Records, source, &mut book);
     match read {
         Source::Unread(l, reason) => sentences::write_unread(page, sentences::BOOK, l, reason),
@@ -84,11 +75,7 @@ fn why_source(
 }
 
 // The page of the claim that the words say, about the book of a source: its answer, and a chain behind it.
-pub fn write_why(
-    source: &[u8],
-    words: &[u8],
-    page: &mut [u8],
-) -> Written
+pub fn write_why(source: &[u8], words: &[u8], page: &mut [u8]) -> Written
     ensures { λ r. ⌜ Why (now (source .entry)) (now (words .entry)) (now (page .entry)) (now (page .exit)) r ⌝ }
 {
     let said = sentences::sources::read_words(Form::Claims, words);

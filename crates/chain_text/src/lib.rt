@@ -16,9 +16,6 @@ pub mod comparing;
 pub mod lines;
 pub mod reading;
 
-// 16,400 steps.
-const CHAIN_BYTES: usize = 164000;
-
 // Whether the last step shows the claim, or its opposite, as the answer says. The kinds of opposite facts add up to 5.
 fn last_tells(claim: &[u8], answer: Answer, c: &[u8]) -> bool
     requires { ⌜ (length (now claim) ≡ RECORD-BYTES) × (STEP-BYTES ≤ length (now c)) × (stated (recordAt (now claim) 0) ≡ true) ⌝ }
@@ -40,20 +37,11 @@ fn check_chain(book: &[u8], claim: &[u8], steps: &[u8]) -> bool
     let mut e = [0u64; matrices::WORDS];
     let mut d = [0u64; matrices::WORDS];
     let mut t = [0u64; matrices::WORDS];
-    let mut u = [0u64; matrices::WORDS];
-    let mut p = [0u64; matrices::WORDS];
-    let mut q = [0u64; matrices::WORDS];
-    chain_check::check_chain(book, claim, steps, &mut e, &mut d, &mut t, &mut u, &mut p, &mut q)
+    chain_check::check_chain(book, claim, steps, &mut e, &mut d, &mut t)
 }
 
 // Whether the page is that of the claim, the answer and the steps, and these pass.
-fn is_page_of(
-    book: &[u8],
-    page: &[u8],
-    claim: &[u8],
-    answer: Answer,
-    c: &[u8],
-) -> bool
+fn is_page_of(book: &[u8], page: &[u8], claim: &[u8], answer: Answer, c: &[u8]) -> bool
     requires { ⌜ (length (now claim) ≡ RECORD-BYTES) × (length (now c) ≤ CHAIN-BYTES) ⌝ }
     ensures { λ r. ⌜ Judged (now (book .entry)) (now (page .entry)) (now (claim .entry)) answer (now (c .entry)) r ⌝ }
 {
@@ -67,16 +55,13 @@ fn is_page_of(
 }
 
 // Whether a page that `why` may have printed about the book passes the check of R-2.
-pub fn verify(
-    book: &[u8],
-    page: &[u8],
-) -> bool
+pub fn verify(book: &[u8], page: &[u8]) -> bool
     ensures { λ r. ⌜ Verifies (now (book .entry)) (now (page .entry)) r ⌝ }
 {
     let head = reading::read_head(page);
     let claim = sentences::sources::six_bytes(head.claim);
     let answer = head.answer;
-    let mut c = [0u8; CHAIN_BYTES];
+    let mut c = [0u8; chain_format::CHAIN_BYTES];
     let n = reading::read_steps(page, head.next, &mut c);
     let end = chain_format::STEP_BYTES * n;
     is_page_of(book, page, &claim, answer, &c[..end])

@@ -13,10 +13,10 @@ use Rattle.records.specs.declared.Record.{Record}
 use Rattle.records.specs.Record.{records}
 use Rattle.records.specs.declared.Refusal.{Refusal}
 use Rattle.records.specs.declared.Refusal.the-variants.{ShortBuffer, BookLength, TooManyRecords, Contradiction, NotStanding}
-use Rattle.outcomes.specs.Fresh.{freshCall}
+use Rattle.outcomes.specs.Fresh.{freshCall, uncounted}
 use Rattle.outcomes.specs.One.{refuseIf}
-use Rattle.outcomes.specs.declared.Outcome.{Outcome}
 use Rattle.outcomes.specs.declared.Outcome.the-variants as on
+use Rattle.answers.proofs.Fresh.{counts-refused, counts-accepted}
 use Rattle.convert.specs.Converted.{converted}
 use Rattle.convert.specs.Conversion.{byRuns, byBook, conversion, left, Determined}
 use Rattle.rules.specs.Fact.{unmarked}
@@ -46,12 +46,12 @@ use Rattle.change_pages.specs.Changes.{judged, packing, byConversion, co
 
 -- ---- by the outcome
 
-module _ (source run : List ℕ) (o : Outcome) (is : o ≡ freshCall run []) where
-  pub judged-refused : (r : Refusal) (i : ℕ) → o ≡ on.Refused r i → Kept (refused r i source []) ≡ judged source run (freshCall run [])
-  judged-refused r i so = rw (sym is ∙ so)
+module _ (source run : List ℕ) (b : BookCheck) (is : b ≡ uncounted (freshCall run [])) where
+  pub judged-refused : (r : Refusal) (i : ℕ) → b ≡ book.Refused r i → Kept (refused r i source []) ≡ judged source run (freshCall run [])
+  judged-refused r i so = rw (counts-refused (freshCall run []) (sym is ∙ so))
 
-  pub judged-accepted : (n nodes shadows : ℕ) → o ≡ on.Accepted n nodes shadows → New run ≡ judged source run (freshCall run [])
-  judged-accepted n nodes shadows so = rw (sym is ∙ so)
+  pub judged-accepted : (n : ℕ) → b ≡ book.Accepted n → New run ≡ judged source run (freshCall run [])
+  judged-accepted n so = rw (counts-accepted (freshCall run []) (sym is ∙ so) .2)
 
 -- ---- the size of a conversion
 

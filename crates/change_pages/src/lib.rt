@@ -3,7 +3,7 @@ ghost use mathlib.Core.Path.{_≡_};
 ghost use mathlib.Core.List.{[], _++_};
 ghost use Prim.Native.Nat.{_≤_};
 ghost use lib.ListN.{length, take};
-ghost use Rattle.outcomes.specs.Fresh.{freshCall};
+ghost use Rattle.outcomes.specs.Fresh.{freshCall, uncounted};
 ghost use Rattle.convert.specs.Conversion.{conversion, Determined};
 ghost use Rattle.pages.specs.Written.{Page};
 ghost use Rattle.sentences.specs.Refusals.{refused};
@@ -16,8 +16,8 @@ ghost use Rattle.change_pages.specs.Rooms.{OUT-BYTES};
 ghost use Rattle.sentences.specs.Rooms.{REFUSED-LINE};
 ghost use Rattle.text.specs.Rooms.{BOOK-ROOM};
 use convert::Conversion;
-use outcomes::Outcome;
 use pages::Written;
+use records::BookCheck;
 use records::Record;
 use records::Refusal;
 use sentences::sources::Source;
@@ -99,17 +99,14 @@ fn accept(page: &mut [u8], out: &[u8], n: usize) -> Changed
     }
 }
 
-// A fresh call on a run of records. The page is alone in the program, so the matrices stand here.
-fn judge(run: &[u8]) -> Outcome
-    ensures { λ r. ⌜ r ≡ freshCall (now (run .entry)) [] ⌝ }
+// A fresh call on a run of records, which works in these matrices.
+fn judge(run: &[u8]) -> BookCheck
+    ensures { λ r. ⌜ r ≡ uncounted (freshCall (now (run .entry)) []) ⌝ }
 {
     let mut e = [0u64; matrices::WORDS];
     let mut d = [0u64; matrices::WORDS];
     let mut t = [0u64; matrices::WORDS];
-    let mut u = [0u64; matrices::WORDS];
-    let mut p = [0u64; matrices::WORDS];
-    let mut q = [0u64; matrices::WORDS];
-    answers::judge_run(run, &mut e, &mut d, &mut t, &mut u, &mut p, &mut q)
+    answers::judge_book(run, &mut e, &mut d, &mut t)
 }
 
 // What a fresh call on the first n of the lent bytes makes of them.
@@ -117,10 +114,10 @@ fn settle(page: &mut [u8], source: &[u8], out: &[u8], n: usize) -> Changed
     requires { ⌜ n ≤ length (now out) ⌝ }
     ensures { λ r. ⌜ Made (judged (now (source .entry)) (take n (now (out .entry))) (freshCall (take n (now (out .entry))) [])) (now (out .entry)) (now (page .entry)) (now (page .exit)) r ⌝ }
 {
-    let outcome = judge(&out[..n]);
-    match outcome {
-        Outcome::Refused(refusal, place) => refuse(page, refusal, place, source),
-        Outcome::Accepted(_, _, _) => accept(page, out, n),
+    let judged = judge(&out[..n]);
+    match judged {
+        BookCheck::Refused(refusal, place) => refuse(page, refusal, place, source),
+        BookCheck::Accepted(_) => accept(page, out, n),
     }
 }
 
@@ -135,7 +132,7 @@ pub fn write_packed(source: &[u8], out: &mut [u8; OUT_BYTES], page: &mut [u8]) -
     }
 }
 
-// The converter's call.
+// The converter's call, which works in these matrices.
 fn convert(book: &[u8], out: &mut [u8]) -> Conversion
     ensures { λ r. ⌜ Determined (now (book .entry)) (now (out .entry)) r (now (out .exit)) ⌝ }
 {
