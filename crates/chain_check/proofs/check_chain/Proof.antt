@@ -24,7 +24,7 @@ returns-2 : tie.Need-returns-2
 returns-2 c = passes-refused _ _ _ _ _ (counts-refused _ (sym (c .before .before .judge-book .ensures) ∙ c .enum-told .given .1))
 
 returns-3 : tie.Need-returns-3
-returns-3 c = 
+returns-3 c =
     let e = sym (c .before .before .before .before .judge-book .ensures) ∙ c .before .before .judged .given .1 in
     c .check-accepted .ensures _ _ (sym (fresh-runs _ _ (uncounted-sound _ e)) ∙ counts-accepted _ e .2)
 
