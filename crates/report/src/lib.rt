@@ -81,27 +81,6 @@ pub fn put_claims(page: &mut [u8], at: usize, claims: &[u8], answers: &[u8]) -> 
     end
 }
 
-// The page of an outcome, whose number is 0 where the book was accepted. Answers how many bytes are text.
-fn put_session(
-    page: &mut [u8],
-    number: usize,
-    place: usize,
-    pieces: usize,
-    nodes: usize,
-    shadows: usize,
-    claims: &[u8],
-    answers: &[u8],
-) -> usize
-    requires { ⌜ (records (now claims) ≤ 10000) × (bytesFor (records (now claims)) ≤ length (now page)) ⌝ }
-    ensures { λ r. ⌜ Printed (now (page .entry)) (session number place pieces nodes shadows (now (claims .entry)) (now (answers .entry))) (now (page .exit)) r ⌝ }
-{
-    if number != 0 {
-        return put_refusal(page, 0, number, place);
-    }
-    let at = put_counts(page, 0, pieces, nodes, shadows);
-    put_claims(page, at, claims, answers)
-}
-
 // Answers the claims, with an index that nobody asks for.
 pub fn answer(book: &[u8], claims: &[u8], answers: &mut [u8]) -> Outcome
     requires { ⌜ now answers ≡ replicate ANSWERS-MOST 0 ⌝ }
@@ -142,26 +121,14 @@ fn write_session(book: &[u8], claims: &[u8], page: &mut [u8]) -> usize
     let mut answers = [0u8; records::CLAIMS + 1];
     let outcome = answer(book, claims, &mut answers);
     match outcome {
-        Outcome::Refused(refusal, place) => put_session(
-            page,
-            records::refusal_number(refusal) as usize,
-            place,
-            0,
-            0,
-            0,
-            claims,
-            &answers,
-        ),
-        Outcome::Accepted(pieces, nodes, shadowed) => put_session(
-            page,
-            0,
-            0,
-            pieces,
-            nodes,
-            shadowed,
-            claims,
-            &answers,
-        ),
+        Outcome::Refused(refusal, place) => {
+            let number = records::refusal_number(refusal);
+            put_refusal(page, 0, number as usize, place)
+        }
+        Outcome::Accepted(pieces, nodes, shadowed) => {
+            let at = put_counts(page, 0, pieces, nodes, shadowed);
+            put_claims(page, at, claims, &answers)
+        }
     }
 }
 
