@@ -96,19 +96,13 @@ fn put_comparison(
     second: &[u8],
     claims: &[u8],
     page: &mut [u8],
-    e: &mut Matrix,
-    d: &mut Matrix,
-    t: &mut Matrix,
-    u: &mut Matrix,
-    p: &mut Matrix,
-    q: &mut Matrix,
 ) -> usize
     requires { ⌜ length (now asked) ≤ CLAIMS-ROOM ⌝ }
     ensures { λ r. ⌜ Put (now (page .entry)) 0 (besideText (now (first .entry)) (now (other .entry)) (now (asked .entry)) (now (source .entry)) (now (second .entry)) (now (claims .entry))) (now (page .exit)) r ⌝ }
     ensures { λ r. ⌜ length (besideText (now (first .entry)) (now (other .entry)) (now (asked .entry)) (now (source .entry)) (now (second .entry)) (now (claims .entry))) ≤ COMPARISON-ROOM ⌝ }
 {
     let mut bytes = [0u8; ROOM];
-    let made = compare::compare(first, other, asked, &mut bytes, e, d, t, u, p, q);
+    let made = compare::compare(first, other, asked, &mut bytes);
     match made {
         Comparison::Refused(k, refusal, place) => put_refused_in(
             page,
@@ -134,32 +128,12 @@ fn write_both(
     second: &[u8],
     claims: &[u8],
     page: &mut [u8],
-    e: &mut Matrix,
-    d: &mut Matrix,
-    t: &mut Matrix,
-    u: &mut Matrix,
-    p: &mut Matrix,
-    q: &mut Matrix,
 ) -> Written
     requires { ⌜ length (now asked) ≤ CLAIMS-ROOM ⌝ }
     ensures { λ r. ⌜ Page (now (page .entry)) (besideText (now (first .entry)) (now (other .entry)) (now (asked .entry)) (now (source .entry)) (now (second .entry)) (now (claims .entry))) (now (page .exit)) r ⌝ }
     ensures { λ r. ⌜ length (besideText (now (first .entry)) (now (other .entry)) (now (asked .entry)) (now (source .entry)) (now (second .entry)) (now (claims .entry))) ≤ COMPARISON-ROOM ⌝ }
 {
-    let end = put_comparison(
-        first,
-        other,
-        asked,
-        source,
-        second,
-        claims,
-        page,
-        e,
-        d,
-        t,
-        u,
-        p,
-        q,
-    );
+    let end = put_comparison(first, other, asked, source, second, claims, page);
     pages::finish(page.len(), end)
 }
 
@@ -171,12 +145,6 @@ fn write_answers(
     second: &[u8],
     claims: &[u8],
     page: &mut [u8],
-    e: &mut Matrix,
-    d: &mut Matrix,
-    t: &mut Matrix,
-    u: &mut Matrix,
-    p: &mut Matrix,
-    q: &mut Matrix,
 ) -> Written
     ensures { λ r. ⌜ Page (now (page .entry)) (ofClaims (now (claims .entry)) (λ asked. besideText (now (first .entry)) (now (other .entry)) asked (now (source .entry)) (now (second .entry)) (now (claims .entry)))) (now (page .exit)) r ⌝ }
     ensures { λ r. ⌜ length (ofClaims (now (claims .entry)) (λ asked. besideText (now (first .entry)) (now (other .entry)) asked (now (source .entry)) (now (second .entry)) (now (claims .entry)))) ≤ COMPARISON-ROOM ⌝ }
@@ -190,37 +158,12 @@ fn write_answers(
             bad,
             reason,
         ),
-        Source::Bytes(n) => write_both(
-            first,
-            other,
-            &asked[..n],
-            source,
-            second,
-            claims,
-            page,
-            e,
-            d,
-            t,
-            u,
-            p,
-            q,
-        ),
+        Source::Bytes(n) => write_both(first, other, &asked[..n], source, second, claims, page),
     }
 }
 
 // Two books and the claims that both answer: 208,960 bytes always serve.
-pub fn write_comparison(
-    source: &[u8],
-    second: &[u8],
-    claims: &[u8],
-    page: &mut [u8],
-    e: &mut Matrix,
-    d: &mut Matrix,
-    t: &mut Matrix,
-    u: &mut Matrix,
-    p: &mut Matrix,
-    q: &mut Matrix,
-) -> Written
+pub fn write_comparison(source: &[u8], second: &[u8], claims: &[u8], page: &mut [u8]) -> Written
     ensures { λ r. ⌜ Page (now (page .entry)) (comparisonText (now (source .entry)) (now (second .entry)) (now (claims .entry))) (now (page .exit)) r ⌝ }
     ensures { λ r. ⌜ length (comparisonText (now (source .entry)) (now (second .entry)) (now (claims .entry))) ≤ COMPARISON-ROOM ⌝ }
 {
@@ -245,12 +188,6 @@ pub fn write_comparison(
                     second,
                     claims,
                     page,
-                    e,
-                    d,
-                    t,
-                    u,
-                    p,
-                    q,
                 ),
             }
         }

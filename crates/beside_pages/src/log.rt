@@ -44,17 +44,7 @@ fn put_entries(page: &mut [u8], log: &[u8], bytes: &[u8]) -> usize
 }
 
 // The text of the call's outcome, from the start of the page. Answers where it ends.
-fn put_log(
-    book: &[u8],
-    log: &[u8],
-    source: &[u8],
-    other: &[u8],
-    page: &mut [u8],
-    e: &mut Matrix,
-    d: &mut Matrix,
-    t: &mut Matrix,
-    u: &mut Matrix,
-) -> usize
+fn put_log(book: &[u8], log: &[u8], source: &[u8], other: &[u8], page: &mut [u8]) -> usize
     requires { ⌜ length (now log) ≤ LOG-ROOM ⌝ }
     ensures { λ r. ⌜ Put (now (page .entry)) 0 (measuredText (now (book .entry)) (now (log .entry)) (now (source .entry)) (now (other .entry))) (now (page .exit)) r ⌝ }
     ensures { λ r. ⌜ length (measuredText (now (book .entry)) (now (log .entry)) (now (source .entry)) (now (other .entry))) ≤ LOG-PAGE-ROOM ⌝ }
@@ -64,7 +54,7 @@ fn put_log(
         pieces: [0u16; replicates::windows::WINDOW],
         count: 0,
     };
-    let made = replicates::replicates(book, none, log, &mut bytes, e, d, t, u);
+    let made = replicates::replicates(book, none, log, &mut bytes);
     let outcome = made.outcome;
     match outcome {
         Outcome::Refused(refusal, place) => sentences::put_refused(
@@ -79,35 +69,17 @@ fn put_log(
     }
 }
 
-fn write_entries(
-    book: &[u8],
-    log: &[u8],
-    source: &[u8],
-    other: &[u8],
-    page: &mut [u8],
-    e: &mut Matrix,
-    d: &mut Matrix,
-    t: &mut Matrix,
-    u: &mut Matrix,
-) -> Written
+fn write_entries(book: &[u8], log: &[u8], source: &[u8], other: &[u8], page: &mut [u8]) -> Written
     requires { ⌜ length (now log) ≤ LOG-ROOM ⌝ }
     ensures { λ r. ⌜ Page (now (page .entry)) (measuredText (now (book .entry)) (now (log .entry)) (now (source .entry)) (now (other .entry))) (now (page .exit)) r ⌝ }
     ensures { λ r. ⌜ length (measuredText (now (book .entry)) (now (log .entry)) (now (source .entry)) (now (other .entry))) ≤ LOG-PAGE-ROOM ⌝ }
 {
-    let end = put_log(book, log, source, other, page, e, d, t, u);
+    let end = put_log(book, log, source, other, page);
     pages::finish(page.len(), end)
 }
 
 // The replicates in a log: 655,380 bytes always serve.
-pub fn write_log(
-    source: &[u8],
-    other: &[u8],
-    page: &mut [u8],
-    e: &mut Matrix,
-    d: &mut Matrix,
-    t: &mut Matrix,
-    u: &mut Matrix,
-) -> Written
+pub fn write_log(source: &[u8], other: &[u8], page: &mut [u8]) -> Written
     ensures { λ r. ⌜ Page (now (page .entry)) (logText (now (source .entry)) (now (other .entry))) (now (page .exit)) r ⌝ }
     ensures { λ r. ⌜ length (logText (now (source .entry)) (now (other .entry))) ≤ LOG-PAGE-ROOM ⌝ }
 {
@@ -125,17 +97,7 @@ pub fn write_log(
                     bad,
                     reason,
                 ),
-                Source::Bytes(m) => write_entries(
-                    &book[..n],
-                    &log[..m],
-                    source,
-                    other,
-                    page,
-                    e,
-                    d,
-                    t,
-                    u,
-                ),
+                Source::Bytes(m) => write_entries(&book[..n], &log[..m], source, other, page),
             }
         }
     }

@@ -44,7 +44,7 @@ same-length-2 c = search needs
 
 returns-2 : tie.Need-returns-2
 unfolding askText
-returns-2 c = page-read _ _ _ (c .before .before .write-answers .result) _ _ _ _ (took-bytes _ _ _ _ (c .before .before .before .before .before .before .before .before .before .before .before .before .read2 .given .1) (c .before .before .before .before .before .before .before .before .before .before .before .before .before .before .before .read-source .ensures) .1) (c .before .before .write-answers .ensures)
+returns-2 c = page-read _ _ _ (c .before .before .write-answers .result) _ _ _ _ (took-bytes _ _ _ _ (c .before .before .before .before .before .before .read2 .given .1) (c .before .before .before .before .before .before .before .before .before .read-source .ensures) .1) (c .before .before .write-answers .ensures)
 
 pub write-ask-spec : {M : Type 1} → statement M
 write-ask-spec =
