@@ -43,6 +43,12 @@ pub record Exact (s : List ℕ) (n : ℕ) (cs : List ℕ) (l : Lent) : Type 0 wh
   pub places-long : length (l .places) ≡ 2048
   pub answers-long : length (l .answers) ≡ records cs
 
+-- the same for answers beside an index that nobody asks for
+pub record Answerable (s : List ℕ) (n : ℕ) (cs : List ℕ) (room : ℕ) : Type 0 where
+  pub counted : Counted s n
+  pub fit : claimsCheck n cs ≡ claims.Accepted
+  pub rooms : room ≡ records cs
+
 -- row 14's outcome, and what it leaves in them
 pub record Judged (s : List ℕ) (n : ℕ) (cs : List ℕ) (l : Lent) (r : Outcome) (l′ : Lent) : Type 0 where
   pub outcome-is : r ≡ byRuns s n

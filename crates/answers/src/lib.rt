@@ -8,18 +8,24 @@ ghost use Rattle.records.specs.declared.Refusal.the-variants.{Contradiction};
 ghost use Rattle.outcomes.specs.declared.Outcome.the-variants.{Refused};
 ghost use Rattle.outcomes.specs.Lent.{lent};
 ghost use Rattle.outcomes.specs.Call.{Determined};
-ghost use Rattle.outcomes.specs.Fresh.{freshCall};
 ghost use Rattle.outcomes.specs.Outcome.{number, place, nodeCount};
 ghost use Rattle.outcomes.specs.Demands.{Demand2, Demand3, Contradicted};
 ghost use Rattle.outcomes.specs.Fitting.{Fitting};
 ghost use Rattle.answers.specs.Judging.{rowsCheck, Cleared, Exact, Judged};
 ghost use Rattle.index.specs.Sizes.{MARKS-BYTES, PARENTHESES-BYTES, PLACES, SHADOWS};
+pub use alone::answer_alone;
+pub use alone::judge_alone;
+pub use books::judge_book;
+pub use books::judge_run;
 use contradiction::Settled;
 use matrices::Matrix;
 use outcomes::Outcome;
 use records::BookCheck;
 use records::ClaimsCheck;
 use records::Refusal;
+
+pub mod alone;
+pub mod books;
 
 // Zeroes the four parts of the index.
 pub fn clear_index(parens: &mut [u8], marks: &mut [u8], shadows: &mut [u16], places: &mut [u16])
@@ -237,37 +243,6 @@ pub fn write_index(
         shadows,
         places,
         &mut answers[..0],
-        e,
-        d,
-        t,
-        u,
-        p,
-        q,
-    )
-}
-
-// A fresh call on a run of records: rows 3 to 14.
-pub fn judge_run(
-    run: &[u8],
-    e: &mut Matrix,
-    d: &mut Matrix,
-    t: &mut Matrix,
-    u: &mut Matrix,
-    p: &mut Matrix,
-    q: &mut Matrix,
-) -> Outcome
-    ensures { λ r. ⌜ r ≡ freshCall (now (run .entry)) [] ⌝ }
-{
-    let mut parens = [0u8; index::PARENTHESES_BYTES];
-    let mut marks = [0u8; index::MARKS_BYTES];
-    let mut shadows = [0u16; index::SHADOWS];
-    let mut places = [0u16; index::PLACES];
-    write_index(
-        run,
-        &mut parens,
-        &mut marks,
-        &mut shadows,
-        &mut places,
         e,
         d,
         t,

@@ -4,12 +4,12 @@ ghost use lib.ListN.{length};
 ghost use Rattle.records.specs.Record.{records};
 ghost use Rattle.pages.specs.Put.{Put};
 ghost use Rattle.pages.specs.Written.{Page};
-ghost use Rattle.sentences.specs.Sources.{ofClaims};
+ghost use Rattle.sentences.specs.Sources.{ofSecond, ofClaims};
+ghost use Rattle.compare.specs.Call.{Determined};
 ghost use Rattle.beside_pages.specs.ComparisonText.{pairLine, pairLines, togetherLine, refusedIn, besideText, comparisonText};
 ghost use Rattle.beside_pages.specs.Rooms.{COMPARISON-HEAD, COMPARISON-ROOM};
 ghost use Rattle.text.specs.Rooms.{CLAIMS-ROOM};
 use compare::Comparison;
-use matrices::Matrix;
 use pages::Written;
 use records::Record;
 use records::Refusal;
@@ -87,6 +87,30 @@ fn put_refused_in(
     sentences::put_refused(page, 0, refusal, place, source, claims)
 }
 
+// Compares two books, in matrices of its own.
+fn compared(first: &[u8], other: &[u8], asked: &[u8], bytes: &mut [u8]) -> Comparison
+    ensures { λ r. ⌜ Determined (now (first .entry)) (now (other .entry)) (now (asked .entry)) (now (bytes .entry)) r (now (bytes .exit)) ⌝ }
+{
+    let mut e = [0u64; matrices::WORDS];
+    let mut d = [0u64; matrices::WORDS];
+    let mut t = [0u64; matrices::WORDS];
+    let mut u = [0u64; matrices::WORDS];
+    let mut p = [0u64; matrices::WORDS];
+    let mut q = [0u64; matrices::WORDS];
+    compare::compare(
+        first,
+        other,
+        asked,
+        bytes,
+        &mut e,
+        &mut d,
+        &mut t,
+        &mut u,
+        &mut p,
+        &mut q,
+    )
+}
+
 // The text of the comparison, from the start of the page. Answers where it ends.
 fn put_comparison(
     first: &[u8],
@@ -96,19 +120,13 @@ fn put_comparison(
     second: &[u8],
     claims: &[u8],
     page: &mut [u8],
-    e: &mut Matrix,
-    d: &mut Matrix,
-    t: &mut Matrix,
-    u: &mut Matrix,
-    p: &mut Matrix,
-    q: &mut Matrix,
 ) -> usize
     requires { ⌜ length (now asked) ≤ CLAIMS-ROOM ⌝ }
     ensures { λ r. ⌜ Put (now (page .entry)) 0 (besideText (now (first .entry)) (now (other .entry)) (now (asked .entry)) (now (source .entry)) (now (second .entry)) (now (claims .entry))) (now (page .exit)) r ⌝ }
     ensures { λ r. ⌜ length (besideText (now (first .entry)) (now (other .entry)) (now (asked .entry)) (now (source .entry)) (now (second .entry)) (now (claims .entry))) ≤ COMPARISON-ROOM ⌝ }
 {
     let mut bytes = [0u8; ROOM];
-    let made = compare::compare(first, other, asked, &mut bytes, e, d, t, u, p, q);
+    let made = compared(first, other, asked, &mut bytes);
     match made {
         Comparison::Refused(k, refusal, place) => put_refused_in(
             page,
@@ -126,43 +144,6 @@ fn put_comparison(
     }
 }
 
-fn write_both(
-    first: &[u8],
-    other: &[u8],
-    asked: &[u8],
-    source: &[u8],
-    second: &[u8],
-    claims: &[u8],
-    page: &mut [u8],
-    e: &mut Matrix,
-    d: &mut Matrix,
-    t: &mut Matrix,
-    u: &mut Matrix,
-    p: &mut Matrix,
-    q: &mut Matrix,
-) -> Written
-    requires { ⌜ length (now asked) ≤ CLAIMS-ROOM ⌝ }
-    ensures { λ r. ⌜ Page (now (page .entry)) (besideText (now (first .entry)) (now (other .entry)) (now (asked .entry)) (now (source .entry)) (now (second .entry)) (now (claims .entry))) (now (page .exit)) r ⌝ }
-    ensures { λ r. ⌜ length (besideText (now (first .entry)) (now (other .entry)) (now (asked .entry)) (now (source .entry)) (now (second .entry)) (now (claims .entry))) ≤ COMPARISON-ROOM ⌝ }
-{
-    let end = put_comparison(
-        first,
-        other,
-        asked,
-        source,
-        second,
-        claims,
-        page,
-        e,
-        d,
-        t,
-        u,
-        p,
-        q,
-    );
-    pages::finish(page.len(), end)
-}
-
 // Two books that were read, and the claims of a source.
 fn write_answers(
     first: &[u8],
@@ -171,12 +152,6 @@ fn write_answers(
     second: &[u8],
     claims: &[u8],
     page: &mut [u8],
-    e: &mut Matrix,
-    d: &mut Matrix,
-    t: &mut Matrix,
-    u: &mut Matrix,
-    p: &mut Matrix,
-    q: &mut Matrix,
 ) -> Written
     ensures { λ r. ⌜ Page (now (page .entry)) (ofClaims (now (claims .entry)) (λ asked. besideText (now (first .entry)) (now (other .entry)) asked (now (source .entry)) (now (second .entry)) (now (claims .entry)))) (now (page .exit)) r ⌝ }
     ensures { λ r. ⌜ length (ofClaims (now (claims .entry)) (λ asked. besideText (now (first .entry)) (now (other .entry)) asked (now (source .entry)) (now (second .entry)) (now (claims .entry)))) ≤ COMPARISON-ROOM ⌝ }
@@ -190,69 +165,46 @@ fn write_answers(
             bad,
             reason,
         ),
-        Source::Bytes(n) => write_both(
-            first,
-            other,
-            &asked[..n],
-            source,
-            second,
-            claims,
-            page,
-            e,
-            d,
-            t,
-            u,
-            p,
-            q,
-        ),
+        Source::Bytes(n) => {
+            let end = put_comparison(first, other, &asked[..n], source, second, claims, page);
+            pages::finish(page.len(), end)
+        }
     }
 }
 
-// Two books and the claims that both answer: 208,960 bytes always serve.
-pub fn write_comparison(
+// A book that was read, and a second one of a source.
+fn write_second(
+    first: &[u8],
     source: &[u8],
     second: &[u8],
     claims: &[u8],
     page: &mut [u8],
-    e: &mut Matrix,
-    d: &mut Matrix,
-    t: &mut Matrix,
-    u: &mut Matrix,
-    p: &mut Matrix,
-    q: &mut Matrix,
 ) -> Written
+    ensures { λ r. ⌜ Page (now (page .entry)) (ofSecond (now (second .entry)) (λ other. ofClaims (now (claims .entry)) (λ asked. besideText (now (first .entry)) other asked (now (source .entry)) (now (second .entry)) (now (claims .entry))))) (now (page .exit)) r ⌝ }
+    ensures { λ r. ⌜ length (ofSecond (now (second .entry)) (λ other. ofClaims (now (claims .entry)) (λ asked. besideText (now (first .entry)) other asked (now (source .entry)) (now (second .entry)) (now (claims .entry))))) ≤ COMPARISON-ROOM ⌝ }
+{
+    let mut other = [0u8; text::BOOK_ROOM];
+    let read = sentences::sources::read_source(Form::Records, second, &mut other);
+    match read {
+        Source::Unread(bad, reason) => sentences::write_unread(
+            page,
+            sentences::SECOND,
+            bad,
+            reason,
+        ),
+        Source::Bytes(n) => write_answers(first, &other[..n], source, second, claims, page),
+    }
+}
+
+// Two books and the claims that both answer: 208,960 bytes always serve.
+pub fn write_comparison(source: &[u8], second: &[u8], claims: &[u8], page: &mut [u8]) -> Written
     ensures { λ r. ⌜ Page (now (page .entry)) (comparisonText (now (source .entry)) (now (second .entry)) (now (claims .entry))) (now (page .exit)) r ⌝ }
     ensures { λ r. ⌜ length (comparisonText (now (source .entry)) (now (second .entry)) (now (claims .entry))) ≤ COMPARISON-ROOM ⌝ }
 {
     let mut first = [0u8; text::BOOK_ROOM];
-    let mut other = [0u8; text::BOOK_ROOM];
     let read = sentences::sources::read_source(Form::Records, source, &mut first);
     match read {
         Source::Unread(bad, reason) => sentences::write_unread(page, sentences::BOOK, bad, reason),
-        Source::Bytes(n) => {
-            let seen = sentences::sources::read_source(Form::Records, second, &mut other);
-            match seen {
-                Source::Unread(bad, reason) => sentences::write_unread(
-                    page,
-                    sentences::SECOND,
-                    bad,
-                    reason,
-                ),
-                Source::Bytes(m) => write_answers(
-                    &first[..n],
-                    &other[..m],
-                    source,
-                    second,
-                    claims,
-                    page,
-                    e,
-                    d,
-                    t,
-                    u,
-                    p,
-                    q,
-                ),
-            }
-        }
+        Source::Bytes(n) => write_second(&first[..n], source, second, claims, page),
     }
 }

@@ -3,7 +3,7 @@ use Prim.Native.Nat.{ℕ, _+_, _*_, _/_, _≤_, _<_, _^_}
 use mathlib.Core.Path.{_≡_, sym}
 use mathlib.Core.List.{List, _++_}
 use native.Mathlib.Omega.{arith}
-use lib.ListN.{length, take, getD, length-append}
+use lib.ListN.{length, take, getD}
 use lib.Seq.{length-take-le}
 use Rattle.records.specs.Record.{records}
 use Rattle.records.specs.declared.Refusal.{Refusal}
@@ -12,7 +12,7 @@ use Rattle.outcomes.specs.declared.Outcome.the-variants.{Accepted, Refused}
 use Rattle.sentences.specs.Refusals as line
 use Rattle.report.specs.Session.{claimLines, countsLine}
 use Rattle.report.specs.Answered.{Answered}
-use Rattle.report.proofs.Rooms.{counts-width, claims-width}
+use Rattle.report.proofs.Rooms.{page-width}
 use Rattle.book_pages.specs.AskText.{textOf, sessionText}
 
 module _ (book claims source other answers : List ℕ) (o : Outcome) (d : Answered book claims answers o) where
@@ -35,13 +35,7 @@ module _ (book claims source other answers : List ℕ) (o : Outcome) (d : Answer
     pub accepted-short : n < 2 ^ 64 → nodes < 2 ^ 64 → shadows < 2 ^ 64 → ((j : ℕ) → getD claims j 0 < 256) → length claims ≤ 24582
         → length (sessionText book claims source other) ≤ 142 + 33 * records claims
     accepted-short hn ho hs bytes few =
-        rw (sym accepted)
-        (omega (
-          arith,
-          length-append (countsLine n nodes shadows) (claimLines claims answers (records claims)),
-          counts-width n nodes shadows hn ho hs,
-          claims-width claims answers bytes (records claims) (omega arith),
-        ))
+        rw (sym accepted) (omega (arith, page-width claims answers bytes n nodes shadows hn ho hs (omega arith)))
 
 -- at most 4,097 claims are read
 pub claims-fit : (out : List ℕ) (n : ℕ) → n ≤ length out → length out ≡ 24582 → length (take n out) ≤ 24582

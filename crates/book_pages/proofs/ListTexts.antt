@@ -5,7 +5,7 @@ use mathlib.Core.Bool.{Bool, true, false, not, _&&_}
 use mathlib.Core.List.{List, []}
 use native.Mathlib.Omega.{arith}
 use lib.Dec.{leb}
-use lib.ListN.{length, take, getD, length-append}
+use lib.ListN.{length, take, getD, replicate, length-append}
 use Rattle.lists.specs.Front.{front}
 use Rattle.lists.proofs.Fronts.{front-taken}
 use Rattle.records.specs.Check.{bookCheck}
@@ -17,7 +17,7 @@ use Rattle.outcomes.specs.Lent.{shortLent}
 use Rattle.outcomes.specs.Call.{byRuns}
 use Rattle.outcomes.specs.declared.Outcome.{Outcome}
 use Rattle.outcomes.specs.declared.Outcome.the-variants.{Accepted, Refused}
-use Rattle.catalog.specs.Lent.{Lent, shortCatalog}
+use Rattle.catalog.specs.Lent.{Lent, lent, shortCatalog}
 use Rattle.catalog.specs.Call.{listOf, countsOf, refuseIf, byIndex, byAsked, byBook, outcome, left, Determined}
 use Rattle.catalog.specs.declared.Counts.{Counts}
 use Rattle.catalog.specs.declared.Listing.{Listing}
@@ -27,6 +27,7 @@ use Rattle.pages.specs.Text.{field}
 use Rattle.pages.specs.Decimal.{decimal}
 use Rattle.pages.proofs.Decimals.{decimal-length}
 use Rattle.pages.proofs.Lined.{lines-length}
+use Rattle.book_pages.specs.Listed.{Listed}
 use Rattle.book_pages.specs.ListText.{numberLines, listLines, zeros, textOf, catalogText}
 
 -- a row that did not refuse
@@ -70,31 +71,40 @@ lines-width l few small =
           (λ i h. simp length-append (omega (arith, decimal-length 4 (getD l i 0) (omega (arith, small i))))),
     ))
 
-module _ (s source : List ℕ) (k g : ℕ) (r : Listing) (l : Lent) (d : Determined s k g zeros r l) where
+-- the other parts of a catalog are of no use to a page
+pub determined : (s : List ℕ) (k g : ℕ) (list : List ℕ) (r : Listing) (l : Lent) → list ≡ replicate 2048 0
+    → Determined s k g (lent (replicate 2560 0) (replicate 1280 0) (replicate 8192 0) (replicate 2048 0) list (replicate 16384 0) (replicate 16384 0) (replicate 16384 0)) r l
+    → Listed s k g (l .list) r
+unfolding zeros
+determined s k g list r l is d =
+    let d′ : Determined s k g zeros r l = rw is at d in
+    record { comes = d′ .0; leaves = ap (λ x. x .list) (d′ .1) }
+
+module _ (s source : List ℕ) (k g : ℕ) (list : List ℕ) (r : Listing) (d : Listed s k g list r) where
   pub refused : (e : Refusal) (i : ℕ) → r ≡ listing.Refused e i → line.refused e i source [] ≡ catalogText s source k g
   unfolding catalogText textOf
-  refused e i is = rw (← (d .0), is)
+  refused e i is = rw (← (d .comes), is)
 
   pub refused-short : (e : Refusal) (i : ℕ) → r ≡ listing.Refused e i → length (line.refused e i source []) ≤ 142 → length (catalogText s source k g) ≤ 12300
   refused-short e i is h = rw (sym (refused e i is)) (omega arith)
 
   module _ (c : Counts) (is : r ≡ listing.Written c) where
-    fronted : l .list ≡ front (listOf s (c .pieces) k g) (zeros .list)
+    fronted : list ≡ front (listOf s (c .pieces) k g) (zeros .list)
     unfolding left
-    fronted = ap (λ (x : Lent). x .list) (d .1 ∙ ap (left s k g zeros) is)
+    fronted = d .leaves ∙ ap (λ x. left s k g zeros x .list) is
 
     many : c .listed ≡ length (listOf s (c .pieces) k g)
-    many = counted s k g c zeros (sym (d .0) ∙ is)
+    many = counted s k g c zeros (sym (d .comes) ∙ is)
 
-    pub listed-fits : c .listed ≤ length (l .list)
+    pub listed-fits : c .listed ≤ length list
     unfolding front
     listed-fits = rw fronted (simp length-append (omega (arith, many)))
 
-    pub listed : listLines (take (c .listed) (l .list)) ≡ catalogText s source k g
+    pub listed : listLines (take (c .listed) list) ≡ catalogText s source k g
     unfolding catalogText textOf
     listed =
-        ap listLines (ap (λ n. take n (l .list)) many ∙ ap (take (length (listOf s (c .pieces) k g))) fronted ∙ front-taken (listOf s (c .pieces) k g) (zeros .list))
-        ∙ rw (← (d .0), is)
+        ap listLines (ap (λ n. take n list) many ∙ ap (take (length (listOf s (c .pieces) k g))) fronted ∙ front-taken (listOf s (c .pieces) k g) (zeros .list))
+        ∙ rw (← (d .comes), is)
 
-    pub listed-short : length (listLines (take (c .listed) (l .list))) ≤ 12300 → length (catalogText s source k g) ≤ 12300
+    pub listed-short : length (listLines (take (c .listed) list)) ≤ 12300 → length (catalogText s source k g) ≤ 12300
     listed-short h = rw (sym listed) h

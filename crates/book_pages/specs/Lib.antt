@@ -1,6 +1,7 @@
 pub mod Rooms
 pub mod AskText
 pub mod ListText
+pub mod Listed
 pub mod Sign
 pub mod GridText
 pub mod ShowText

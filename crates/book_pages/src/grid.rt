@@ -3,6 +3,7 @@ ghost use mathlib.Core.Path.{_≡_};
 ghost use Prim.Native.Nat.{_<_, _≤_};
 ghost use lib.ListN.{length};
 ghost use Rattle.grids.specs.Grid.{bitAt};
+ghost use Rattle.grids.specs.Gridded.{Gridded};
 ghost use Rattle.pages.specs.Put.{Put};
 ghost use Rattle.pages.specs.Written.{Page};
 ghost use Rattle.book_pages.specs.Sign as by;
@@ -11,8 +12,8 @@ ghost use Rattle.book_pages.specs.GridText as text;
 ghost use Rattle.book_pages.specs.GridText.{columns, heading, headings, signs, rows, gridLines, sheetText, gridText};
 ghost use Rattle.book_pages.specs.Rooms.{GRID-ROOM};
 ghost use Rattle.grids.specs.Sizes.{SIDE};
+use grids::GridAnswer;
 use grids::rounds::Grid;
-use matrices::Matrix;
 use outcomes::Outcome;
 use pages::Written;
 use sentences::sources::Source;
@@ -200,22 +201,25 @@ fn put_lines(
     put_rows(page, at, part, apart, meets, notpart, n)
 }
 
+// The grid call, in matrices of its own.
+fn grid_of(book: &[u8]) -> GridAnswer
+    ensures { λ r. ⌜ Gridded (now (book .entry)) (r .outcome) (r .grids) ⌝ }
+{
+    let mut e = [0u64; matrices::WORDS];
+    let mut d = [0u64; matrices::WORDS];
+    let mut t = [0u64; matrices::WORDS];
+    let mut u = [0u64; matrices::WORDS];
+    let mut p = [0u64; matrices::WORDS];
+    let mut q = [0u64; matrices::WORDS];
+    grids::grid(book, &mut e, &mut d, &mut t, &mut u, &mut p, &mut q)
+}
+
 // The text of the book's grids, from the start of the page. Answers where it ends.
-fn put_grid(
-    book: &[u8],
-    source: &[u8],
-    page: &mut [u8],
-    e: &mut Matrix,
-    d: &mut Matrix,
-    t: &mut Matrix,
-    u: &mut Matrix,
-    p: &mut Matrix,
-    q: &mut Matrix,
-) -> usize
+fn put_grid(book: &[u8], source: &[u8], page: &mut [u8]) -> usize
     ensures { λ r. ⌜ Put (now (page .entry)) 0 (sheetText (now (book .entry)) (now (source .entry))) (now (page .exit)) r ⌝ }
     ensures { λ r. ⌜ length (sheetText (now (book .entry)) (now (source .entry))) ≤ GRID-ROOM ⌝ }
 {
-    let made = grids::grid(book, e, d, t, u, p, q);
+    let made = grid_of(book);
     let outcome = made.outcome;
     let g = made.grids;
     let part = g.part;
@@ -234,35 +238,8 @@ fn put_grid(
     }
 }
 
-fn write_sheet(
-    book: &[u8],
-    source: &[u8],
-    page: &mut [u8],
-    e: &mut Matrix,
-    d: &mut Matrix,
-    t: &mut Matrix,
-    u: &mut Matrix,
-    p: &mut Matrix,
-    q: &mut Matrix,
-) -> Written
-    ensures { λ r. ⌜ Page (now (page .entry)) (sheetText (now (book .entry)) (now (source .entry))) (now (page .exit)) r ⌝ }
-    ensures { λ r. ⌜ length (sheetText (now (book .entry)) (now (source .entry))) ≤ GRID-ROOM ⌝ }
-{
-    let end = put_grid(book, source, page, e, d, t, u, p, q);
-    pages::finish(page.len(), end)
-}
-
 // The grids of the book on one page: 4,498 bytes always serve.
-pub fn write_grid(
-    source: &[u8],
-    page: &mut [u8],
-    e: &mut Matrix,
-    d: &mut Matrix,
-    t: &mut Matrix,
-    u: &mut Matrix,
-    p: &mut Matrix,
-    q: &mut Matrix,
-) -> Written
+pub fn write_grid(source: &[u8], page: &mut [u8]) -> Written
     ensures { λ r. ⌜ Page (now (page .entry)) (gridText (now (source .entry))) (now (page .exit)) r ⌝ }
     ensures { λ r. ⌜ length (gridText (now (source .entry))) ≤ GRID-ROOM ⌝ }
 {
@@ -270,6 +247,9 @@ pub fn write_grid(
     let read = sentences::sources::read_source(Form::Records, source, &mut book);
     match read {
         Source::Unread(bad, reason) => sentences::write_unread(page, sentences::BOOK, bad, reason),
-        Source::Bytes(n) => write_sheet(&book[..n], source, page, e, d, t, u, p, q),
+        Source::Bytes(n) => {
+            let end = put_grid(&book[..n], source, page);
+            pages::finish(page.len(), end)
+        }
     }
 }

@@ -1,14 +1,15 @@
 // The page of `inside`, `touching` and `apart`: the pieces of which a claim follows, one number a line.
 ghost use Prim.Native.Nat.{_≤_};
-ghost use lib.ListN.{length};
+ghost use mathlib.Core.Path.{_≡_};
+ghost use lib.ListN.{length, replicate};
 ghost use Rattle.pages.specs.Put.{Put};
 ghost use Rattle.pages.specs.Written.{Page};
 ghost use Rattle.sentences.specs.Sources.{ofBook};
+ghost use Rattle.book_pages.specs.Listed.{Listed};
 ghost use Rattle.book_pages.specs.ListText.{numberLines, listLines, catalogText, listText};
 ghost use Rattle.book_pages.specs.Rooms.{LIST-ROOM};
 ghost use Rattle.records.specs.Sizes.{PIECES};
 use catalog::Listing;
-use matrices::Matrix;
 use pages::Written;
 use sentences::sources::Source;
 use sentences::sources::Words;
@@ -38,29 +39,22 @@ fn put_list(page: &mut [u8], list: &[u16]) -> usize
     put_numbers(page, at, list)
 }
 
-// The text of a catalog's list, from the start of the page. Answers where it ends.
-fn put_catalog(
-    book: &[u8],
-    source: &[u8],
-    kind: usize,
-    g: usize,
-    page: &mut [u8],
-    e: &mut Matrix,
-    d: &mut Matrix,
-    t: &mut Matrix,
-) -> usize
-    ensures { λ r. ⌜ Put (now (page .entry)) 0 (catalogText (now (book .entry)) (now (source .entry)) kind g) (now (page .exit)) r ⌝ }
-    ensures { λ r. ⌜ length (catalogText (now (book .entry)) (now (source .entry)) kind g) ≤ LIST-ROOM ⌝ }
+// The list of a catalog, of which nobody asks for more.
+fn list_pieces(book: &[u8], kind: usize, g: usize, list: &mut [u16]) -> Listing
+    requires { ⌜ now list ≡ replicate PIECES 0 ⌝ }
+    ensures { λ r. ⌜ Listed (now (book .entry)) kind g (now (list .exit)) r ⌝ }
 {
     let mut parens = [0u8; index::PARENTHESES_BYTES];
     let mut marks = [0u8; index::MARKS_BYTES];
     let mut shadows = [0u16; index::SHADOWS];
     let mut places = [0u16; index::PLACES];
-    let mut list = [0u16; records::PIECES];
     let mut meets = [0u16; areas::AREA_NUMBERS];
     let mut apart = [0u16; areas::AREA_NUMBERS];
     let mut notpart = [0u16; areas::AREA_NUMBERS];
-    let made = catalog::write_catalog(
+    let mut e = [0u64; matrices::WORDS];
+    let mut d = [0u64; matrices::WORDS];
+    let mut t = [0u64; matrices::WORDS];
+    catalog::write_catalog(
         book,
         kind,
         g,
@@ -68,14 +62,23 @@ fn put_catalog(
         &mut marks,
         &mut shadows,
         &mut places,
-        &mut list,
+        list,
         &mut meets,
         &mut apart,
         &mut notpart,
-        e,
-        d,
-        t,
-    );
+        &mut e,
+        &mut d,
+        &mut t,
+    )
+}
+
+// The text of a catalog's list, from the start of the page. Answers where it ends.
+fn put_catalog(book: &[u8], source: &[u8], kind: usize, g: usize, page: &mut [u8]) -> usize
+    ensures { λ r. ⌜ Put (now (page .entry)) 0 (catalogText (now (book .entry)) (now (source .entry)) kind g) (now (page .exit)) r ⌝ }
+    ensures { λ r. ⌜ length (catalogText (now (book .entry)) (now (source .entry)) kind g) ≤ LIST-ROOM ⌝ }
+{
+    let mut list = [0u16; records::PIECES];
+    let made = list_pieces(book, kind, g, &mut list);
     match made {
         Listing::Refused(refusal, place) => sentences::put_refused_book(
             page,
@@ -91,33 +94,8 @@ fn put_catalog(
     }
 }
 
-fn write_catalog(
-    book: &[u8],
-    source: &[u8],
-    kind: usize,
-    g: usize,
-    page: &mut [u8],
-    e: &mut Matrix,
-    d: &mut Matrix,
-    t: &mut Matrix,
-) -> Written
-    ensures { λ r. ⌜ Page (now (page .entry)) (catalogText (now (book .entry)) (now (source .entry)) kind g) (now (page .exit)) r ⌝ }
-    ensures { λ r. ⌜ length (catalogText (now (book .entry)) (now (source .entry)) kind g) ≤ LIST-ROOM ⌝ }
-{
-    let end = put_catalog(book, source, kind, g, page, e, d, t);
-    pages::finish(page.len(), end)
-}
-
-// The same of a source.
-fn write_pieces(
-    source: &[u8],
-    kind: usize,
-    g: usize,
-    page: &mut [u8],
-    e: &mut Matrix,
-    d: &mut Matrix,
-    t: &mut Matrix,
-) -> Written
+// The list that a catalog of a source has.
+fn write_pieces(source: &[u8], kind: usize, g: usize, page: &mut [u8]) -> Written
     ensures { λ r. ⌜ Page (now (page .entry)) (ofBook (now (source .entry)) (λ book. catalogText book (now (source .entry)) kind g)) (now (page .exit)) r ⌝ }
     ensures { λ r. ⌜ length (ofBook (now (source .entry)) (λ book. catalogText book (now (source .entry)) kind g)) ≤ LIST-ROOM ⌝ }
 {
@@ -125,26 +103,21 @@ fn write_pieces(
     let read = sentences::sources::read_source(Form::Records, source, &mut book);
     match read {
         Source::Unread(bad, reason) => sentences::write_unread(page, sentences::BOOK, bad, reason),
-        Source::Bytes(n) => write_catalog(&book[..n], source, kind, g, page, e, d, t),
+        Source::Bytes(n) => {
+            let end = put_catalog(&book[..n], source, kind, g, page);
+            pages::finish(page.len(), end)
+        }
     }
 }
 
 // The pieces x of which the claim of a kind 1 to 3 about x and the piece in the words follows, on a page: 12,300 bytes always serve.
-pub fn write_list(
-    source: &[u8],
-    kind: usize,
-    words: &[u8],
-    page: &mut [u8],
-    e: &mut Matrix,
-    d: &mut Matrix,
-    t: &mut Matrix,
-) -> Written
+pub fn write_list(source: &[u8], kind: usize, words: &[u8], page: &mut [u8]) -> Written
     ensures { λ r. ⌜ Page (now (page .entry)) (listText (now (source .entry)) kind (now (words .entry))) (now (page .exit)) r ⌝ }
     ensures { λ r. ⌜ length (listText (now (source .entry)) kind (now (words .entry))) ≤ LIST-ROOM ⌝ }
 {
     let said = sentences::sources::read_words(Form::Log, words);
     match said {
         Words::Wrong(reason) => sentences::write_unread(page, sentences::WORDS, 0, reason),
-        Words::Entry(number) => write_pieces(source, kind, number.a, page, e, d, t),
+        Words::Entry(number) => write_pieces(source, kind, number.a, page),
     }
 }

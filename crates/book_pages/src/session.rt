@@ -10,7 +10,6 @@ ghost use Rattle.book_pages.specs.AskText.{sessionText, checkText, askTe
 ghost use Rattle.book_pages.specs.Rooms.{ASK-ROOM, ASK-WORDS-ROOM, CLAIM-LINE};
 ghost use Rattle.sentences.specs.Rooms.{REFUSED-LINE};
 ghost use Rattle.text.specs.Rooms.{CLAIMS-ROOM};
-use matrices::Matrix;
 use outcomes::Outcome;
 use pages::Written;
 use sentences::sources::Source;
@@ -21,25 +20,13 @@ use text::Form;
 const ANSWERS_ROOM: usize = 4097;
 
 // The text of the call's outcome, from the start of the page. Answers where it ends.
-fn put_session(
-    book: &[u8],
-    claims: &[u8],
-    source: &[u8],
-    other: &[u8],
-    page: &mut [u8],
-    e: &mut Matrix,
-    d: &mut Matrix,
-    t: &mut Matrix,
-    u: &mut Matrix,
-    p: &mut Matrix,
-    q: &mut Matrix,
-) -> usize
+fn put_session(book: &[u8], claims: &[u8], source: &[u8], other: &[u8], page: &mut [u8]) -> usize
     requires { ⌜ length (now claims) ≤ CLAIMS-ROOM ⌝ }
     ensures { λ r. ⌜ Put (now (page .entry)) 0 (sessionText (now (book .entry)) (now (claims .entry)) (now (source .entry)) (now (other .entry))) (now (page .exit)) r ⌝ }
     ensures { λ r. ⌜ length (sessionText (now (book .entry)) (now (claims .entry)) (now (source .entry)) (now (other .entry))) ≤ REFUSED-LINE + CLAIM-LINE * records (now (claims .entry)) ⌝ }
 {
     let mut answers = [0u8; ANSWERS_ROOM];
-    let outcome = report::answer(book, claims, &mut answers, e, d, t, u, p, q);
+    let outcome = report::answer(book, claims, &mut answers);
     match outcome {
         Outcome::Refused(refusal, place) => sentences::put_refused(
             page,
@@ -56,40 +43,8 @@ fn put_session(
     }
 }
 
-fn write_session(
-    book: &[u8],
-    claims: &[u8],
-    source: &[u8],
-    other: &[u8],
-    page: &mut [u8],
-    e: &mut Matrix,
-    d: &mut Matrix,
-    t: &mut Matrix,
-    u: &mut Matrix,
-    p: &mut Matrix,
-    q: &mut Matrix,
-) -> Written
-    requires { ⌜ length (now claims) ≤ CLAIMS-ROOM ⌝ }
-    ensures { λ r. ⌜ Page (now (page .entry)) (sessionText (now (book .entry)) (now (claims .entry)) (now (source .entry)) (now (other .entry))) (now (page .exit)) r ⌝ }
-    ensures { λ r. ⌜ length (sessionText (now (book .entry)) (now (claims .entry)) (now (source .entry)) (now (other .entry))) ≤ REFUSED-LINE + CLAIM-LINE * records (now (claims .entry)) ⌝ }
-{
-    let end = put_session(book, claims, source, other, page, e, d, t, u, p, q);
-    pages::finish(page.len(), end)
-}
-
 // The answers about a book to the claims of a source.
-fn write_answers(
-    book: &[u8],
-    source: &[u8],
-    claims: &[u8],
-    page: &mut [u8],
-    e: &mut Matrix,
-    d: &mut Matrix,
-    t: &mut Matrix,
-    u: &mut Matrix,
-    p: &mut Matrix,
-    q: &mut Matrix,
-) -> Written
+fn write_answers(book: &[u8], source: &[u8], claims: &[u8], page: &mut [u8]) -> Written
     ensures { λ r. ⌜ Page (now (page .entry)) (ofClaims (now (claims .entry)) (λ asked. sessionText (now (book .entry)) asked (now (source .entry)) (now (claims .entry)))) (now (page .exit)) r ⌝ }
     ensures { λ r. ⌜ length (ofClaims (now (claims .entry)) (λ asked. sessionText (now (book .entry)) asked (now (source .entry)) (now (claims .entry)))) ≤ ASK-ROOM ⌝ }
 {
@@ -102,34 +57,15 @@ fn write_answers(
             bad,
             reason,
         ),
-        Source::Bytes(n) => write_session(
-            book,
-            &asked[..n],
-            source,
-            claims,
-            page,
-            e,
-            d,
-            t,
-            u,
-            p,
-            q,
-        ),
+        Source::Bytes(n) => {
+            let end = put_session(book, &asked[..n], source, claims, page);
+            pages::finish(page.len(), end)
+        }
     }
 }
 
 // The answers to the claims about the book: 135,343 bytes always serve.
-pub fn write_ask(
-    source: &[u8],
-    claims: &[u8],
-    page: &mut [u8],
-    e: &mut Matrix,
-    d: &mut Matrix,
-    t: &mut Matrix,
-    u: &mut Matrix,
-    p: &mut Matrix,
-    q: &mut Matrix,
-) -> Written
+pub fn write_ask(source: &[u8], claims: &[u8], page: &mut [u8]) -> Written
     ensures { λ r. ⌜ Page (now (page .entry)) (askText (now (source .entry)) (now (claims .entry))) (now (page .exit)) r ⌝ }
     ensures { λ r. ⌜ length (askText (now (source .entry)) (now (claims .entry))) ≤ ASK-ROOM ⌝ }
 {
@@ -137,22 +73,12 @@ pub fn write_ask(
     let read = sentences::sources::read_source(Form::Records, source, &mut book);
     match read {
         Source::Unread(bad, reason) => sentences::write_unread(page, sentences::BOOK, bad, reason),
-        Source::Bytes(n) => write_answers(&book[..n], source, claims, page, e, d, t, u, p, q),
+        Source::Bytes(n) => write_answers(&book[..n], source, claims, page),
     }
 }
 
 // The answer about a source to one claim, or to none.
-fn write_about(
-    source: &[u8],
-    claims: &[u8],
-    page: &mut [u8],
-    e: &mut Matrix,
-    d: &mut Matrix,
-    t: &mut Matrix,
-    u: &mut Matrix,
-    p: &mut Matrix,
-    q: &mut Matrix,
-) -> Written
+fn write_about(source: &[u8], claims: &[u8], page: &mut [u8]) -> Written
     requires { ⌜ length (now claims) ≤ CLAIMS-ROOM ⌝ }
     ensures { λ r. ⌜ Page (now (page .entry)) (ofBook (now (source .entry)) (λ book. sessionText book (now (claims .entry)) (now (source .entry)) [])) (now (page .exit)) r ⌝ }
     ensures { λ r. ⌜ length (ofBook (now (source .entry)) (λ book. sessionText book (now (claims .entry)) (now (source .entry)) [])) ≤ REFUSED-LINE + CLAIM-LINE * records (now (claims .entry)) ⌝ }
@@ -162,52 +88,24 @@ fn write_about(
     let read = sentences::sources::read_source(Form::Records, source, &mut book);
     match read {
         Source::Unread(bad, reason) => sentences::write_unread(page, sentences::BOOK, bad, reason),
-        Source::Bytes(n) => write_session(
-            &book[..n],
-            claims,
-            source,
-            &none,
-            page,
-            e,
-            d,
-            t,
-            u,
-            p,
-            q,
-        ),
+        Source::Bytes(n) => {
+            let end = put_session(&book[..n], claims, source, &none, page);
+            pages::finish(page.len(), end)
+        }
     }
 }
 
 // The counts of the book: 142 bytes always serve.
-pub fn write_check(
-    source: &[u8],
-    page: &mut [u8],
-    e: &mut Matrix,
-    d: &mut Matrix,
-    t: &mut Matrix,
-    u: &mut Matrix,
-    p: &mut Matrix,
-    q: &mut Matrix,
-) -> Written
+pub fn write_check(source: &[u8], page: &mut [u8]) -> Written
     ensures { λ r. ⌜ Page (now (page .entry)) (checkText (now (source .entry))) (now (page .exit)) r ⌝ }
     ensures { λ r. ⌜ length (checkText (now (source .entry))) ≤ REFUSED-LINE ⌝ }
 {
     let none = [0u8; 0];
-    write_about(source, &none, page, e, d, t, u, p, q)
+    write_about(source, &none, page)
 }
 
 // The answer to the claim in the words: 175 bytes always serve.
-pub fn write_ask_words(
-    source: &[u8],
-    words: &[u8],
-    page: &mut [u8],
-    e: &mut Matrix,
-    d: &mut Matrix,
-    t: &mut Matrix,
-    u: &mut Matrix,
-    p: &mut Matrix,
-    q: &mut Matrix,
-) -> Written
+pub fn write_ask_words(source: &[u8], words: &[u8], page: &mut [u8]) -> Written
     ensures { λ r. ⌜ Page (now (page .entry)) (askWordsText (now (source .entry)) (now (words .entry))) (now (page .exit)) r ⌝ }
     ensures { λ r. ⌜ length (askWordsText (now (source .entry)) (now (words .entry))) ≤ ASK-WORDS-ROOM ⌝ }
 {
@@ -216,7 +114,7 @@ pub fn write_ask_words(
         Words::Wrong(reason) => sentences::write_unread(page, sentences::CLAIM_WORDS, 0, reason),
         Words::Entry(claim) => {
             let six = sentences::sources::six_bytes(claim);
-            write_about(source, &six, page, e, d, t, u, p, q)
+            write_about(source, &six, page)
         }
     }
 }

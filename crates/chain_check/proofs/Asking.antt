@@ -15,7 +15,6 @@ use Rattle.records.specs.Record.{recordAt, records}
 use Rattle.records.specs.Facts.{saying, entries, facts}
 use Rattle.records.specs.Marked.{marked}
 use Rattle.records.specs.Check.{bookCheck, claimsCheck}
-use Rattle.records.specs.Refusal.{scan}
 use Rattle.records.specs.declared.Refusal.{Refusal}
 use Rattle.records.specs.declared.Refusal.the-variants.{ClaimsLength}
 use Rattle.records.specs.declared.BookCheck.{BookCheck}
@@ -23,11 +22,12 @@ use Rattle.records.specs.declared.BookCheck.the-variants as book
 use Rattle.records.specs.declared.ClaimsCheck.{ClaimsCheck}
 use Rattle.records.specs.declared.ClaimsCheck.the-variants as claims
 use Rattle.contradiction.proofs.SettlingLaws.{settleable, whole-unmarked, beyond-free, free-consistent}
-use Rattle.outcomes.specs.Call.{byRuns, byClaims, byBook}
+use Rattle.outcomes.specs.Call.{byRuns, byClaims}
 use Rattle.outcomes.specs.Fresh.{freshCall}
 use Rattle.outcomes.specs.One.{refuseIf, byOne}
 use Rattle.outcomes.specs.declared.Outcome.{Outcome}
 use Rattle.outcomes.specs.declared.Outcome.the-variants.{Accepted, Refused}
+use Rattle.answers.proofs.Fresh.{fresh-runs}
 use Rattle.chain_format.specs.Citing.{citing}
 use Rattle.chain_format.specs.Chain.{chainOk}
 use Rattle.chain_check.specs.Call.{asked, passing, passes}
@@ -120,13 +120,6 @@ module _ (s : List ℕ) (n nodes shadows : ℕ) (sound : bookCheck s ≡ book.Ac
 
   pub runs-consistent : Contradictory (marked s) n (facts s) → ⊥
   runs-consistent = free-consistent s (settleable s n sound .bounded) (marked s) (whole-unmarked s n sound) runs-free
-
--- ---- a fresh call without claims
-
-module _ (s : List ℕ) where
-  pub fresh-runs : (n : ℕ) → bookCheck s ≡ book.Accepted n → freshCall s [] ≡ byRuns s n
-  unfolding freshCall byBook byClaims claimsCheck scan
-  fresh-runs n e = rw e refl
 
 -- ---- what the check comes to, by the row at which it ends
 

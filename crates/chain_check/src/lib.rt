@@ -7,7 +7,7 @@ ghost use Rattle.records.specs.declared.BookCheck.the-variants as is;
 ghost use Rattle.chain_check.specs.Call.{passes, Checked};
 ghost use Rattle.records.specs.Sizes.{RECORD-BYTES};
 use matrices::Matrix;
-use outcomes::Outcome;
+use records::BookCheck;
 use records::ClaimsCheck;
 
 // The claim's rows and the steps, in an accepted book of n pieces.
@@ -34,18 +34,15 @@ pub fn check_chain(
     e: &mut Matrix,
     d: &mut Matrix,
     t: &mut Matrix,
-    u: &mut Matrix,
-    p: &mut Matrix,
-    q: &mut Matrix,
 ) -> bool
     ensures { λ r. ⌜ r ≡ passes (now (book .entry)) (now (claim .entry)) (now (steps .entry)) ⌝ }
 {
     if claim.len() != records::RECORD_BYTES {
         return false;
     }
-    let judged = answers::judge_run(book, e, d, t, u, p, q);
+    let judged = answers::judge_book(book, e, d, t);
     match judged {
-        Outcome::Refused(_, _) => false,
-        Outcome::Accepted(n, _, _) => check_accepted(book, n, claim, steps),
+        BookCheck::Refused(_, _) => false,
+        BookCheck::Accepted(n) => check_accepted(book, n, claim, steps),
     }
 }

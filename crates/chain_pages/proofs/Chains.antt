@@ -1,11 +1,11 @@
 -- What the writer of chains leaves, for a buffer of 16,400 steps. Assumes nothing.
-use Prim.Native.Nat.{ℕ, _*_, _≤_}
+use Prim.Native.Nat.{ℕ, _≤_}
 use mathlib.Core.Path.{_≡_, _∙_, ap}
 use mathlib.Core.Bool.{not}
 use mathlib.Core.List.{List}
 use native.Mathlib.Omega.{arith}
 use lib.Dec.{eqb}
-use lib.ListN.{length, take}
+use lib.ListN.{length}
 use borrow.Author.Tests.{eqb-true}
 use Rattle.lists.proofs.Bools.{Known, is-true, is-false, known}
 use Rattle.records.specs.declared.Record.{Record}
@@ -24,7 +24,7 @@ use Rattle.chain_writing.specs.Call.{replyOf, reply, shown, Written}
 use Rattle.chain_writing.specs.declared.Reply.the-variants.{Answered, Refused}
 use Rattle.chain_writing.specs.declared.Chain.{Chain}
 use Rattle.chain_text.specs.Verified.{said}
-use Rattle.chain_pages.specs.Why.{Whole, Behind}
+use Rattle.chain_pages.specs.Why.{Whole, Shown}
 
 -- a claim that is answered is six bytes
 sized : (claim : Record) (s : List ℕ) (n : ℕ) (e : Refusal) (o : Outcome) (a : Answer) → replyOf claim s (refuseIf (not (eqb n 6)) e o) ≡ Answered a → n ≡ 6
@@ -48,20 +48,19 @@ roomy : (s cs : List ℕ) (n : ℕ) → n ≡ 164000 → reply s cs n ≡ said s
 unfolding reply said refuseIf
 roomy s cs n is = rw is
 
-module _ {s cs c : List ℕ} {r : Chain} {c′ : List ℕ} (w : Written s cs c r c′) where
-  pub few : r .steps ≤ 16400
-  few = go (known (shown (r .reply))) where
+-- what the call leaves
+pub chain-shown : {s cs c : List ℕ} {r : Chain} {c′ : List ℕ} → Written s cs c r c′ → length c ≡ 164000 → length c′ ≡ 164000 → Shown s cs r c′
+chain-shown {s} {cs} {c} {r} {c′} w room left =
+    record {
+      room = left;
+      reply-is = same;
+      few = go (known (shown (r .reply)));
+      behind = record { passing = λ h. w .steps-are (ap shown same ∙ h) .written-passes; none = λ h. rw (w .none (ap shown same ∙ h)) };
+    }
+  where
+    same : r .reply ≡ said s cs
+    same = w .reply-is ∙ roomy s cs (length c) room
+
     go : Known (shown (r .reply)) → r .steps ≤ 16400
     go (is-true h) = w .steps-are h .few
     go (is-false h) = omega (arith, w .none h)
-
-  module _ (room : length c ≡ 164000) where
-    pub reply-said : r .reply ≡ said s cs
-    reply-said = w .reply-is ∙ roomy s cs (length c) room
-
-    pub steps-behind : Behind s cs (take (10 * r .steps) c′)
-    steps-behind =
-        record {
-          passing = λ h. w .steps-are (ap shown reply-said ∙ h) .written-passes;
-          none = λ h. rw (w .none (ap shown reply-said ∙ h));
-        }

@@ -30,7 +30,7 @@ use Rattle.report.proofs.Rooms.{counts-width}
 use Rattle.chain_text.specs.StepLine.{stepLines}
 use Rattle.chain_text.specs.ChainText.{Bytes}
 use Rattle.chain_text.proofs.Rooms.{steps-width}
-use Rattle.chain_pages.specs.Clash.{clashText, clashPage, Behind, Clash, StepsOf, OfBook}
+use Rattle.chain_pages.specs.Clash.{clashText, clashPage, Behind, Clash, Shown, StepsOf, OfBook}
 use Rattle.chain_pages.proofs.Readings.{no-bytes, not-read, one-book}
 
 -- ---- what the writer leaves, for a buffer of 16,400 steps
@@ -40,22 +40,24 @@ roomy : (s : List ℕ) (n : ℕ) → n ≡ 164000 → reply s n ≡ replyOf (fre
 unfolding reply refuseIf
 roomy s n is = rw is
 
-module _ {s c : List ℕ} {r : call.Clash} {c′ : List ℕ} (w : Written s c r c′) where
-  pub few : r .steps ≤ 16400
-  few = go (known (shown (r .reply)))
-    where
-      go : Known (shown (r .reply)) → r .steps ≤ 16400
-      go (is-true h) = w .steps-are h .few
-      go (is-false h) = omega (arith, w .none h)
+pub clash-shown : {s c : List ℕ} {r : call.Clash} {c′ : List ℕ} → Written s c r c′ → length c ≡ 164000 → length c′ ≡ 164000 → Shown s (r .steps) c′
+clash-shown {s} {c} {r} {c′} w room left =
+    record {
+      room = left;
+      few = go (known (shown (r .reply)));
+      behind = record { passing = λ h. w .steps-are (ap shown same ∙ h) .written-passes; none = λ h. rw (w .none (ap shown same ∙ h)) };
+    }
+  where
+    same : r .reply ≡ replyOf (freshCall s [])
+    same = w .reply-is ∙ roomy s (length c) room
 
-  pub steps-behind : length c ≡ 164000 → Behind s (take (10 * r .steps) c′)
-  steps-behind room =
-      let same : r .reply ≡ replyOf (freshCall s []) = w .reply-is ∙ roomy s (length c) room in
-      record { passing = λ h. w .steps-are (ap shown same ∙ h) .written-passes; none = λ h. rw (w .none (ap shown same ∙ h)) }
+    go : Known (shown (r .reply)) → r .steps ≤ 16400
+    go (is-true h) = w .steps-are h .few
+    go (is-false h) = omega (arith, w .none h)
 
-  pub steps-put : length c ≡ 164000 → Bytes (take (10 * r .steps) c′) → length (take (10 * r .steps) c′) ≡ 10 * r .steps → {page page′ : List ℕ} {at end : ℕ}
-      → Put page at (stepLines (take (10 * r .steps) c′) (steps (take (10 * r .steps) c′))) page′ end → StepsOf s page at page′ end
-  steps-put room bytes n p = record { chain = take (10 * r .steps) c′; bytes = bytes; few = omega (arith, n, few); behind = steps-behind room; put = p }
+pub steps-put : {s : List ℕ} {n : ℕ} {c′ : List ℕ} → Shown s n c′ → Bytes (take (10 * n) c′) → length (take (10 * n) c′) ≡ 10 * n → {page page′ : List ℕ} {at end : ℕ}
+    → Put page at (stepLines (take (10 * n) c′) (steps (take (10 * n) c′))) page′ end → StepsOf s page at page′ end
+steps-put {s} {n} {c′} w bytes e p = record { chain = take (10 * n) c′; bytes = bytes; few = omega (arith, e, w .few); behind = w .behind; put = p }
 
 -- ---- by the outcome
 

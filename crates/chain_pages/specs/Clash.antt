@@ -1,9 +1,9 @@
 -- What the page of `why` without a claim comes to. Assumes nothing.
-use Prim.Native.Nat.{ℕ, _≤_}
+use Prim.Native.Nat.{ℕ, _*_, _≤_}
 use mathlib.Core.Path.{_≡_}
 use mathlib.Core.Bool.{true, false}
 use mathlib.Core.List.{List, [], _++_}
-use lib.ListN.{length}
+use lib.ListN.{length, take}
 use Rattle.outcomes.specs.Fresh.{freshCall}
 use Rattle.outcomes.specs.declared.Outcome.{Outcome}
 use Rattle.outcomes.specs.declared.Outcome.the-variants.{Accepted, Refused}
@@ -44,6 +44,12 @@ pub record Clash (source page page′ : List ℕ) (r : Written) : Type 0 where
   pub short : length (clashPage source chain) ≤ 852942
 
 -- ---- what the inner functions promise each other
+
+-- so many steps stand at the front of the lent bytes
+pub record Shown (book : List ℕ) (n : ℕ) (c′ : List ℕ) : Type 0 where
+  pub room : length c′ ≡ 164000
+  pub few : n ≤ 16400
+  pub behind : Behind book (take (10 * n) c′)
 
 -- at most 16,400 steps behind the contradiction of a book
 pub record StepsOf (book page : List ℕ) (at : ℕ) (page′ : List ℕ) (end : ℕ) : Type 0 where

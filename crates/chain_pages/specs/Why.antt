@@ -1,5 +1,5 @@
 -- What the page of `why` with a claim comes to. Assumes nothing.
-use Prim.Native.Nat.{ℕ, _≤_}
+use Prim.Native.Nat.{ℕ, _*_, _≤_}
 use mathlib.Core.Path.{_≡_}
 use mathlib.Core.Bool.{true, false}
 use mathlib.Core.List.{List, []}
@@ -8,6 +8,7 @@ use Rattle.records.specs.declared.Record.{Record}
 use Rattle.verdicts.specs.declared.Answer.{Answer}
 use Rattle.chain_check.specs.Call.{passes}
 use Rattle.chain_writing.specs.Call.{shown}
+use Rattle.chain_writing.specs.declared.Chain.{Chain}
 use Rattle.chain_writing.specs.declared.Reply.{Reply}
 use Rattle.chain_writing.specs.declared.Reply.the-variants.{Answered}
 use Rattle.pages.specs.Written.{Page}
@@ -56,6 +57,13 @@ WhyVerifies =
 -- a claim that is answered is six bytes
 abbrev pub Whole : List ℕ → Reply → Type 0
 Whole claim r = (a : Answer) → r ≡ Answered a → length claim ≡ 6
+
+-- the reply, and the steps at the front of the lent bytes
+pub record Shown (book claim : List ℕ) (r : Chain) (c′ : List ℕ) : Type 0 where
+  pub room : length c′ ≡ 164000
+  pub reply-is : r .reply ≡ said book claim
+  pub few : r .steps ≤ 16400
+  pub behind : Behind book claim (take (10 * r .steps) c′)
 
 pub record OfBook (source book claim page page′ : List ℕ) (r : Written) : Type 0 where
   pub chain : List ℕ

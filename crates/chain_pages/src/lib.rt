@@ -6,9 +6,3 @@ pub use why::write_why;
 pub mod contradicted;
 pub mod verdict;
 pub mod why;
-
-// 8,193 records.
-pub const BOOK_BYTES: usize = 49158;
-
-// 16,400 steps.
-pub const CHAIN_BYTES: usize = 164000;

@@ -4,11 +4,11 @@ ghost use lib.ListN.{length};
 ghost use Rattle.pages.specs.Put.{Put};
 ghost use Rattle.chain_text.specs.ChainText.{Bytes};
 ghost use Rattle.chain_pages.specs.WhyText.{whyText};
-ghost use Rattle.chain_pages.specs.Why.{Whole, OfBook, OfSource, Why};
+ghost use Rattle.chain_pages.specs.Why.{Whole, Shown, OfBook, OfSource, Why};
 ghost use Rattle.chain_format.specs.Sizes.{CHAIN-BYTES};
 ghost use Rattle.chain_pages.specs.Rooms.{WHY-ROOM};
+use chain_writing::Chain;
 use chain_writing::Reply;
-use matrices::Matrix;
 use pages::Written;
 use records::Record;
 use sentences::sources::Source;
@@ -37,20 +37,22 @@ fn put_why(page: &mut [u8], source: &[u8], claim: &[u8], reply: Reply, c: &[u8])
     }
 }
 
+// The writer's call, which works in these matrices.
+fn write_chain(book: &[u8], claim: &[u8], steps: &mut [u8; chain_format::CHAIN_BYTES]) -> Chain
+    ensures { λ r. ⌜ Shown (now (book .entry)) (now (claim .entry)) r (now (steps .exit)) ⌝ }
+{
+    let mut e = [0u64; matrices::WORDS];
+    let mut d = [0u64; matrices::WORDS];
+    let mut t = [0u64; matrices::WORDS];
+    chain_writing::write_chain(book, claim, steps, &mut e, &mut d, &mut t)
+}
+
 // The page of the answer to the one claim about the book, and of a chain behind it. The book was read from the source.
-fn why_book(
-    page: &mut [u8],
-    source: &[u8],
-    book: &[u8],
-    claim: &[u8],
-    e: &mut Matrix,
-    d: &mut Matrix,
-    t: &mut Matrix,
-) -> Written
+fn why_book(page: &mut [u8], source: &[u8], book: &[u8], claim: &[u8]) -> Written
     ensures { λ r. ⌜ OfBook (now (source .entry)) (now (book .entry)) (now (claim .entry)) (now (page .entry)) (now (page .exit)) r ⌝ }
 {
-    let mut c = [0u8; crate::CHAIN_BYTES];
-    let written = chain_writing::write_chain(book, claim, &mut c, e, d, t);
+    let mut c = [0u8; chain_format::CHAIN_BYTES];
+    let written = write_chain(book, claim, &mut c);
     let reply = written.reply;
     let n = chain_format::STEP_BYTES * written.steps;
     let end = put_why(page, source, claim, reply, &c[..n]);
@@ -58,41 +60,27 @@ fn why_book(
 }
 
 // The same for the book of a source.
-fn why_source(
-    page: &mut [u8],
-    source: &[u8],
-    claim: Record,
-    e: &mut Matrix,
-    d: &mut Matrix,
-    t: &mut Matrix,
-) -> Written
+fn why_source(page: &mut [u8], source: &[u8], claim: Record) -> Written
     ensures { λ r. ⌜ OfSource (now (source .entry)) claim (now (page .entry)) (now (page .exit)) r ⌝ }
 {
-    let mut book = [0u8; crate::BOOK_BYTES];
+    let mut book = [0u8; text::BOOK_ROOM];
     let read = sentences::sources::read_source(Form::Records, source, &mut book);
     match read {
         Source::Unread(l, reason) => sentences::write_unread(page, sentences::BOOK, l, reason),
         Source::Bytes(n) => {
             let six = sentences::sources::six_bytes(claim);
-            why_book(page, source, &book[..n], &six, e, d, t)
+            why_book(page, source, &book[..n], &six)
         }
     }
 }
 
 // The page of the claim that the words say, about the book of a source: its answer, and a chain behind it.
-pub fn write_why(
-    source: &[u8],
-    words: &[u8],
-    page: &mut [u8],
-    e: &mut Matrix,
-    d: &mut Matrix,
-    t: &mut Matrix,
-) -> Written
+pub fn write_why(source: &[u8], words: &[u8], page: &mut [u8]) -> Written
     ensures { λ r. ⌜ Why (now (source .entry)) (now (words .entry)) (now (page .entry)) (now (page .exit)) r ⌝ }
 {
     let said = sentences::sources::read_words(Form::Claims, words);
     match said {
         Words::Wrong(reason) => sentences::write_unread(page, sentences::CLAIM_WORDS, 0, reason),
-        Words::Entry(claim) => why_source(page, source, claim, e, d, t),
+        Words::Entry(claim) => why_source(page, source, claim),
     }
 }

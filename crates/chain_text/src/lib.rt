@@ -6,18 +6,15 @@ ghost use lib.ListN.{length};
 ghost use Rattle.records.specs.Record.{recordAt};
 ghost use Rattle.records.specs.Facts.{saying};
 ghost use Rattle.records.specs.Pieces.{stated};
+ghost use Rattle.chain_check.specs.Call.{passes};
 ghost use Rattle.chain_text.specs.Verified.{tells, Judged, Verifies};
 ghost use Rattle.chain_format.specs.Sizes.{CHAIN-BYTES, STEP-BYTES};
 ghost use Rattle.records.specs.Sizes.{RECORD-BYTES};
-use matrices::Matrix;
 use verdicts::Answer;
 
 pub mod comparing;
 pub mod lines;
 pub mod reading;
-
-// 16,400 steps.
-const CHAIN_BYTES: usize = 164000;
 
 // Whether the last step shows the claim, or its opposite, as the answer says. The kinds of opposite facts add up to 5.
 fn last_tells(claim: &[u8], answer: Answer, c: &[u8]) -> bool
@@ -33,25 +30,23 @@ fn last_tells(claim: &[u8], answer: Answer, c: &[u8]) -> bool
     }
 }
 
+// The check of R-2, which works in these matrices.
+fn check_chain(book: &[u8], claim: &[u8], steps: &[u8]) -> bool
+    ensures { λ r. ⌜ r ≡ passes (now (book .entry)) (now (claim .entry)) (now (steps .entry)) ⌝ }
+{
+    let mut e = [0u64; matrices::WORDS];
+    let mut d = [0u64; matrices::WORDS];
+    let mut t = [0u64; matrices::WORDS];
+    chain_check::check_chain(book, claim, steps, &mut e, &mut d, &mut t)
+}
+
 // Whether the page is that of the claim, the answer and the steps, and these pass.
-fn is_page_of(
-    book: &[u8],
-    page: &[u8],
-    claim: &[u8],
-    answer: Answer,
-    c: &[u8],
-    e: &mut Matrix,
-    d: &mut Matrix,
-    t: &mut Matrix,
-    u: &mut Matrix,
-    p: &mut Matrix,
-    q: &mut Matrix,
-) -> bool
+fn is_page_of(book: &[u8], page: &[u8], claim: &[u8], answer: Answer, c: &[u8]) -> bool
     requires { ⌜ (length (now claim) ≡ RECORD-BYTES) × (length (now c) ≤ CHAIN-BYTES) ⌝ }
     ensures { λ r. ⌜ Judged (now (book .entry)) (now (page .entry)) (now (claim .entry)) answer (now (c .entry)) r ⌝ }
 {
     if comparing::is_text(page, claim, answer, c) {
-        if chain_check::check_chain(book, claim, c, e, d, t, u, p, q) {
+        if check_chain(book, claim, c) {
             return last_tells(claim, answer, c);
         }
         return false;
@@ -60,23 +55,14 @@ fn is_page_of(
 }
 
 // Whether a page that `why` may have printed about the book passes the check of R-2.
-pub fn verify(
-    book: &[u8],
-    page: &[u8],
-    e: &mut Matrix,
-    d: &mut Matrix,
-    t: &mut Matrix,
-    u: &mut Matrix,
-    p: &mut Matrix,
-    q: &mut Matrix,
-) -> bool
+pub fn verify(book: &[u8], page: &[u8]) -> bool
     ensures { λ r. ⌜ Verifies (now (book .entry)) (now (page .entry)) r ⌝ }
 {
     let head = reading::read_head(page);
     let claim = sentences::sources::six_bytes(head.claim);
     let answer = head.answer;
-    let mut c = [0u8; CHAIN_BYTES];
+    let mut c = [0u8; chain_format::CHAIN_BYTES];
     let n = reading::read_steps(page, head.next, &mut c);
     let end = chain_format::STEP_BYTES * n;
-    is_page_of(book, page, &claim, answer, &c[..end], e, d, t, u, p, q)
+    is_page_of(book, page, &claim, answer, &c[..end])
 }

@@ -13,10 +13,10 @@ use Rattle.records.specs.declared.Record.{Record}
 use Rattle.records.specs.Record.{records}
 use Rattle.records.specs.declared.Refusal.{Refusal}
 use Rattle.records.specs.declared.Refusal.the-variants.{ShortBuffer, BookLength, TooManyRecords, Contradiction, NotStanding}
-use Rattle.outcomes.specs.Fresh.{freshCall}
+use Rattle.outcomes.specs.Fresh.{freshCall, uncounted}
 use Rattle.outcomes.specs.One.{refuseIf}
-use Rattle.outcomes.specs.declared.Outcome.{Outcome}
 use Rattle.outcomes.specs.declared.Outcome.the-variants as on
+use Rattle.answers.proofs.Fresh.{counts-refused, counts-accepted}
 use Rattle.convert.specs.Converted.{converted}
 use Rattle.convert.specs.Conversion.{byRuns, byBook, conversion, left, Determined}
 use Rattle.rules.specs.Fact.{unmarked}
@@ -42,16 +42,16 @@ use Rattle.sentences.specs.Arguments.{wordsOf}
 use Rattle.sentences.specs.declared.sources.Words.{Words}
 use Rattle.sentences.specs.declared.sources.Words.the-variants.{Entry, Wrong}
 use Rattle.change_pages.specs.Change.{New, Kept}
-use Rattle.change_pages.specs.Changes.{judged, packing, converting, ofRecords, adding, without, withdrawn, withdrawing}
+use Rattle.change_pages.specs.Changes.{judged, packing, byConversion, converting, without, withdrawn}
 
 -- ---- by the outcome
 
-module _ (source run : List ℕ) (o : Outcome) (is : o ≡ freshCall run []) where
-  pub judged-refused : (r : Refusal) (i : ℕ) → o ≡ on.Refused r i → Kept (refused r i source []) ≡ judged source run (freshCall run [])
-  judged-refused r i so = rw (sym is ∙ so)
+module _ (source run : List ℕ) (b : BookCheck) (is : b ≡ uncounted (freshCall run [])) where
+  pub judged-refused : (r : Refusal) (i : ℕ) → b ≡ book.Refused r i → Kept (refused r i source []) ≡ judged source run (freshCall run [])
+  judged-refused r i so = rw (counts-refused (freshCall run []) (sym is ∙ so))
 
-  pub judged-accepted : (n nodes shadows : ℕ) → o ≡ on.Accepted n nodes shadows → New run ≡ judged source run (freshCall run [])
-  judged-accepted n nodes shadows so = rw (sym is ∙ so)
+  pub judged-accepted : (n : ℕ) → b ≡ book.Accepted n → New run ≡ judged source run (freshCall run [])
+  judged-accepted n so = rw (counts-accepted (freshCall run []) (sym is ∙ so) .2)
 
 -- ---- the size of a conversion
 
@@ -92,77 +92,33 @@ module _ (source : List ℕ) where
   unfolding converting
   convert-unread l number b = rw (b .numbered, b .is)
 
-  module _ (book : List ℕ) (e : readEither Records source ≡ Entries book) (out out′ : List ℕ) (room : length out ≡ 49164) (c : Conversion)
-      (d : Determined book out c out′) where
-    comes : c ≡ conversion book 49164
-    comes = d .0 ∙ ap (conversion book) room
-
-    pub convert-refused : (r : Refusal) (i : ℕ) → c ≡ to.Refused r i → Kept (refused r i source []) ≡ converting source
+  module _ (book : List ℕ) where
+    pub convert-read : readEither Records source ≡ Entries book → byConversion source book (conversion book 49164) ≡ converting source
     unfolding converting
-    convert-refused r i so = rw (e, sym comes ∙ so)
+    convert-read e = rw e
 
-    written : (k : ℕ) → c ≡ to.Written k → k ≡ length (converted book)
-    written k so = size-is book 49164 k (sym comes ∙ so)
+    module _ (out out′ : List ℕ) (room : length out ≡ 49164) (c : Conversion) (d : Determined book out c out′) where
+      comes : c ≡ conversion book 49164
+      comes = d .0 ∙ ap (conversion book) room
 
-    pub written-fits : (k : ℕ) → c ≡ to.Written k → k ≤ length out′
-    unfolding left front
-    written-fits k so = rw (d .1, so) (simp length-append (omega (arith, written k so)))
+      pub convert-refused : (r : Refusal) (i : ℕ) → c ≡ to.Refused r i → Kept (refused r i source []) ≡ byConversion source book (conversion book 49164)
+      convert-refused r i so = rw (sym comes ∙ so)
 
-    pub convert-written : (k : ℕ) → c ≡ to.Written k → New (take k out′) ≡ converting source
-    unfolding converting left
-    convert-written k so =
-        let whole : take k out′ ≡ converted book =
-        ap (λ m. take m out′) (written k so) ∙ ap (take (length (converted book))) (d .1 ∙ ap (left book out) so) ∙ front-taken (converted book) out in
-        ap New whole ∙ rw (e, sym comes ∙ so)
+      written : (k : ℕ) → c ≡ to.Written k → k ≡ length (converted book)
+      written k so = size-is book 49164 k (sym comes ∙ so)
 
--- ---- `add` and `withdraw`
+      pub written-fits : (k : ℕ) → c ≡ to.Written k → k ≤ length out′
+      unfolding left front
+      written-fits k so = rw (d .1, so) (simp length-append (omega (arith, written k so)))
 
--- so many bytes of records are taken
-taken : (source : List ℕ) (n : ℕ) → n ≡ min (length source) 49158 → take n source ≡ take 49158 source
-taken source n i =
-    elim (decLt (length source) 49158) [
-      | yes l ↦ take-all n source (omega (arith, i)) ∙ sym (take-all 49158 source (omega arith))
-      | no l ↦ (let j : n ≡ 49158 = omega (arith, i) in ap (λ (k : ℕ). take k source) j)
-    ]
+      pub convert-written : (k : ℕ) → c ≡ to.Written k → New (take k out′) ≡ byConversion source book (conversion book 49164)
+      unfolding left
+      convert-written k so =
+          let whole : take k out′ ≡ converted book =
+          ap (λ m. take m out′) (written k so) ∙ ap (take (length (converted book))) (d .1 ∙ ap (left book out) so) ∙ front-taken (converted book) out in
+          ap New whole ∙ rw (sym comes ∙ so)
 
-pub taken-fits : (source : List ℕ) (n : ℕ) → n ≡ min (length source) 49158 → n ≤ length source
-taken-fits source n i = omega (arith, i)
-
-pub taken-short : (source : List ℕ) (n : ℕ) → n ≡ min (length source) 49158 → length (take n source) ≤ 49158
-taken-short source n i = omega (arith, i, length-take-le n source (omega (arith, i)))
-
-module _ (source words : List ℕ) (w : Words) where
-  module _ (is : w ≡ wordsOf Records words) where
-    pub add-wrong : (reason : ℕ) → w ≡ Wrong reason → Kept (unreadLine 4 0 reason) ≡ adding source words
-    unfolding adding
-    add-wrong reason so = rw (sym is ∙ so)
-
-    module _ (r : Record) (so : w ≡ Entry r) where
-      pub add-text : isText source ≡ true → Kept (unreadLine 0 0 6) ≡ adding source words
-      unfolding adding ofRecords
-      add-text t = rw (sym is ∙ so, t)
-
-      pub added : isText source ≡ false → (n : ℕ) → n ≡ min (length source) 49158 → (six : List ℕ) → six ≡ sixBytes r
-          → judged source (take n source ++ six) (freshCall (take n source ++ six) []) ≡ adding source words
-      unfolding adding ofRecords
-      added t n i six e = rw (taken source n i, e, sym is ∙ so, t)
-
-  module _ (is : w ≡ wordsOf Log words) where
-    pub withdraw-wrong : (reason : ℕ) → w ≡ Wrong reason → Kept (unreadLine 4 0 reason) ≡ withdrawing source words
-    unfolding withdrawing
-    withdraw-wrong reason so = rw (sym is ∙ so)
-
-    module _ (r : Record) (so : w ≡ Entry r) where
-      pub withdraw-text : isText source ≡ true → Kept (unreadLine 0 0 6) ≡ withdrawing source words
-      unfolding withdrawing ofRecords
-      withdraw-text t = rw (sym is ∙ so, t)
-
-      pub withdrawn-is : isText source ≡ false → (n : ℕ) → n ≡ min (length source) 49158
-          → judged source (without (take n source) (r .a)) (withdrawn (take n source) (r .a)) ≡ withdrawing source words
-      unfolding withdrawing ofRecords
-      withdrawn-is t n i = rw (taken source n i, sym is ∙ so, t)
-
--- ---- the bytes of both
+-- ---- the bytes of `add` and `withdraw`
 
 pub added-run : (book six out : List ℕ) (n : ℕ) → length six ≡ 6 → n ≡ length book + 6 → take n (padded 0 (length out) (book ++ six)) ≡ book ++ six
 added-run book six out n s e = padded-front (length out) n (book ++ six) (omega (arith, length-append book six))

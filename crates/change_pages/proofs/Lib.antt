@@ -1,3 +1,4 @@
 pub mod News
 pub mod Mades
 pub mod Books
+pub mod Orders

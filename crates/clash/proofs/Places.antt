@@ -44,9 +44,8 @@ use Rattle.outcomes.specs.Lent.{lent}
 use Rattle.outcomes.specs.Fresh.{freshCall}
 use Rattle.outcomes.specs.declared.Outcome.the-variants as call
 use Rattle.outcomes.proofs.Outcomes.{Told, told}
-use Rattle.answers.proofs.Fresh.{fresh-is, roomy-long}
+use Rattle.answers.proofs.Fresh.{fresh-is, fresh-runs, roomy-long}
 use Rattle.answers.proofs.Judges.{refuses}
-use Rattle.chain_check.proofs.Asking.{fresh-runs}
 use Rattle.derivations.specs.Found.{Ground}
 use Rattle.clash.specs.Clash.{factAt, unrestricted}
 use Rattle.clash.specs.Silenced.{silenced, Clashes}

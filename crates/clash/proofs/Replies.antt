@@ -35,8 +35,8 @@ use Rattle.claims.proofs.Counts.{own-count}
 use Rattle.outcomes.specs.Call.{byBook}
 use Rattle.outcomes.specs.Fresh.{freshCall}
 use Rattle.outcomes.proofs.Outcomes.{book-other}
+use Rattle.answers.proofs.Fresh.{fresh-runs}
 use Rattle.answers.proofs.Judges.{accepts}
-use Rattle.chain_check.proofs.Asking.{fresh-runs}
 use Rattle.outcomes.specs.One.{refuseIf}
 use Rattle.outcomes.specs.declared.Outcome.the-variants as call
 use Rattle.chain_format.specs.declared.steps.Step.{Step}

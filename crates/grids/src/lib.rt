@@ -186,18 +186,10 @@ fn grids_of(book: &[u8], n: usize) -> Grids
 }
 
 // The grids of a book: rows 3 to 14, then 16.
-pub fn grid(
-    book: &[u8],
-    e: &mut Matrix,
-    d: &mut Matrix,
-    t: &mut Matrix,
-    u: &mut Matrix,
-    p: &mut Matrix,
-    q: &mut Matrix,
-) -> GridAnswer
+pub fn grid(book: &[u8], e: &mut Matrix, d: &mut Matrix, t: &mut Matrix) -> GridAnswer
     ensures { λ r. ⌜ Gridded (now (book .entry)) (r .outcome) (r .grids) ⌝ }
 {
-    let outcome = answers::judge_run(book, e, d, t, u, p, q);
+    let outcome = answers::judge_run(book, e, d, t);
     match outcome {
         Outcome::Refused(refusal, place) => refuse(refusal, place),
         Outcome::Accepted(n, nodes, shadows) => {

@@ -3,7 +3,7 @@ use Prim.Native.Nat.{ℕ}
 use mathlib.Core.Bool.{Bool, _||_}
 use mathlib.Core.List.{List}
 use lib.Dec.{ltb}
-use lib.ListN.{length}
+use lib.ListN.{length, replicate}
 use Rattle.records.specs.Record.{records}
 
 -- what the buffers hold: the four parts of the index, and the answers
@@ -16,6 +16,10 @@ pub record Lent : Type 0 where
 
 abbrev pub lent : List ℕ → List ℕ → List ℕ → List ℕ → List ℕ → Lent
 lent parens marks shadows places answers = record { parens = parens; marks = marks; shadows = shadows; places = places; answers = answers }
+
+-- answers beside an index of zeros that nobody asks for
+abbrev pub unasked : List ℕ → Lent
+unasked answers = lent (replicate 2560 0) (replicate 1280 0) (replicate 8192 0) (replicate 2048 0) answers
 
 -- row 1: an index part shorter than its length, or the answers shorter than claim bytes / 6, rounded down
 unfoldable pub shortLent : List ℕ → Lent → Bool

@@ -28,23 +28,7 @@ fn main() {
     let mut claims = [0u8; report::CLAIMS_READ];
     let asked = io::read_full(STDIN_FILENO, &mut claims);
     let mut page = [0u8; report::PAGE_BYTES];
-    let mut e = [0u64; matrices::WORDS];
-    let mut d = [0u64; matrices::WORDS];
-    let mut t = [0u64; matrices::WORDS];
-    let mut u = [0u64; matrices::WORDS];
-    let mut p = [0u64; matrices::WORDS];
-    let mut q = [0u64; matrices::WORDS];
-    let Written::Text(end) = report::ask(
-        &book[..taken],
-        &claims[..asked],
-        &mut page,
-        &mut e,
-        &mut d,
-        &mut t,
-        &mut u,
-        &mut p,
-        &mut q,
-    ) else {
+    let Written::Text(end) = report::ask(&book[..taken], &claims[..asked], &mut page) else {
         return;
     };
     if io::write_all(STDOUT_FILENO, &page[..end]) {

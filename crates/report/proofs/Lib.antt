@@ -1,6 +1,5 @@
 pub mod Claims
 pub mod Rooms
-pub mod Sessions
 pub mod Examples
 pub mod Pages
 pub mod SessionPage

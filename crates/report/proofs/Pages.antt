@@ -1,15 +1,22 @@
 -- A call's outcome and answers make the page. Assumes nothing.
-use Prim.Native.Nat.{ℕ}
-use mathlib.Core.Path.{_≡_, ap, sym}
-use mathlib.Core.List.{List}
-use lib.ListN.{replicate}
+use Prim.Native.Nat.{ℕ, zero, suc, _≤_, _<_, _^_}
+use mathlib.Core.Path.{_≡_, refl, ap, sym}
+use mathlib.Core.List.{List, _++_}
+use native.Mathlib.Omega.{arith}
+use lib.ListN.{length, getD, replicate}
+use Rattle.records.specs.Record.{records}
 use Rattle.records.specs.Refusal.{refusalNumber}
 use Rattle.records.specs.declared.Refusal.{Refusal}
+use Rattle.records.proofs.Rows.{refused-positive}
 use Rattle.outcomes.specs.Lent.{Lent, lent}
 use Rattle.outcomes.specs.Call.{Determined}
 use Rattle.outcomes.specs.declared.Outcome.{Outcome}
 use Rattle.outcomes.specs.declared.Outcome.the-variants.{Accepted, Refused}
-use Rattle.report.specs.Session.{session}
+use Rattle.pages.specs.Put.{Put}
+use Rattle.pages.specs.Printed.{Printed}
+use Rattle.pages.proofs.Writing.{with-room, printed-as}
+use Rattle.report.proofs.Rooms.{refusal-width, page-width}
+use Rattle.report.specs.Session.{claimLines, countsLine, refusalLine, session}
 use Rattle.report.specs.Page.{zeros, pageOf, printed}
 use Rattle.report.specs.Answered.{Answered}
 
@@ -20,13 +27,27 @@ determined book claims answers o l is d =
     let d′ : Determined book claims zeros o l = rw is at d in
     record { comes = d′ .0; leaves = ap (λ x. x .answers) (d′ .1) }
 
+refusal-page : (i : ℕ) (claims answers : List ℕ) (n : ℕ) → (n ≡ 0 → ⊥) → refusalLine n i ≡ session n i 0 0 0 claims answers
+unfolding session
+refusal-page i claims answers zero h = absurd (h refl)
+refusal-page i claims answers (suc n) h = refl
+
 module _ (book claims answers : List ℕ) (o : Outcome) (d : Answered book claims answers o) where
   told : pageOf claims o answers ≡ printed book claims
   unfolding printed
   told = rw (sym (d .comes), sym (d .leaves))
 
-  pub accepted : (pieces nodes shadows : ℕ) → o ≡ Accepted pieces nodes shadows → session 0 0 pieces nodes shadows claims answers ≡ printed book claims
-  accepted pieces nodes shadows is = rw (sym told, is)
+  module _ {p q : List ℕ} {e : ℕ} (long : 135285 ≤ length p) where
+    pub refused : (r : Refusal) (n i : ℕ) → o ≡ Refused r i → n ≡ refusalNumber r → n < 2 ^ 64 → i < 2 ^ 64
+        → Put p 0 (refusalLine n i) q e → Printed p (printed book claims) q e
+    refused r n i is number hn hi a =
+        let same : refusalLine n i ≡ printed book claims = rw (sym told, is, number) (refusal-page i claims answers (refusalNumber r) (refused-positive r)) in
+        printed-as same (with-room a (omega (arith, refusal-width n i hn hi)))
 
-  pub refused : (r : Refusal) (n i : ℕ) → o ≡ Refused r i → n ≡ refusalNumber r → session n i 0 0 0 claims answers ≡ printed book claims
-  refused r n i is number = rw (sym told, is, number)
+    pub accepted : (pieces nodes shadows : ℕ) → o ≡ Accepted pieces nodes shadows → pieces < 2 ^ 64 → nodes < 2 ^ 64 → shadows < 2 ^ 64
+        → ((j : ℕ) → getD claims j 0 < 256) → length claims ≤ 24582
+        → Put p 0 (countsLine pieces nodes shadows ++ claimLines claims answers (records claims)) q e → Printed p (printed book claims) q e
+    unfolding session
+    accepted pieces nodes shadows is hp hn hs bytes few a =
+        let same : countsLine pieces nodes shadows ++ claimLines claims answers (records claims) ≡ printed book claims = rw (sym told, is) in
+        printed-as same (with-room a (omega (arith, page-width claims answers bytes pieces nodes shadows hp hn hs (omega arith))))

@@ -12,7 +12,6 @@ ghost use Rattle.report.specs.Answered.{Answered};
 ghost use Rattle.report.specs.Asked.{Asked};
 ghost use Rattle.report.specs.Rooms.{ANSWERS-MOST, ANSWERS-ROOM};
 ghost use Rattle.text.specs.Rooms.{CLAIMS-ROOM};
-use matrices::Matrix;
 use outcomes::Outcome;
 use pages::Written;
 use records::Record;
@@ -82,39 +81,8 @@ pub fn put_claims(page: &mut [u8], at: usize, claims: &[u8], answers: &[u8]) -> 
     end
 }
 
-// The page of an outcome, whose number is 0 where the book was accepted. Answers how many bytes are text.
-fn put_session(
-    page: &mut [u8],
-    number: usize,
-    place: usize,
-    pieces: usize,
-    nodes: usize,
-    shadows: usize,
-    claims: &[u8],
-    answers: &[u8],
-) -> usize
-    requires { ⌜ (records (now claims) ≤ 10000) × (bytesFor (records (now claims)) ≤ length (now page)) ⌝ }
-    ensures { λ r. ⌜ Printed (now (page .entry)) (session number place pieces nodes shadows (now (claims .entry)) (now (answers .entry))) (now (page .exit)) r ⌝ }
-{
-    if number != 0 {
-        return put_refusal(page, 0, number, place);
-    }
-    let at = put_counts(page, 0, pieces, nodes, shadows);
-    put_claims(page, at, claims, answers)
-}
-
 // Answers the claims, with an index that nobody asks for.
-pub fn answer(
-    book: &[u8],
-    claims: &[u8],
-    answers: &mut [u8],
-    e: &mut Matrix,
-    d: &mut Matrix,
-    t: &mut Matrix,
-    u: &mut Matrix,
-    p: &mut Matrix,
-    q: &mut Matrix,
-) -> Outcome
+pub fn answer(book: &[u8], claims: &[u8], answers: &mut [u8]) -> Outcome
     requires { ⌜ now answers ≡ replicate ANSWERS-MOST 0 ⌝ }
     ensures { λ r. ⌜ Answered (now (book .entry)) (now (claims .entry)) (now (answers .exit)) r ⌝ }
 {
@@ -122,6 +90,12 @@ pub fn answer(
     let mut marks = [0u8; index::MARKS_BYTES];
     let mut shadows = [0u16; index::SHADOWS];
     let mut places = [0u16; index::PLACES];
+    let mut e = [0u64; matrices::WORDS];
+    let mut d = [0u64; matrices::WORDS];
+    let mut t = [0u64; matrices::WORDS];
+    let mut u = [0u64; matrices::WORDS];
+    let mut p = [0u64; matrices::WORDS];
+    let mut q = [0u64; matrices::WORDS];
     answers::answer_claims(
         book,
         claims,
@@ -130,68 +104,36 @@ pub fn answer(
         &mut shadows,
         &mut places,
         answers,
-        e,
-        d,
-        t,
-        u,
-        p,
-        q,
+        &mut e,
+        &mut d,
+        &mut t,
+        &mut u,
+        &mut p,
+        &mut q,
     )
 }
 
 // Answers the claims and writes the page: how much of it is text.
-fn write_session(
-    book: &[u8],
-    claims: &[u8],
-    page: &mut [u8],
-    e: &mut Matrix,
-    d: &mut Matrix,
-    t: &mut Matrix,
-    u: &mut Matrix,
-    p: &mut Matrix,
-    q: &mut Matrix,
-) -> usize
+fn write_session(book: &[u8], claims: &[u8], page: &mut [u8]) -> usize
     requires { ⌜ (length (now claims) ≤ CLAIMS-ROOM) × (ANSWERS-ROOM ≤ length (now page)) ⌝ }
     ensures { λ r. ⌜ Printed (now (page .entry)) (printed (now (book .entry)) (now (claims .entry))) (now (page .exit)) r ⌝ }
 {
     let mut answers = [0u8; records::CLAIMS + 1];
-    let outcome = answer(book, claims, &mut answers, e, d, t, u, p, q);
+    let outcome = answer(book, claims, &mut answers);
     match outcome {
-        Outcome::Refused(refusal, place) => put_session(
-            page,
-            records::refusal_number(refusal) as usize,
-            place,
-            0,
-            0,
-            0,
-            claims,
-            &answers,
-        ),
-        Outcome::Accepted(pieces, nodes, shadowed) => put_session(
-            page,
-            0,
-            0,
-            pieces,
-            nodes,
-            shadowed,
-            claims,
-            &answers,
-        ),
+        Outcome::Refused(refusal, place) => {
+            let number = records::refusal_number(refusal);
+            put_refusal(page, 0, number as usize, place)
+        }
+        Outcome::Accepted(pieces, nodes, shadowed) => {
+            let at = put_counts(page, 0, pieces, nodes, shadowed);
+            put_claims(page, at, claims, &answers)
+        }
     }
 }
 
 // Answers the claims about the book and writes the session on the page.
-pub fn ask(
-    book: &[u8],
-    claims: &[u8],
-    page: &mut [u8],
-    e: &mut Matrix,
-    d: &mut Matrix,
-    t: &mut Matrix,
-    u: &mut Matrix,
-    p: &mut Matrix,
-    q: &mut Matrix,
-) -> Written
+pub fn ask(book: &[u8], claims: &[u8], page: &mut [u8]) -> Written
     ensures { λ r. ⌜ Asked (now (book .entry)) (now (claims .entry)) (now (page .entry)) (now (page .exit)) r ⌝ }
 {
     if CLAIMS_READ < claims.len() {
@@ -200,6 +142,6 @@ pub fn ask(
     if page.len() < PAGE_BYTES {
         return Written::NoRoom;
     }
-    let end = write_session(book, claims, page, e, d, t, u, p, q);
+    let end = write_session(book, claims, page);
     Written::Text(end)
 }

@@ -22,7 +22,7 @@ use Rattle.outcomes.specs.declared.Outcome.the-variants.{Accepted, Refused}
 use Rattle.working.specs.declared.keeping.Working.{Working}
 use Rattle.working.specs.declared.keeping.Settled.{Settled}
 use Rattle.outcomes.specs.Fresh.{freshCall}
-use Rattle.working.specs.Standing.{standing, extended, without}
+use Rattle.working.specs.Standing.{standing, extended, without, Stands}
 use Rattle.outcomes.specs.One.{refuseIf, byOne}
 use Rattle.working.specs.Rows.{byArea, askOutcome, answerOf, startOutcome, addOutcome, withdrawOutcome}
 use Rattle.working.specs.Kept.{keptState, keptArea, image, Determined, Extended}
@@ -82,10 +82,12 @@ module _ (w : Working) (area run : List ℕ) where
   passed due e r area′ D = subst (λ (x : Outcome). Determined w area run x (r .outcome) (r .working) area′) (sym e) D
 
   -- the run was judged and is kept
-  pub judged : (k : ℕ) → records run ≡ k → (s : List ℕ) → s ≡ run → (o : Outcome) → o ≡ freshCall s [] → (r : Settled) (area′ : List ℕ) → (r .outcome ≡ o) × ((r .working ≡ keptState w k o) × (area′ ≡ keptArea area (image s) o)) → Extended w area run r area′
-  judged k count s e o q r area′ (a, (b, c)) =
-      let due : o ≡ freshCall run [] = q ∙ ap (λ (x : List ℕ). freshCall x []) e in
-      (a ∙ due, (b ∙ ap₂ (keptState w) (sym count) due, c ∙ ap₂ (λ (x : List ℕ) (y : Outcome). keptArea area (image x) y) e due))
+  pub judged : (o : Outcome) → o ≡ freshCall run [] → (r : Settled) (area′ : List ℕ) → (r .outcome ≡ o) × ((r .working ≡ keptState w (records run) o) × (area′ ≡ keptArea area (image run) o)) → Extended w area run r area′
+  judged o q r area′ (a, (b, c)) = (a ∙ q, (b ∙ ap (keptState w (records run)) q, c ∙ ap (keptArea area (image run)) q))
+
+  -- from where it was written
+  pub kept-as : {held : List ℕ} {end : ℕ} → Stands run held end → (r : Settled) (area′ : List ℕ) → Extended w area (take end held) r area′ → Extended w area run r area′
+  kept-as S r area′ D = subst (λ (x : List ℕ). Extended w area x r area′) (S .is) D
 
 -- ---- the rows of an addition and of a withdrawal
 pub add-short : (area a : List ℕ) (k : ℕ) → length area < 49152 → addOutcome area k a ≡ Refused ShortBuffer 0

@@ -2,7 +2,7 @@
 -- Assumes nothing.
 use mathlib.Core.Path.{_≡_}
 use mathlib.Core.List.{List}
-use Prim.Native.Nat.{ℕ, _+_, _-_, _*_, _/_, _≤_, _<_}
+use Prim.Native.Nat.{ℕ, _+_, _-_, _*_, _≤_, _<_}
 use native.Mathlib.Omega.{arith}
 use lib.ListN.{length, take}
 use lib.Seq.{length-take-le}
@@ -14,9 +14,6 @@ fits-six k h = omega arith
 
 pub fits-next : (k : ℕ) → k < 8192 → Fits w64 (6 * k + 6)
 fits-next k h = omega arith
-
-pub fits-more : (k : ℕ) → k < 8192 → Fits w64 (k + 1)
-fits-more k h = omega arith
 
 pub at-most : (k : ℕ) → k < 8192 → k ≤ 8192
 at-most k h = omega arith
@@ -36,22 +33,9 @@ less-within k n h e = omega arith
 pub some-six : (i k : ℕ) → i < k → 6 ≤ 6 * k
 some-six i k h = omega arith
 
-pub some-one : (i k : ℕ) → i < k → 1 ≤ k
-some-one i k h = omega arith
-
 pub six-behind : (i k : ℕ) → i < k → 6 * i + 6 ≤ 6 * k
 six-behind i k h = omega arith
 
-pub one-more : (k : ℕ) → (6 * k + 6) / 6 ≡ k + 1
-one-more k = omega arith
-
-pub one-less : (k : ℕ) → (6 * k - 6) / 6 ≡ k - 1
-one-less k = omega arith
-
 -- room for the records of an area and one more
-pub room : (area addition : List ℕ) (k n : ℕ) → k < 8192 → 49152 ≤ length area → length addition ≡ 6 → n ≡ 6 * k + 6 → length (take (6 * k) area) + length addition ≤ n
+pub room : (area addition : List ℕ) (k n : ℕ) → k < 8192 → 49152 ≤ length area → length addition ≡ 6 → n ≡ 49152 → length (take (6 * k) area) + length addition ≤ n
 room area addition k n h l e f = omega (arith, length-take-le (6 * k) area (within k (length area) (at-most k h) l))
-
--- as much as a withdrawal reads, but for one record
-pub six-more : (k n : ℕ) → n ≡ 6 * k - 6 → 6 * k ≤ n + 6
-six-more k n e = omega arith

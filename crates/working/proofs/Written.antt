@@ -1,25 +1,20 @@
--- The front of an array of 49,152 bytes that was written: the first m are l, those behind are as they were. Assumes nothing.
-use mathlib.Core.Path.{_≡_, sym, _∙_}
-use mathlib.Core.List.{List, _++_}
+-- A run at the front of what holds a book. Assumes nothing.
+use mathlib.Core.Path.{_≡_, ap, _∙_}
+use mathlib.Core.List.{List}
 use Prim.Native.Nat.{ℕ, _≤_}
 use native.Mathlib.Omega.{arith}
-use lib.ListN.{length, take, drop, length-append}
-use lib.Seq.{length-take-le, take-at}
+use lib.ListN.{length, take}
+use lib.Seq.{length-take-le}
 use Rattle.parentheses.specs.Padded.{padded}
-use Rattle.working.proofs.RunsLaws.{padded-whole}
+use Rattle.parentheses.proofs.Paddeds.{padded-length}
+use Rattle.working.specs.Standing.{Stands}
+use Rattle.working.proofs.RunsLaws.{padded-front}
 
-module _ (l z : List ℕ) (m : ℕ) (wide : length z ≡ 49152) (fits : m ≤ 49152) (same : length l ≡ length (take m z)) where
-  taken : length (take m z) ≡ m
-  taken = length-take-le m z (omega arith)
+-- written with zeros behind it
+pub stands : (run held : List ℕ) (n end : ℕ) → held ≡ padded 0 n run → length run ≡ end → end ≤ 49152 → n ≡ 49152 → Stands run held end
+stands run held n end e l s w =
+    let long : length held ≡ n = ap length e ∙ padded-length 0 n run (omega arith) in
+    record { is = ap (take end) e ∙ padded-front n end run l; within = omega arith; short = s }
 
-  pub front-within : m ≤ length (l ++ drop m z)
-  front-within = omega (arith, taken, length-append l (drop m z))
-
-  pub front-length : length (take m (l ++ drop m z)) ≡ m
-  front-length = length-take-le m (l ++ drop m z) front-within
-
-  pub front-fits : length (take m (l ++ drop m z)) ≤ 49152
-  front-fits = omega (arith, front-length)
-
-  pub front-is : (r : List ℕ) → l ≡ padded 0 (length (take m z)) r → length r ≡ m → take m (l ++ drop m z) ≡ r
-  front-is r e k = take-at l (drop m z) m (same ∙ taken) ∙ e ∙ padded-whole (length (take m z)) r (k ∙ sym taken)
+pub stands-short : {run held : List ℕ} {end : ℕ} → Stands run held end → length (take end held) ≤ 49152
+stands-short {run} {held} {end} S = let e = length-take-le end held (S .within) in let s = S .short in omega arith

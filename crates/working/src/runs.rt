@@ -1,10 +1,11 @@
 // Runs of records that a working book writes: with an addition behind them, or without a record.
 ghost use mathlib.Core.Path.{_≡_};
 ghost use mathlib.Core.List.{_++_};
-ghost use Prim.Native.Nat.{_+_, _≤_};
+ghost use Prim.Native.Nat.{_+_, _≤_, _<_};
 ghost use lib.ListN.{length, take, drop};
 ghost use Rattle.parentheses.specs.Padded.{padded};
-ghost use Rattle.records.specs.Sizes.{RECORD-BYTES};
+ghost use Rattle.records.specs.Sizes.{BOOK-BYTES, RECORD-BYTES, RECORDS};
+ghost use Rattle.working.specs.Standing.{extended, without, Stands};
 
 // Writes two runs one behind the other, and zeros behind them.
 pub fn write_runs(first: &[u8], second: &[u8], out: &mut [u8])
@@ -25,4 +26,35 @@ pub fn write_without(area: &[u8], at: usize, end: usize, out: &mut [u8])
 {
     let next = at + records::RECORD_BYTES;
     write_runs(&area[..at], &area[next..end], out);
+}
+
+// Writes fewer than 8,192 standing records with an addition of 6 bytes behind them, and says where they end.
+pub fn extend(
+    area: &[u8],
+    records: usize,
+    addition: &[u8],
+    run: &mut [u8; records::BOOK_BYTES],
+) -> usize
+    requires { ⌜ (records < RECORDS) × ((BOOK-BYTES ≤ length (now area)) × (length (now addition) ≡ RECORD-BYTES)) ⌝ }
+    ensures { λ r. ⌜ Stands (extended (now (area .entry)) records (now (addition .entry))) (now (run .exit)) r ⌝ }
+{
+    let end = records::RECORD_BYTES * records;
+    write_runs(&area[..end], addition, run);
+    end + records::RECORD_BYTES
+}
+
+// Writes the standing records without one of them, and says where they end.
+pub fn remove(
+    area: &[u8],
+    records: usize,
+    number: usize,
+    run: &mut [u8; records::BOOK_BYTES],
+) -> usize
+    requires { ⌜ (number < records) × ((records ≤ RECORDS) × (BOOK-BYTES ≤ length (now area))) ⌝ }
+    ensures { λ r. ⌜ Stands (without (now (area .entry)) records number) (now (run .exit)) r ⌝ }
+{
+    let at = records::RECORD_BYTES * number;
+    let end = records::RECORD_BYTES * records;
+    write_without(area, at, end, run);
+    end - records::RECORD_BYTES
 }

@@ -7,7 +7,7 @@ use Rattle.chain_text.proofs.is_page_of.Statement.{statement}
 use Rattle.chain_text.proofs.is_page_of.Tie as tie
 
 is-text-requires : tie.Need-is-text-requires
-is-text-requires c κs = search needs
+is-text-requires c κs = c .before .before .before .before .pre
 
 check-chain-requires : tie.Need-check-chain-requires
 check-chain-requires c κs = search needs
@@ -16,10 +16,10 @@ last-tells-requires : tie.Need-last-tells-requires
 last-tells-requires c κs = ready _ _ _ (sym (c .before .check-chain .ensures) ∙ c .if2 .taken)
 
 returns : tie.Need-returns
-returns c = judged-last _ _ _ _ _ (λ j. c .before .before .before .before .before .before .before .before .before .before .before .before .shared-slice-known3 .given j .fits) (λ j. c .before .before .before .before .before .before .before .before .before .before .before .shared-slice-known4 .given j .fits) _ (c .before .before .before .before .before .before .before .before .before .before .is-text .ensures) (c .before .before .before .before .before .before .before .before .before .if1 .taken) _ (c .before .before .check-chain .ensures) (c .before .if2 .taken) _ (c .last-tells .ensures)
+returns c = judged-last _ _ _ _ _ (λ j. c .before .before .before .before .before .before .shared-slice-known3 .given j .fits) (λ j. c .before .before .before .before .before .shared-slice-known4 .given j .fits) _ (c .before .before .before .before .is-text .ensures) (c .before .before .before .if1 .taken) _ (c .before .before .check-chain .ensures) (c .before .if2 .taken) _ (c .last-tells .ensures)
 
 returns-2 : tie.Need-returns-2
-returns-2 c = judged-fails _ _ _ _ _ (λ j. c .before .before .before .before .before .before .before .before .before .before .before .shared-slice-known3 .given j .fits) (λ j. c .before .before .before .before .before .before .before .before .before .before .shared-slice-known4 .given j .fits) _ (c .before .before .before .before .before .before .before .before .before .is-text .ensures) (c .before .before .before .before .before .before .before .before .if1 .taken) _ (c .before .check-chain .ensures) (c .if2 .left)
+returns-2 c = judged-fails _ _ _ _ _ (λ j. c .before .before .before .before .before .shared-slice-known3 .given j .fits) (λ j. c .before .before .before .before .shared-slice-known4 .given j .fits) _ (c .before .before .before .is-text .ensures) (c .before .before .if1 .taken) _ (c .before .check-chain .ensures) (c .if2 .left)
 
 returns-3 : tie.Need-returns-3
 returns-3 c = judged-other _ _ _ _ _ (λ j. c .before .before .before .shared-slice-known3 .given j .fits) (λ j. c .before .before .shared-slice-known4 .given j .fits) _ (c .before .is-text .ensures) (c .if1 .left)

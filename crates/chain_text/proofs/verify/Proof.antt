@@ -1,7 +1,9 @@
 -- `chain_text::verify` meets its contract: what was read verifies, or nothing does. Assumes nothing.
 use native.Mathlib.Omega.{arith}
 use borrow.Author.Needs.{needs}
+use Prim.Native.Nat.{ℕ}
 use mathlib.Core.Path.{sym}
+use lib.ListN.{length-replicate}
 use lib.Seq.{length-take-le}
 use Rattle.chain_text.proofs.Inverse.{page-judged}
 use Rattle.chain_text.proofs.verify.Statement.{statement}
@@ -14,28 +16,28 @@ six-bytes-requires : tie.Need-six-bytes-requires
 six-bytes-requires c κs = search needs
 
 slice-aggregate-read-steps : tie.Need-slice-aggregate-read-steps
-slice-aggregate-read-steps c = search needs
+slice-aggregate-read-steps c = sym (length-replicate {A = ℕ} 164000 0)
 
 read-steps-requires : tie.Need-read-steps-requires
-read-steps-requires c κs = search needs
+read-steps-requires c κs = (c .before .before .read-head .ensures .inside, omega (arith, length-replicate {A = ℕ} 164000 0))
 
 mul-end : tie.Need-mul-end
-mul-end c = search needs
+mul-end c = omega (arith, c .before .read-steps .ensures .0)
 
 slice-aggregate-is-page-of : tie.Need-slice-aggregate-is-page-of
 slice-aggregate-is-page-of c = search needs
 
 array-share-prefix-c : tie.Need-array-share-prefix-c
-array-share-prefix-c c = search needs
+array-share-prefix-c c = omega (arith, c .before .before .read-steps .ensures .0, c .before .before .read-steps .kept, length-replicate {A = ℕ} 164000 0)
 
 slice-aggregate-is-page-of-2 : tie.Need-slice-aggregate-is-page-of-2
 slice-aggregate-is-page-of-2 c = sym (length-take-le _ _ (array-share-prefix-c (c .before)))
 
 is-page-of-requires : tie.Need-is-page-of-requires
-is-page-of-requires c κs = (sym (slice-aggregate-is-page-of (c .before .before .before .before .before .before .before)), omega (arith, slice-aggregate-is-page-of-2 (c .before .before .before .before .before .before), c .before .before .before .before .before .before .before .before .before .read-steps .ensures .0))
+is-page-of-requires c κs = (sym (slice-aggregate-is-page-of (c .before)), omega (arith, slice-aggregate-is-page-of-2 c, c .before .before .before .read-steps .ensures .0))
 
 returns : tie.Need-returns
-returns c = page-judged _ _ _ _ _ _ _ _ (c .before .before .before .before .before .before .before .before .before .before .before .before .before .read-head .ensures) (c .before .before .before .before .before .before .before .before .before .before .before .before .six-bytes .ensures) (c .before .before .before .before .before .before .before .before .before .before .read-steps .ensures .1) (c .is-page-of .ensures)
+returns c = page-judged _ _ _ _ _ _ _ _ (c .before .before .before .before .before .before .before .read-head .ensures) (c .before .before .before .before .before .before .six-bytes .ensures) (c .before .before .before .before .read-steps .ensures .1) (c .is-page-of .ensures)
 
 pub verify-spec : {M : Type 1} → statement M
 verify-spec =

@@ -1,15 +1,15 @@
 -- `change_pages::extend` meets its contract. Assumes nothing.
 use native.Mathlib.Omega.{arith}
 use borrow.Author.Needs.{needs}
-use mathlib.Core.Path.{sym, _∙_, ap, refl}
+use mathlib.Core.Path.{_∙_, ap, refl}
 use mathlib.Core.List.{[]}
 use lib.ListN.{take, length}
 use denote.Ref.{now}
+use Prim.Native.Nat.{_+_}
 use Rattle.outcomes.specs.Fresh.{freshCall}
 use Rattle.change_pages.specs.Changes.{judged}
 use Rattle.change_pages.proofs.Mades.{made-as}
 use Rattle.change_pages.proofs.Books.{added-run}
-use Prim.Native.Nat.{_+_}
 use Rattle.change_pages.proofs.extend.Statement.{statement}
 use Rattle.change_pages.proofs.extend.Tie as tie
 
@@ -23,13 +23,13 @@ write-runs-requires : tie.Need-write-runs-requires
 write-runs-requires c κs = omega (arith, c .before .before .before .before .before .pre)
 
 settle-requires : tie.Need-settle-requires
-settle-requires c κs = omega (arith, c .before .before .before .before .before .before .before .before .before .before .before .before .before .before .before .pre, c .before .before .before .before .before .before .before .before .before .write-runs .kept)
+settle-requires c κs = omega (arith, c .before .before .before .before .before .before .before .before .before .pre, c .before .before .before .write-runs .kept)
 
 same-length : tie.Need-same-length
 same-length c = search needs
 
 returns : tie.Need-returns
-returns c = made-as (ap (λ run. judged (now (c .before .before .before .before .before .before .before .before .before .before .before .before .before .before .before .before .before .before .args .source)) run (freshCall run [])) (ap (take (length (now (c .before .before .before .before .before .before .before .before .before .before .before .before .before .before .before .before .before .before .args .book)) + 6)) (c .before .before .before .before .before .before .before .before .before .before .before .before .write-runs .ensures) ∙ added-run (now (c .before .before .before .before .before .before .before .before .before .before .before .before .before .before .before .before .before .before .args .book)) (c .before .before .before .before .before .before .before .before .before .before .before .before .before .before .before .before .before .before .args .t2) (now (c .before .before .before .before .before .before .before .before .before .before .before .before .before .before .before .before .before .before .args .out)) (length (now (c .before .before .before .before .before .before .before .before .before .before .before .before .before .before .before .before .before .before .args .book)) + 6) (sym (slice-aggregate-write-runs (c .before .before .before .before .before .before .before .before .before .before .before .before .before .before))) refl)) (c .before .before .settle .ensures)
+returns c = made-as (ap (λ run. judged (now (c .before .before .before .before .before .before .before .before .before .before .before .before .args .source)) run (freshCall run [])) (ap (take (length (now (c .before .before .before .before .before .before .before .before .before .before .before .before .args .book)) + 6)) (c .before .before .before .before .before .before .write-runs .ensures) ∙ added-run (now (c .before .before .before .before .before .before .before .before .before .before .before .before .args .book)) (c .before .before .before .before .before .before .before .before .before .before .before .before .args .t2) (now (c .before .before .before .before .before .before .before .before .before .before .before .before .args .out)) (length (now (c .before .before .before .before .before .before .before .before .before .before .before .before .args .book)) + 6) (omega arith) refl)) (c .before .before .settle .ensures)
 
 pub extend-spec : {M : Type 1} → statement M
 extend-spec =

@@ -7,11 +7,11 @@ use Rattle.change_pages.proofs.Books.{judged-refused, judged-accepted}
 use Rattle.change_pages.proofs.settle.Statement.{statement}
 use Rattle.change_pages.proofs.settle.Tie as tie
 
-slice-aggregate-judge-run : tie.Need-slice-aggregate-judge-run
-slice-aggregate-judge-run c = sym (length-take-le _ _ (c .before .before .before .before .pre))
+slice-aggregate-judge : tie.Need-slice-aggregate-judge
+slice-aggregate-judge c = sym (length-take-le _ _ (c .before .before .before .before .pre))
 
-judge-run-requires : tie.Need-judge-run-requires
-judge-run-requires c κs = search needs
+judge-requires : tie.Need-judge-requires
+judge-requires c κs = search needs
 
 enum-known-outcome : tie.Need-enum-known-outcome
 enum-known-outcome c = search needs
@@ -23,26 +23,26 @@ enum-told : tie.Need-enum-told
 enum-told c = search needs
 
 accept-requires : tie.Need-accept-requires
-accept-requires c κs = c .before .before .before .before .before .before .before .before .before .before .before .before .before .before .pre
+accept-requires c κs = c .before .before .before .before .before .before .before .before .pre
 
 same-length : tie.Need-same-length
 same-length c = search needs
 
 returns : tie.Need-returns
-returns c = made-none _ _ _ _ _ (made-as (judged-refused _ _ _ (c .before .before .before .before .before .before .before .judge-run .ensures) _ _ (c .before .before .before .before .before .outcome .given .1)) (c .before .before .refuse .ensures))
+returns c = made-none _ _ _ _ _ (made-as (judged-refused _ _ _ (c .before .before .before .before .before .before .before .judge .ensures) _ _ (c .before .before .before .before .before .outcome .given .1)) (c .before .before .refuse .ensures))
 
 same-length-2 : tie.Need-same-length-2
 same-length-2 c = search needs
 
 returns-2 : tie.Need-returns-2
-returns-2 c = made-as (judged-accepted _ _ _ (c .before .before .before .before .before .before .judge-run .ensures) _ _ _ (c .before .before .before .before .enum-told .given .1)) (c .before .before .accept .ensures)
+returns-2 c = made-as (judged-accepted _ _ _ (c .before .before .before .before .before .before .judge .ensures) _ _ _ (c .before .before .before .before .enum-told .given .1)) (c .before .before .accept .ensures)
 
 pub settle-spec : {M : Type 1} → statement M
 settle-spec =
     tie.close
     (tie.spec
-    slice-aggregate-judge-run
-    judge-run-requires
+    slice-aggregate-judge
+    judge-requires
     enum-known-outcome
     refuse-requires
     enum-told

@@ -5,11 +5,11 @@ use mathlib.Core.Path.{_∙_, ap}
 use mathlib.Core.List.{[]}
 use lib.ListN.{take, length}
 use denote.Ref.{now}
+use Prim.Native.Nat.{_-_}
 use Rattle.outcomes.specs.Fresh.{freshCall}
 use Rattle.change_pages.specs.Changes.{judged}
 use Rattle.change_pages.proofs.Mades.{made-as, made-none}
 use Rattle.change_pages.proofs.Books.{ragged, many, absent, left-run, standing-judged, refused-so}
-use Prim.Native.Nat.{_-_}
 use Rattle.change_pages.proofs.withdraw.Statement.{statement}
 use Rattle.change_pages.proofs.withdraw.Tie as tie
 
@@ -50,13 +50,13 @@ sub-n : tie.Need-sub-n
 sub-n c = omega (arith, c .before .before .if3 .left)
 
 settle-requires : tie.Need-settle-requires
-settle-requires c κs = omega (arith, c .before .before .before .before .before .before .before .before .before .before .before .before .before .before .before .before .before .pre, c .before .before .before .before .before .before .before .before .before .write-without .kept)
+settle-requires c κs = omega (arith, c .before .before .before .before .before .before .before .before .before .before .before .pre, c .before .before .before .write-without .kept)
 
 same-length-4 : tie.Need-same-length-4
 same-length-4 c = search needs
 
 returns-4 : tie.Need-returns-4
-returns-4 c = made-as (ap (λ run. judged (now (c .before .before .before .before .before .before .before .before .before .before .before .before .before .before .before .before .before .before .before .before .args .source)) run (freshCall run [])) (ap (take (length (now (c .before .before .before .before .before .before .before .before .before .before .before .before .before .before .before .before .before .before .before .before .args .book)) - 6)) (c .before .before .before .before .before .before .before .before .before .before .before .before .write-without .ensures) ∙ left-run (now (c .before .before .before .before .before .before .before .before .before .before .before .before .before .before .before .before .before .before .before .before .args .book)) (c .before .before .before .before .before .before .before .before .before .before .before .before .before .before .before .before .before .before .before .before .args .i) (c .before .before .before .before .before .before .before .before .before .before .before .before .before .before .before .before .if1 .left) (c .before .before .before .before .before .before .before .before .before .before .before .before .before .before .before .if2 .left) (c .before .before .before .before .before .before .before .before .before .before .before .before .before .before .if3 .left) (now (c .before .before .before .before .before .before .before .before .before .before .before .before .before .before .before .before .before .before .before .before .args .out))) ∙ standing-judged _ _ (c .before .before .before .before .before .before .before .before .before .before .before .before .before .before .before .before .if1 .left) (c .before .before .before .before .before .before .before .before .before .before .before .before .before .before .before .if2 .left) (c .before .before .before .before .before .before .before .before .before .before .before .before .before .before .if3 .left) _) (c .before .before .settle .ensures)
+returns-4 c = made-as (ap (λ run. judged (now (c .before .before .before .before .before .before .before .before .before .before .before .before .before .before .args .source)) run (freshCall run [])) (ap (take (length (now (c .before .before .before .before .before .before .before .before .before .before .before .before .before .before .args .book)) - 6)) (c .before .before .before .before .before .before .write-without .ensures) ∙ left-run (now (c .before .before .before .before .before .before .before .before .before .before .before .before .before .before .args .book)) (c .before .before .before .before .before .before .before .before .before .before .before .before .before .before .args .i) (c .before .before .before .before .before .before .before .before .before .before .if1 .left) (c .before .before .before .before .before .before .before .before .before .if2 .left) (c .before .before .before .before .before .before .before .before .if3 .left) (now (c .before .before .before .before .before .before .before .before .before .before .before .before .before .before .args .out))) ∙ standing-judged _ _ (c .before .before .before .before .before .before .before .before .before .before .if1 .left) (c .before .before .before .before .before .before .before .before .before .if2 .left) (c .before .before .before .before .before .before .before .before .if3 .left) _) (c .before .before .settle .ensures)
 
 pub withdraw-spec : {M : Type 1} → statement M
 withdraw-spec =

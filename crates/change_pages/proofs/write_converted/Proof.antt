@@ -1,12 +1,10 @@
 -- `change_pages::write_converted` meets its contract. Assumes nothing.
-use native.Mathlib.Omega.{arith}
 use borrow.Author.Needs.{needs}
 use mathlib.Core.Path.{sym}
 use lib.Seq.{length-take-le}
-use denote.Ref.{now}
 use Rattle.sentences.proofs.Tellings.{took-bytes, took-unread}
 use Rattle.change_pages.proofs.Mades.{made-as, made-none}
-use Rattle.change_pages.proofs.Books.{convert-unread, convert-refused, written-fits, convert-written}
+use Rattle.change_pages.proofs.Books.{convert-unread, convert-read}
 use Rattle.change_pages.proofs.write_converted.Statement.{statement}
 use Rattle.change_pages.proofs.write_converted.Tie as tie
 
@@ -26,25 +24,13 @@ enum-known-read-2 : tie.Need-enum-known-read-2
 enum-known-read-2 c = search needs
 
 array-share-prefix-book : tie.Need-array-share-prefix-book
-array-share-prefix-book c = took-bytes _ _ _ _ (c .before .read2 .given .1) (c .before .before .before .before .read-source .ensures) .0
+array-share-prefix-book c = took-bytes _ _ _ _ (c .before .before .read2 .given .1) (c .before .before .before .before .before .read-source .ensures) .0
 
-slice-aggregate-convert : tie.Need-slice-aggregate-convert
-slice-aggregate-convert c = sym (length-take-le _ _ (took-bytes _ _ _ _ (c .before .before .read2 .given .1) (c .before .before .before .before .before .read-source .ensures) .0))
+slice-aggregate-convert-book : tie.Need-slice-aggregate-convert-book
+slice-aggregate-convert-book c = sym (length-take-le _ _ (array-share-prefix-book (c .before)))
 
-convert-requires : tie.Need-convert-requires
-convert-requires c κs = search needs
-
-enum-known-made : tie.Need-enum-known-made
-enum-known-made c = search needs
-
-refuse-requires : tie.Need-refuse-requires
-refuse-requires c κs = search needs
-
-enum-known-made-2 : tie.Need-enum-known-made-2
-enum-known-made-2 c = search needs
-
-accept-requires : tie.Need-accept-requires
-accept-requires c κs = written-fits _ _ (took-bytes _ _ _ _ (c .before .before .before .before .before .before .before .before .before .before .before .before .before .read2 .given .1) (c .before .before .before .before .before .before .before .before .before .before .before .before .before .before .before .before .read-source .ensures) .1) (now (c .before .before .before .before .before .before .before .before .before .before .before .before .before .before .before .before .before .before .before .before .args .out)) _ (omega arith) _ (c .before .before .before .before .before .before .convert .ensures .0) _ (c .before .before .before .before .made2 .given .1)
+convert-book-requires : tie.Need-convert-book-requires
+convert-book-requires c κs = search needs
 
 same-length : tie.Need-same-length
 same-length c = search needs
@@ -56,13 +42,7 @@ same-length-2 : tie.Need-same-length-2
 same-length-2 c = search needs
 
 returns-2 : tie.Need-returns-2
-returns-2 c = made-none _ _ _ _ _ (made-as (convert-refused _ _ (took-bytes _ _ _ _ (c .before .before .before .before .before .before .before .before .before .before .before .before .before .before .read2 .given .1) (c .before .before .before .before .before .before .before .before .before .before .before .before .before .before .before .before .before .read-source .ensures) .1) (now (c .before .before .before .before .before .before .before .before .before .before .before .before .before .before .before .before .before .before .before .before .before .args .out)) _ (omega arith) _ (c .before .before .before .before .before .before .before .convert .ensures .0) _ _ (c .before .before .before .before .before .made .given .1)) (c .before .before .refuse .ensures))
-
-same-length-3 : tie.Need-same-length-3
-same-length-3 c = search needs
-
-returns-3 : tie.Need-returns-3
-returns-3 c = made-as (convert-written _ _ (took-bytes _ _ _ _ (c .before .before .before .before .before .before .before .before .before .before .before .before .before .before .before .before .read2 .given .1) (c .before .before .before .before .before .before .before .before .before .before .before .before .before .before .before .before .before .before .before .read-source .ensures) .1) (now (c .before .before .before .before .before .before .before .before .before .before .before .before .before .before .before .before .before .before .before .before .before .before .before .args .out)) _ (omega arith) _ (c .before .before .before .before .before .before .before .before .before .convert .ensures .0) _ (c .before .before .before .before .before .before .before .made2 .given .1)) (c .before .before .accept .ensures)
+returns-2 c = made-as (convert-read _ _ (took-bytes _ _ _ _ (c .before .before .before .before .before .before .before .read2 .given .1) (c .before .before .before .before .before .before .before .before .before .before .read-source .ensures) .1)) (c .before .before .convert-book .ensures)
 
 pub write-converted-spec : {M : Type 1} → statement M
 write-converted-spec =
@@ -74,15 +54,9 @@ write-converted-spec =
     tell-requires
     enum-known-read-2
     array-share-prefix-book
-    slice-aggregate-convert
-    convert-requires
-    enum-known-made
-    refuse-requires
-    enum-known-made-2
-    accept-requires
+    slice-aggregate-convert-book
+    convert-book-requires
     same-length
     returns
     same-length-2
-    returns-2
-    same-length-3
-    returns-3)
+    returns-2)

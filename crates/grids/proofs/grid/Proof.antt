@@ -1,25 +1,25 @@
+-- `grids::grid` meets its contract. Assumes nothing.
 use mathlib.Core.Path.{sym, _∙_}
 use native.Mathlib.Omega.{arith}
 use Rattle.answers.proofs.Fresh.{fresh-sound}
 use Rattle.grids.proofs.Griddings.{refused-grid, large-grid, small-grid}
-use borrow.Author.Needs.{needs}
 use Rattle.grids.proofs.grid.Statement.{statement}
 use Rattle.grids.proofs.grid.Tie as tie
 
 judge-run-requires : tie.Need-judge-run-requires
-judge-run-requires c κs = search needs
+judge-run-requires c κs = tt
 
 enum-known-outcome : tie.Need-enum-known-outcome
-enum-known-outcome c = search needs
+enum-known-outcome c = c .match .keys1
 
 refuse-requires : tie.Need-refuse-requires
-refuse-requires c κs = search needs
+refuse-requires c κs = tt
 
 enum-known-outcome-2 : tie.Need-enum-known-outcome-2
-enum-known-outcome-2 c = search needs
+enum-known-outcome-2 c = c .match .keys2
 
 refuse-requires-2 : tie.Need-refuse-requires-2
-refuse-requires-2 c κs = search needs
+refuse-requires-2 c κs = tt
 
 returns : tie.Need-returns
 returns c =

@@ -1,50 +1,54 @@
 -- `beside_pages::write_answers` meets its contract. Assumes nothing.
 use native.Mathlib.Omega.{arith}
 use borrow.Author.Needs.{needs}
-use mathlib.Core.Path.{sym, _∙_}
 use Prim.Native.Nat.{ℕ}
 use lib.ListN.{length-replicate}
+use lib.Dec.{lit≤}
+use mathlib.Core.Path.{sym, _∙_}
 use lib.Seq.{length-take-le}
-use Rattle.sentences.proofs.Tellings.{took-bytes, took-unread, page-read, page-unread}
+use Rattle.sentences.proofs.Tellings.{took-bytes, took-unread, page-read, page-unread, put-page}
 use Rattle.beside_pages.proofs.ComparisonTexts.{claims-fit}
 use Rattle.beside_pages.proofs.comparison.write_answers.Statement.{statement}
 use Rattle.beside_pages.proofs.comparison.write_answers.Tie as tie
 
 slice-aggregate-read-source : tie.Need-slice-aggregate-read-source
-slice-aggregate-read-source c = search needs
+slice-aggregate-read-source c = sym (length-replicate {A = ℕ} 24582 0)
 
 read-source-requires : tie.Need-read-source-requires
-read-source-requires c κs = search needs
+read-source-requires c κs = omega (arith, length-replicate {A = ℕ} 24582 0)
 
 enum-known-read : tie.Need-enum-known-read
-enum-known-read c = search needs
+enum-known-read c = c .match .keys1
 
 write-unread-requires : tie.Need-write-unread-requires
-write-unread-requires c κs = search needs
+write-unread-requires c κs = tt
 
 enum-known-read-2 : tie.Need-enum-known-read-2
-enum-known-read-2 c = search needs
+enum-known-read-2 c = c .match .keys2
 
 array-share-prefix-asked : tie.Need-array-share-prefix-asked
 array-share-prefix-asked c = took-bytes _ _ _ _ (c .before .read2 .given .1) (c .before .before .before .before .read-source .ensures) .0
 
-slice-aggregate-write-both : tie.Need-slice-aggregate-write-both
-slice-aggregate-write-both c = sym (length-take-le _ _ (took-bytes _ _ _ _ (c .before .before .read2 .given .1) (c .before .before .before .before .before .read-source .ensures) .0))
+slice-aggregate-put-comparison : tie.Need-slice-aggregate-put-comparison
+slice-aggregate-put-comparison c = sym (length-take-le _ _ (took-bytes _ _ _ _ (c .before .before .read2 .given .1) (c .before .before .before .before .before .read-source .ensures) .0))
 
-write-both-requires : tie.Need-write-both-requires
-write-both-requires c κs = claims-fit _ _ (took-bytes _ _ _ _ (c .before .before .before .before .before .before .before .before .before .read2 .given .1) (c .before .before .before .before .before .before .before .before .before .before .before .before .read-source .ensures) .0) (c .before .before .before .before .before .before .before .before .before .before .before .before .read-source .kept .1 .1 .0 ∙ length-replicate {A = ℕ} 24582 0)
+put-comparison-requires : tie.Need-put-comparison-requires
+put-comparison-requires c κs = claims-fit _ _ (took-bytes _ _ _ _ (c .before .before .before .read2 .given .1) (c .before .before .before .before .before .before .read-source .ensures) .0) (c .before .before .before .before .before .before .read-source .kept .1 .1 .0 ∙ length-replicate {A = ℕ} 24582 0)
+
+finish-requires : tie.Need-finish-requires
+finish-requires c κs = tt
 
 same-length : tie.Need-same-length
-same-length c = search needs
+same-length c = c .before .before .write-unread .kept .0
 
 returns : tie.Need-returns
-returns c = page-unread _ _ _ (c .before .before .write-unread .result) _ _ _ _ (omega arith) (took-unread _ _ _ _ _ (c .before .before .before .before .before .read .given .1) (c .before .before .before .before .before .before .before .before .read-source .ensures)) (c .before .before .write-unread .ensures)
+returns c = page-unread _ _ _ (c .before .before .write-unread .result) _ _ _ _ (lit≤ tt) (took-unread _ _ _ _ _ (c .before .before .before .before .before .read .given .1) (c .before .before .before .before .before .before .before .before .read-source .ensures)) (c .before .before .write-unread .ensures)
 
 same-length-2 : tie.Need-same-length-2
-same-length-2 c = search needs
+same-length-2 c = c .before .before .before .put-comparison .kept .1 .1 .1 .1 .1 .1 .0
 
 returns-2 : tie.Need-returns-2
-returns-2 c = page-read _ _ _ (c .before .before .write-both .result) _ _ _ _ (took-bytes _ _ _ _ (c .before .before .before .before .before .before .before .before .before .before .before .before .read2 .given .1) (c .before .before .before .before .before .before .before .before .before .before .before .before .before .before .before .read-source .ensures) .1) (c .before .before .write-both .ensures)
+returns-2 c = page-read _ _ _ (c .finish .result) _ _ _ _ (took-bytes _ _ _ _ (c .before .before .before .before .before .before .before .read2 .given .1) (c .before .before .before .before .before .before .before .before .before .before .read-source .ensures) .1) (put-page _ _ _ _ _ _ (c .before .before .before .put-comparison .ensures) (c .finish .ensures))
 
 pub write-answers-spec : {M : Type 1} → statement M
 write-answers-spec =
@@ -56,8 +60,9 @@ write-answers-spec =
     write-unread-requires
     enum-known-read-2
     array-share-prefix-asked
-    slice-aggregate-write-both
-    write-both-requires
+    slice-aggregate-put-comparison
+    put-comparison-requires
+    finish-requires
     same-length
     returns
     same-length-2

@@ -1,6 +1,9 @@
 -- `beside_pages::write_comparison` meets its contract. Assumes nothing.
 use native.Mathlib.Omega.{arith}
 use borrow.Author.Needs.{needs}
+use Prim.Native.Nat.{ℕ}
+use lib.ListN.{length-replicate}
+use lib.Dec.{lit≤}
 use mathlib.Core.Path.{sym}
 use lib.Seq.{length-take-le}
 use Rattle.sentences.proofs.Tellings.{took-bytes, took-unread, page-read, page-unread}
@@ -9,70 +12,42 @@ use Rattle.beside_pages.proofs.comparison.write_comparison.Statement.{s
 use Rattle.beside_pages.proofs.comparison.write_comparison.Tie as tie
 
 slice-aggregate-read-source : tie.Need-slice-aggregate-read-source
-slice-aggregate-read-source c = search needs
+slice-aggregate-read-source c = sym (length-replicate {A = ℕ} 49158 0)
 
 read-source-requires : tie.Need-read-source-requires
-read-source-requires c κs = search needs
+read-source-requires c κs = omega (arith, length-replicate {A = ℕ} 49158 0)
 
 enum-known-read : tie.Need-enum-known-read
-enum-known-read c = search needs
+enum-known-read c = c .match .keys1
 
 write-unread-requires : tie.Need-write-unread-requires
-write-unread-requires c κs = search needs
+write-unread-requires c κs = tt
 
 enum-known-read-2 : tie.Need-enum-known-read-2
-enum-known-read-2 c = search needs
-
-slice-aggregate-read-source-2 : tie.Need-slice-aggregate-read-source-2
-slice-aggregate-read-source-2 c = search needs
-
-read-source-requires-2 : tie.Need-read-source-requires-2
-read-source-requires-2 c κs = search needs
-
-enum-known-seen : tie.Need-enum-known-seen
-enum-known-seen c = search needs
-
-write-unread-requires-2 : tie.Need-write-unread-requires-2
-write-unread-requires-2 c κs = search needs
-
-enum-known-seen-2 : tie.Need-enum-known-seen-2
-enum-known-seen-2 c = search needs
+enum-known-read-2 c = c .match .keys2
 
 array-share-prefix-first : tie.Need-array-share-prefix-first
-array-share-prefix-first c = took-bytes _ _ _ _ (c .before .before .before .before .before .before .before .read2 .given .1) (c .before .before .before .before .before .before .before .before .before .before .read-source .ensures) .0
+array-share-prefix-first c = took-bytes _ _ _ _ (c .before .read2 .given .1) (c .before .before .before .before .read-source .ensures) .0
 
-slice-aggregate-write-answers : tie.Need-slice-aggregate-write-answers
-slice-aggregate-write-answers c = sym (length-take-le _ _ (took-bytes _ _ _ _ (c .before .before .before .before .before .before .before .before .read2 .given .1) (c .before .before .before .before .before .before .before .before .before .before .before .read-source .ensures) .0))
+slice-aggregate-write-second : tie.Need-slice-aggregate-write-second
+slice-aggregate-write-second c = sym (length-take-le _ _ (took-bytes _ _ _ _ (c .before .before .read2 .given .1) (c .before .before .before .before .before .read-source .ensures) .0))
 
-array-share-prefix-other : tie.Need-array-share-prefix-other
-array-share-prefix-other c = took-bytes _ _ _ _ (c .before .before .seen2 .given .1) (c .before .before .before .before .before .read-source2 .ensures) .0
-
-slice-aggregate-write-answers-2 : tie.Need-slice-aggregate-write-answers-2
-slice-aggregate-write-answers-2 c = sym (length-take-le _ _ (took-bytes _ _ _ _ (c .before .before .before .seen2 .given .1) (c .before .before .before .before .before .before .read-source2 .ensures) .0))
-
-write-answers-requires : tie.Need-write-answers-requires
-write-answers-requires c κs = search needs
+write-second-requires : tie.Need-write-second-requires
+write-second-requires c κs = tt
 
 same-length : tie.Need-same-length
-same-length c = search needs
+same-length c = c .before .before .write-unread .kept .0
 
 returns : tie.Need-returns
 unfolding comparisonText
-returns c = page-unread _ _ _ (c .before .before .write-unread .result) _ _ _ _ (omega arith) (took-unread _ _ _ _ _ (c .before .before .before .before .before .read .given .1) (c .before .before .before .before .before .before .before .before .read-source .ensures)) (c .before .before .write-unread .ensures)
+returns c = page-unread _ _ _ (c .before .before .write-unread .result) _ _ _ _ (lit≤ tt) (took-unread _ _ _ _ _ (c .before .before .before .before .before .read .given .1) (c .before .before .before .before .before .before .before .before .read-source .ensures)) (c .before .before .write-unread .ensures)
 
 same-length-2 : tie.Need-same-length-2
-same-length-2 c = search needs
+same-length-2 c = c .before .before .write-second .kept .1 .1 .1 .1 .0
 
 returns-2 : tie.Need-returns-2
 unfolding comparisonText
-returns-2 c = page-read _ _ _ (c .before .before .write-unread2 .result) _ _ _ _ (took-bytes _ _ _ _ (c .before .before .before .before .before .before .before .before .before .before .before .read2 .given .1) (c .before .before .before .before .before .before .before .before .before .before .before .before .before .before .read-source .ensures) .1) (page-unread _ _ _ (c .before .before .write-unread2 .result) _ _ _ _ (omega arith) (took-unread _ _ _ _ _ (c .before .before .before .before .before .seen .given .1) (c .before .before .before .before .before .before .before .before .read-source2 .ensures)) (c .before .before .write-unread2 .ensures))
-
-same-length-3 : tie.Need-same-length-3
-same-length-3 c = search needs
-
-returns-3 : tie.Need-returns-3
-unfolding comparisonText
-returns-3 c = page-read _ _ _ (c .before .before .write-answers .result) _ _ _ _ (took-bytes _ _ _ _ (c .before .before .before .before .before .before .before .before .before .before .before .before .before .before .before .before .before .before .before .read2 .given .1) (c .before .before .before .before .before .before .before .before .before .before .before .before .before .before .before .before .before .before .before .before .before .before .read-source .ensures) .1) (page-read _ _ _ (c .before .before .write-answers .result) _ _ _ _ (took-bytes _ _ _ _ (c .before .before .before .before .before .before .before .before .before .before .before .before .before .seen2 .given .1) (c .before .before .before .before .before .before .before .before .before .before .before .before .before .before .before .before .read-source2 .ensures) .1) (c .before .before .write-answers .ensures))
+returns-2 c = page-read _ _ _ (c .before .before .write-second .result) _ _ _ _ (took-bytes _ _ _ _ (c .before .before .before .before .before .before .read2 .given .1) (c .before .before .before .before .before .before .before .before .before .read-source .ensures) .1) (c .before .before .write-second .ensures)
 
 pub write-comparison-spec : {M : Type 1} → statement M
 write-comparison-spec =
@@ -83,19 +58,10 @@ write-comparison-spec =
     enum-known-read
     write-unread-requires
     enum-known-read-2
-    slice-aggregate-read-source-2
-    read-source-requires-2
-    enum-known-seen
-    write-unread-requires-2
-    enum-known-seen-2
     array-share-prefix-first
-    slice-aggregate-write-answers
-    array-share-prefix-other
-    slice-aggregate-write-answers-2
-    write-answers-requires
+    slice-aggregate-write-second
+    write-second-requires
     same-length
     returns
     same-length-2
-    returns-2
-    same-length-3
-    returns-3)
+    returns-2)

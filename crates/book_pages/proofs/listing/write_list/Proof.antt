@@ -33,7 +33,7 @@ same-length-2 c = search needs
 
 returns-2 : tie.Need-returns-2
 unfolding listText
-returns-2 c = page-entry _ _ _ (c .before .before .write-pieces .result) _ _ _ (c .before .before .before .before .before .before .before .before .before .before .read-words .ensures) (c .before .before .before .before .before .before .before .before .said2 .given .1) (c .before .before .write-pieces .ensures)
+returns-2 c = page-entry _ _ _ (c .before .before .write-pieces .result) _ _ _ (c .before .before .before .before .before .before .before .read-words .ensures) (c .before .before .before .before .before .said2 .given .1) (c .before .before .write-pieces .ensures)
 
 pub write-list-spec : {M : Type 1} → statement M
 write-list-spec =

@@ -45,7 +45,7 @@ same-length-2 c = search needs
 returns-2 : tie.Need-returns-2
 returns-2 c =
     let fits = c .before .before .before .before .before .before .before .before .before .known-told2 .given in
-    (put-as (accepted _ _ _ _ _ _ (c .before .before .before .before .before .before .before .before .before .before .before .before .before .answer .ensures) _ _ _ (c .before .before .before .before .before .before .before .before .before .before .outcome2 .given .1)) (chain (c .before .before .before .before .before .before .before .put-counts .ensures) (c .before .before .put-claims .ensures)), accepted-short _ _ _ _ _ _ (c .before .before .before .before .before .before .before .before .before .before .before .before .before .answer .ensures) _ _ _ (c .before .before .before .before .before .before .before .before .before .before .outcome2 .given .1) (omega (arith, fits)) (omega (arith, fits)) (omega (arith, fits)) (λ j. c .before .before .before .before .before .before .before .before .before .before .before .before .before .before .before .before .before .before .before .before .before .before .before .before .shared-slice-known2 .given j .fits) (c .before .before .before .before .before .before .before .before .before .before .before .before .before .before .before .before .before .before .before .before .before .before .before .before .before .before .pre))
+    (put-as (accepted _ _ _ _ _ _ (c .before .before .before .before .before .before .before .before .before .before .before .before .before .answer .ensures) _ _ _ (c .before .before .before .before .before .before .before .before .before .before .outcome2 .given .1)) (chain (c .before .before .before .before .before .before .before .put-counts .ensures) (c .before .before .put-claims .ensures)), accepted-short _ _ _ _ _ _ (c .before .before .before .before .before .before .before .before .before .before .before .before .before .answer .ensures) _ _ _ (c .before .before .before .before .before .before .before .before .before .before .outcome2 .given .1) (omega (arith, fits)) (omega (arith, fits)) (omega (arith, fits)) (λ j. c .before .before .before .before .before .before .before .before .before .before .before .before .before .before .before .before .before .before .shared-slice-known2 .given j .fits) (c .before .before .before .before .before .before .before .before .before .before .before .before .before .before .before .before .before .before .before .before .pre))
 
 pub put-session-spec : {M : Type 1} → statement M
 put-session-spec =

@@ -39,7 +39,7 @@ same-length-2 c = search needs
 
 returns-2 : tie.Need-returns-2
 unfolding askWordsText
-returns-2 c = page-entry _ _ _ (c .before .before .write-about .result) _ _ _ (c .before .before .before .before .before .before .before .before .before .before .before .before .before .before .before .read-words .ensures) (c .before .before .before .before .before .before .before .before .before .before .before .before .before .said2 .given .1) (rw (c .before .before .before .before .before .before .before .before .before .before .before .six-bytes .ensures) at (c .before .before .write-about .ensures))
+returns-2 c = page-entry _ _ _ (c .before .before .write-about .result) _ _ _ (c .before .before .before .before .before .before .before .before .before .read-words .ensures) (c .before .before .before .before .before .before .before .said2 .given .1) (rw (c .before .before .before .before .before .six-bytes .ensures) at (c .before .before .write-about .ensures))
 
 pub write-ask-words-spec : {M : Type 1} → statement M
 write-ask-words-spec =

@@ -8,23 +8,24 @@ use lib.Seq.{length-take-le}
 use Rattle.sentences.proofs.Tellings.{took-bytes, took-unread, page-read, page-unread}
 use Rattle.book_pages.specs.ShowText.{showText}
 use Rattle.book_pages.proofs.ShowTexts.{book-fits}
+use lib.Dec.{lit≤}
 use Rattle.book_pages.proofs.show.write_show.Statement.{statement}
 use Rattle.book_pages.proofs.show.write_show.Tie as tie
 
 slice-aggregate-read-source : tie.Need-slice-aggregate-read-source
-slice-aggregate-read-source c = search needs
+slice-aggregate-read-source c = sym (length-replicate {A = ℕ} 49158 0)
 
 read-source-requires : tie.Need-read-source-requires
-read-source-requires c κs = search needs
+read-source-requires c κs = omega (arith, length-replicate {A = ℕ} 49158 0)
 
 enum-known-read : tie.Need-enum-known-read
-enum-known-read c = search needs
+enum-known-read c = c .match .keys1
 
 write-unread-requires : tie.Need-write-unread-requires
-write-unread-requires c κs = search needs
+write-unread-requires c κs = tt
 
 enum-known-read-2 : tie.Need-enum-known-read-2
-enum-known-read-2 c = search needs
+enum-known-read-2 c = c .match .keys2
 
 array-share-prefix-book : tie.Need-array-share-prefix-book
 array-share-prefix-book c = took-bytes _ _ _ _ (c .before .read2 .given .1) (c .before .before .before .before .read-source .ensures) .0
@@ -36,14 +37,14 @@ write-shown-requires : tie.Need-write-shown-requires
 write-shown-requires c κs = book-fits _ _ (took-bytes _ _ _ _ (c .before .before .before .read2 .given .1) (c .before .before .before .before .before .before .read-source .ensures) .0) (c .before .before .before .before .before .before .read-source .kept .1 .1 .0 ∙ length-replicate {A = ℕ} 49158 0)
 
 same-length : tie.Need-same-length
-same-length c = search needs
+same-length c = c .before .before .write-unread .kept .0
 
 returns : tie.Need-returns
 unfolding showText
-returns c = page-unread _ _ _ (c .before .before .write-unread .result) _ _ _ _ (omega arith) (took-unread _ _ _ _ _ (c .before .before .before .before .before .read .given .1) (c .before .before .before .before .before .before .before .before .read-source .ensures)) (c .before .before .write-unread .ensures)
+returns c = page-unread _ _ _ (c .before .before .write-unread .result) _ _ _ _ (lit≤ tt) (took-unread _ _ _ _ _ (c .before .before .before .before .before .read .given .1) (c .before .before .before .before .before .before .before .before .read-source .ensures)) (c .before .before .write-unread .ensures)
 
 same-length-2 : tie.Need-same-length-2
-same-length-2 c = search needs
+same-length-2 c = c .before .before .write-shown .kept .1 .1 .0
 
 returns-2 : tie.Need-returns-2
 unfolding showText

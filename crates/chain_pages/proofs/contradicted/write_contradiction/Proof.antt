@@ -44,7 +44,7 @@ same-length-2 : tie.Need-same-length-2
 same-length-2 c = search needs
 
 returns-2 : tie.Need-returns-2
-returns-2 c = clash-read _ _ _ _ (c .finish .ensures) (took-bytes _ _ _ _ (c .before .before .before .before .before .before .before .before .before .before .before .before .before .read2 .given .1) (c .before .before .before .before .before .before .before .before .before .before .before .before .before .before .before .before .read-source .ensures) .1) (c .before .before .before .clash-book .ensures)
+returns-2 c = clash-read _ _ _ _ (c .finish .ensures) (took-bytes _ _ _ _ (c .before .before .before .before .before .before .before .read2 .given .1) (c .before .before .before .before .before .before .before .before .before .before .read-source .ensures) .1) (c .before .before .before .clash-book .ensures)
 
 pub write-contradiction-spec : {M : Type 1} → statement M
 write-contradiction-spec =

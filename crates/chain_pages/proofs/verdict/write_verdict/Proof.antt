@@ -47,7 +47,7 @@ same-length-2 : tie.Need-same-length-2
 same-length-2 c = search needs
 
 returns-2 : tie.Need-returns-2
-returns-2 c = verdict-read _ _ _ _ _ _ (c .finish .ensures) (took-bytes _ _ _ _ (c .before .before .before .before .before .before .before .before .before .before .before .before .before .before .read2 .given .1) (c .before .before .before .before .before .before .before .before .before .before .before .before .before .before .before .before .before .read-source .ensures) .1) (c .before .before .before .before .before .verify .ensures) (c .before .before .before .put-verdict .ensures)
+returns-2 c = verdict-read _ _ _ _ _ _ (c .finish .ensures) (took-bytes _ _ _ _ (c .before .before .before .before .before .before .before .before .read2 .given .1) (c .before .before .before .before .before .before .before .before .before .before .before .read-source .ensures) .1) (c .before .before .before .before .before .verify .ensures) (c .before .before .before .put-verdict .ensures)
 
 pub write-verdict-spec : {M : Type 1} → statement M
 write-verdict-spec =

@@ -1,34 +1,29 @@
 -- `why::why_book` meets its contract: the text of the reply and of the steps that were written. Assumes nothing.
 use native.Mathlib.Omega.{arith}
 use borrow.Author.Needs.{needs}
-use Prim.Native.Nat.{ℕ}
 use mathlib.Core.Path.{_∙_, sym}
-use lib.ListN.{length-replicate}
 use lib.Seq.{length-take-le}
 use Rattle.pages.proofs.Puts.{put-as}
 use Rattle.pages.proofs.Writing.{write-page}
-use Rattle.chain_pages.proofs.Chains.{whole, few, reply-said, steps-behind}
+use Rattle.chain_pages.proofs.Chains.{whole}
 use Rattle.chain_pages.proofs.Replies.{same-text}
 use Rattle.chain_pages.proofs.why.why_book.Statement.{statement}
 use Rattle.chain_pages.proofs.why.why_book.Tie as tie
-
-slice-aggregate-write-chain : tie.Need-slice-aggregate-write-chain
-slice-aggregate-write-chain c = sym (length-replicate {A = ℕ} 164000 0)
 
 write-chain-requires : tie.Need-write-chain-requires
 write-chain-requires c κs = search needs
 
 mul-n : tie.Need-mul-n
-mul-n c = omega (arith, few (c .before .before .write-chain .ensures))
+mul-n c = omega (arith, c .before .write-chain .ensures .few)
 
 array-share-prefix-c : tie.Need-array-share-prefix-c
-array-share-prefix-c c = omega (arith, few (c .before .before .before .write-chain .ensures), c .before .before .before .write-chain .kept .1 .1 .0, length-replicate {A = ℕ} 164000 0)
+array-share-prefix-c c = omega (arith, c .before .before .write-chain .ensures .few, c .before .before .write-chain .ensures .room)
 
 slice-aggregate-put-why : tie.Need-slice-aggregate-put-why
 slice-aggregate-put-why c = sym (length-take-le _ _ (array-share-prefix-c (c .before)))
 
 put-why-requires : tie.Need-put-why-requires
-put-why-requires c κs = (λ a is. whole _ _ a (sym (reply-said (c .before .before .before .before .write-chain .ensures) (length-replicate {A = ℕ} 164000 0)) ∙ is), omega (arith, slice-aggregate-put-why c, few (c .before .before .before .before .write-chain .ensures)))
+put-why-requires c κs = (λ a is. whole _ _ a (sym (c .before .before .before .write-chain .ensures .reply-is) ∙ is), omega (arith, slice-aggregate-put-why c, c .before .before .before .write-chain .ensures .few))
 
 finish-requires : tie.Need-finish-requires
 finish-requires c κs = search needs
@@ -37,13 +32,12 @@ same-length : tie.Need-same-length
 same-length c = search needs
 
 returns : tie.Need-returns
-returns c = record { chain = _; bytes = c .before .before .before .put-why .ensures .1 .1; behind = steps-behind (c .before .before .before .before .before .before .before .before .write-chain .ensures) (length-replicate {A = ℕ} 164000 0); page-is = write-page _ (put-as (same-text _ _ _ _ _ (reply-said (c .before .before .before .before .before .before .before .before .write-chain .ensures) (length-replicate {A = ℕ} 164000 0))) (c .before .before .before .put-why .ensures .0)) (c .finish .ensures); short = rw (same-text _ _ _ _ _ (reply-said (c .before .before .before .before .before .before .before .before .write-chain .ensures) (length-replicate {A = ℕ} 164000 0))) at (c .before .before .before .put-why .ensures .1 .0) }
+returns c = let same = same-text _ _ _ _ _ (c .before .before .before .before .before .before .before .write-chain .ensures .reply-is) in record { chain = _; bytes = c .before .before .before .put-why .ensures .1 .1; behind = c .before .before .before .before .before .before .before .write-chain .ensures .behind; page-is = write-page _ (put-as same (c .before .before .before .put-why .ensures .0)) (c .finish .ensures); short = rw same at (c .before .before .before .put-why .ensures .1 .0) }
 
 pub why-book-spec : {M : Type 1} → statement M
 why-book-spec =
     tie.close
     (tie.spec
-    slice-aggregate-write-chain
     write-chain-requires
     mul-n
     array-share-prefix-c

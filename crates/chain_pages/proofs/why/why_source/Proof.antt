@@ -47,7 +47,7 @@ same-length-2 : tie.Need-same-length-2
 same-length-2 c = search needs
 
 returns-2 : tie.Need-returns-2
-returns-2 c = source-read _ _ _ _ _ (c .before .before .before .before .before .before .before .before .before .six-bytes .ensures) (took-bytes _ _ _ _ (c .before .before .before .before .before .before .before .before .before .before .before .read2 .given .1) (c .before .before .before .before .before .before .before .before .before .before .before .before .before .before .read-source .ensures) .1) (c .before .before .why-book .ensures)
+returns-2 c = source-read _ _ _ _ _ (c .before .before .before .before .before .before .six-bytes .ensures) (took-bytes _ _ _ _ (c .before .before .before .before .before .before .before .before .read2 .given .1) (c .before .before .before .before .before .before .before .before .before .before .before .read-source .ensures) .1) (c .before .before .why-book .ensures)
 
 pub why-source-spec : {M : Type 1} → statement M
 why-source-spec =

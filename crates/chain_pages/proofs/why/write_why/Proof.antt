@@ -29,7 +29,7 @@ same-length-2 : tie.Need-same-length-2
 same-length-2 c = search needs
 
 returns-2 : tie.Need-returns-2
-returns-2 c = words-said _ _ _ (c .before .before .before .before .before .before .before .before .before .before .read-words .ensures) _ _ (c .before .before .before .before .before .before .before .before .said2 .given .1) (c .before .before .why-source .ensures)
+returns-2 c = words-said _ _ _ (c .before .before .before .before .before .before .before .read-words .ensures) _ _ (c .before .before .before .before .before .said2 .given .1) (c .before .before .why-source .ensures)
 
 pub write-why-spec : {M : Type 1} → statement M
 write-why-spec =

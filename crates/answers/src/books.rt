@@ -1,0 +1,84 @@
+// A book judged without claims: rows 3 to 9, then 14. Three matrices are scratch.
+ghost use mathlib.Core.Path.{_≡_};
+ghost use mathlib.Core.List.{[]};
+ghost use Rattle.records.specs.Check.{bookCheck};
+ghost use Rattle.records.specs.declared.BookCheck.the-variants as is;
+ghost use Rattle.outcomes.specs.Call.{byRuns};
+ghost use Rattle.outcomes.specs.Fresh.{freshCall, uncounted};
+use contradiction::Row14;
+use contradiction::Settled;
+use matrices::Matrix;
+use outcomes::Outcome;
+use records::BookCheck;
+use records::Refusal;
+
+// Row 14 of a book that passes the rows before, with the counts of an index that nobody asks for.
+fn count_in(book: &[u8], n: usize, e: &mut Matrix, d: &mut Matrix, t: &mut Matrix) -> Outcome
+    requires { ⌜ bookCheck (now book) ≡ is.Accepted n ⌝ }
+    ensures { λ r. ⌜ r ≡ byRuns (now (book .entry)) n ⌝ }
+{
+    let mut voids = [0u64; matrices::ROW_WORDS];
+    closure::marking::mark_voids(book, &mut voids);
+    let mut order = [0u16; matrices::ROWS];
+    let mut lead = [0u16; matrices::ROWS];
+    let mut parens = [0u8; index::PARENTHESES_BYTES];
+    let mut marks = [0u8; index::MARKS_BYTES];
+    let mut shadows = [0u16; index::SHADOWS];
+    let mut places = [0u16; index::PLACES];
+    let settled = contradiction::settle(
+        book,
+        n,
+        &voids,
+        e,
+        &mut order,
+        &mut lead,
+        d,
+        t,
+        &mut parens,
+        &mut marks,
+        &mut shadows,
+        &mut places,
+    );
+    match settled {
+        Settled::Clash(place) => Outcome::Refused(Refusal::Contradiction, place),
+        Settled::Free(nodes, shadowed) => Outcome::Accepted(n, nodes, shadowed),
+    }
+}
+
+// A fresh call on a run of records.
+pub fn judge_run(run: &[u8], e: &mut Matrix, d: &mut Matrix, t: &mut Matrix) -> Outcome
+    ensures { λ r. ⌜ r ≡ freshCall (now (run .entry)) [] ⌝ }
+{
+    let checked = records::check_book(run);
+    match checked {
+        BookCheck::Refused(refusal, place) => Outcome::Refused(refusal, place),
+        BookCheck::Accepted(n) => count_in(run, n, e, d, t),
+    }
+}
+
+// Row 14 of a book that passes the rows before.
+fn settle_in(book: &[u8], n: usize, e: &mut Matrix, d: &mut Matrix, t: &mut Matrix) -> BookCheck
+    requires { ⌜ bookCheck (now book) ≡ is.Accepted n ⌝ }
+    ensures { λ r. ⌜ r ≡ uncounted (byRuns (now (book .entry)) n) ⌝ }
+{
+    let mut voids = [0u64; matrices::ROW_WORDS];
+    closure::marking::mark_voids(book, &mut voids);
+    let mut order = [0u16; matrices::ROWS];
+    let mut lead = [0u16; matrices::ROWS];
+    let settled = contradiction::settle_alone(book, n, &voids, e, &mut order, &mut lead, d, t);
+    match settled {
+        Row14::Clash(place) => BookCheck::Refused(Refusal::Contradiction, place),
+        Row14::Free => BookCheck::Accepted(n),
+    }
+}
+
+// The same for a caller that wants no counts of nodes and shadows: no index is made.
+pub fn judge_book(book: &[u8], e: &mut Matrix, d: &mut Matrix, t: &mut Matrix) -> BookCheck
+    ensures { λ r. ⌜ r ≡ uncounted (freshCall (now (book .entry)) []) ⌝ }
+{
+    let checked = records::check_book(book);
+    match checked {
+        BookCheck::Refused(refusal, place) => BookCheck::Refused(refusal, place),
+        BookCheck::Accepted(n) => settle_in(book, n, e, d, t),
+    }
+}
