@@ -62,10 +62,7 @@ fn settle_in(book: &[u8], n: usize, e: &mut Matrix, d: &mut Matrix, t: &mut Matr
     ensures { λ r. ⌜ r ≡ uncounted (byRuns (now (book .entry)) n) ⌝ }
 {
     let mut voids = [0u64; matrices::ROW_WORDS];
-    closure::marking::mark_voids(book, &mut voids);
-    let mut order = [0u16; matrices::ROWS];
-    let mut lead = [0u16; matrices::ROWS];
-    let settled = contradiction::settle_alone(book, n, &voids, e, &mut order, &mut lead, d, t);
+    let settled = contradiction::settle_book(book, n, &mut voids, e, d, t);
     match settled {
         Row14::Clash(place) => BookCheck::Refused(Refusal::Contradiction, place),
         Row14::Free => BookCheck::Accepted(n),
