@@ -1,5 +1,5 @@
 -- The text of a comparison by what the call comes to, and how long it is. Assumes nothing.
-use Prim.Native.Nat.{ℕ, _+_, _*_, _≤_, _<_}
+use Prim.Native.Nat.{ℕ, _+_, _*_, _/_, _≤_, _<_}
 use mathlib.Core.Path.{_≡_, _∙_, ap, sym}
 use mathlib.Core.Bool.{Bool, true, false}
 use mathlib.Core.List.{List, _++_}
@@ -126,3 +126,7 @@ module _ (first other asked source second claims out : List ℕ) (r : Comparison
 -- at most 4,097 claims are read
 pub claims-fit : (out : List ℕ) (n : ℕ) → n ≤ length out → length out ≡ 24582 → length (take n out) ≤ 24582
 claims-fit out n h e = omega (arith, length-take-le n out h)
+
+-- three bytes a claim
+pub bytes-serve : (n m : ℕ) → n ≤ 24582 → m ≡ 12291 → 3 * (n / 6) ≤ m
+bytes-serve n m h e = omega arith

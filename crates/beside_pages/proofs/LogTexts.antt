@@ -1,5 +1,5 @@
 -- The text of a log by the call's outcome, and how long it is. Assumes nothing.
-use Prim.Native.Nat.{ℕ, _+_, _*_, _≤_, _<_}
+use Prim.Native.Nat.{ℕ, _+_, _*_, _/_, _≤_, _<_}
 use mathlib.Core.Path.{_≡_, _∙_, ap, sym}
 use mathlib.Core.List.{List, _++_}
 use native.Mathlib.Omega.{arith}
@@ -89,6 +89,10 @@ module _ (book log source other out : List ℕ) (r : Replicated) (d : Determined
 -- at most 32,769 entries are read
 pub log-fits : (out : List ℕ) (n : ℕ) → n ≤ length out → length out ≡ 65538 → length (take n out) ≤ 65538
 log-fits out n h e = omega (arith, length-take-le n out h)
+
+-- two bytes an entry are as many as the log has
+pub bytes-serve : (n m : ℕ) → n ≤ 65538 → m ≡ 65538 → (2 * (n / 2) ≤ m) × (n ≤ 65538)
+bytes-serve n m h e = (omega arith, h)
 
 pub whole-line : (i piece apart flag a f : ℕ) → a ≡ apart → f ≡ flag
     → field (decimal i) 32 ++ (field (decimal piece) 32 ++ (field (decimal a) 32 ++ field (entry f flags) 10)) ≡ entryLine i piece apart flag

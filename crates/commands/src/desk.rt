@@ -8,84 +8,43 @@ use crate::Export;
 use crate::InputPage;
 use crate::WordsPage;
 use change_pages::Changed;
-use matrices::Matrix;
 use pages::Written;
 use text::Form;
 
-pub fn book_page(
-    which: BookPage,
-    source: &[u8],
-    page: &mut [u8],
-    e: &mut Matrix,
-    d: &mut Matrix,
-    t: &mut Matrix,
-    u: &mut Matrix,
-    p: &mut Matrix,
-    q: &mut Matrix,
-) -> Written
+pub fn book_page(which: BookPage, source: &[u8], page: &mut [u8]) -> Written
     ensures { λ r. ⌜ BookPaged which (now (source .entry)) (now (page .entry)) (now (page .exit)) r ⌝ }
 {
     match which {
-        BookPage::Check => book_pages::session::write_check(source, page, e, d, t, u, p, q),
-        BookPage::Why => chain_pages::write_contradiction(source, page, e, d, t, u, p, q),
-        BookPage::Grid => book_pages::grid::write_grid(source, page, e, d, t, u, p, q),
+        BookPage::Check => book_pages::session::write_check(source, page),
+        BookPage::Why => chain_pages::write_contradiction(source, page),
+        BookPage::Grid => book_pages::grid::write_grid(source, page),
         BookPage::Show => book_pages::show::write_show(source, page),
     }
 }
 
-pub fn words_page(
-    which: WordsPage,
-    source: &[u8],
-    words: &[u8],
-    page: &mut [u8],
-    e: &mut Matrix,
-    d: &mut Matrix,
-    t: &mut Matrix,
-    u: &mut Matrix,
-    p: &mut Matrix,
-    q: &mut Matrix,
-) -> Written
+pub fn words_page(which: WordsPage, source: &[u8], words: &[u8], page: &mut [u8]) -> Written
     ensures { λ r. ⌜ WordsPaged which (now (source .entry)) (now (words .entry)) (now (page .entry)) (now (page .exit)) r ⌝ }
 {
     match which {
-        WordsPage::Ask => book_pages::session::write_ask_words(
-            source,
-            words,
-            page,
-            e,
-            d,
-            t,
-            u,
-            p,
-            q,
-        ),
-        WordsPage::Why => chain_pages::write_why(source, words, page, e, d, t),
+        WordsPage::Ask => book_pages::session::write_ask_words(source, words, page),
+        WordsPage::Why => chain_pages::write_why(source, words, page),
         WordsPage::Inside => book_pages::listing::write_list(
             source,
             records::PART as usize,
             words,
             page,
-            e,
-            d,
-            t,
         ),
         WordsPage::Touching => book_pages::listing::write_list(
             source,
             records::MEETS as usize,
             words,
             page,
-            e,
-            d,
-            t,
         ),
         WordsPage::Apart => book_pages::listing::write_list(
             source,
             records::APART as usize,
             words,
             page,
-            e,
-            d,
-            t,
         ),
     }
 }
@@ -103,23 +62,12 @@ pub fn words_form(which: WordsPage) -> Form
     }
 }
 
-pub fn input_page(
-    which: InputPage,
-    source: &[u8],
-    input: &[u8],
-    page: &mut [u8],
-    e: &mut Matrix,
-    d: &mut Matrix,
-    t: &mut Matrix,
-    u: &mut Matrix,
-    p: &mut Matrix,
-    q: &mut Matrix,
-) -> Written
+pub fn input_page(which: InputPage, source: &[u8], input: &[u8], page: &mut [u8]) -> Written
     ensures { λ r. ⌜ InputPaged which (now (source .entry)) (now (input .entry)) (now (page .entry)) (now (page .exit)) r ⌝ }
 {
     match which {
-        InputPage::Ask => book_pages::session::write_ask(source, input, page, e, d, t, u, p, q),
-        InputPage::Replicates => beside_pages::log::write_log(source, input, page, e, d, t, u),
+        InputPage::Ask => book_pages::session::write_ask(source, input, page),
+        InputPage::Replicates => beside_pages::log::write_log(source, input, page),
     }
 }
 
@@ -139,29 +87,12 @@ pub fn change_page(
     words: &[u8],
     out: &mut [u8; change_pages::OUT_BYTES],
     page: &mut [u8],
-    e: &mut Matrix,
-    d: &mut Matrix,
-    t: &mut Matrix,
-    u: &mut Matrix,
-    p: &mut Matrix,
-    q: &mut Matrix,
 ) -> Changed
     ensures { λ r. ⌜ Made (changeBy which (now (source .entry)) (now (words .entry))) (now (out .exit)) (now (page .entry)) (now (page .exit)) r ⌝ }
 {
     match which {
-        Change::Add => change_pages::write_added(source, words, out, page, e, d, t, u, p, q),
-        Change::Withdraw => change_pages::write_withdrawn(
-            source,
-            words,
-            out,
-            page,
-            e,
-            d,
-            t,
-            u,
-            p,
-            q,
-        ),
+        Change::Add => change_pages::write_added(source, words, out, page),
+        Change::Withdraw => change_pages::write_withdrawn(source, words, out, page),
     }
 }
 
@@ -170,18 +101,12 @@ pub fn export_page(
     source: &[u8],
     out: &mut [u8; change_pages::OUT_BYTES],
     page: &mut [u8],
-    e: &mut Matrix,
-    d: &mut Matrix,
-    t: &mut Matrix,
-    u: &mut Matrix,
-    p: &mut Matrix,
-    q: &mut Matrix,
 ) -> Changed
     ensures { λ r. ⌜ Made (exportBy which (now (source .entry))) (now (out .exit)) (now (page .entry)) (now (page .exit)) r ⌝ }
 {
     match which {
-        Export::Pack => change_pages::write_packed(source, out, page, e, d, t, u, p, q),
-        Export::Convert => change_pages::write_converted(source, out, page, e, d, t),
+        Export::Pack => change_pages::write_packed(source, out, page),
+        Export::Convert => change_pages::write_converted(source, out, page),
     }
 }
 

@@ -35,7 +35,7 @@ use Rattle.closure.specs.Counted.{Counted}
 use Rattle.outcomes.specs.Outcome as of
 use Rattle.outcomes.specs.declared.Outcome.{Outcome}
 use Rattle.outcomes.specs.declared.Outcome.the-variants as on
-use Rattle.answers.proofs.Fresh.{fresh-sound}
+use Rattle.answers.proofs.Fresh.{fresh-sound, fresh-runs}
 use Rattle.claims.proofs.Counts.{own-count, counted-settleable, counted-unmarked, counted-free}
 use Rattle.outcomes.proofs.Counts.{runs-refused, derived, entailed}
 use Rattle.compare.specs.declared.Comparison.{Comparison}
@@ -46,7 +46,7 @@ use Rattle.compare.specs.Outcome.{number, together}
 use Rattle.compare.specs.Outcome as numbers
 use Rattle.compare.specs.Demands.{Right, Answered, NoModel, Demanded}
 use Rattle.compare.proofs.Joining.{laid-iff}
-use Rattle.compare.proofs.Rows.{fresh-runs, runs-clash, runs-free, behind, first-counted, second-counted, roomy}
+use Rattle.compare.proofs.Rows.{runs-clash, runs-free, behind, first-counted, second-counted, roomy}
 
 -- ---- a book that is accepted is free, whatever count it is judged with
 

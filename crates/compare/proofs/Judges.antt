@@ -11,34 +11,27 @@ use Rattle.rules.specs.Follows.{clash}
 use Rattle.records.specs.Record.{records}
 use Rattle.records.specs.Facts.{facts}
 use Rattle.records.specs.Marked.{marked}
-use Rattle.records.specs.Check.{claimsCheck}
 use Rattle.records.specs.declared.Refusal.{Refusal}
-use Rattle.records.specs.declared.ClaimsCheck.{ClaimsCheck}
-use Rattle.records.specs.declared.ClaimsCheck.the-variants as claims
 use Rattle.records.proofs.Accepted.{accepted-claims}
 use Rattle.compare.specs.Agreement.{threes}
 use Rattle.outcomes.specs.declared.Outcome.{Outcome}
 use Rattle.outcomes.specs.declared.Outcome.the-variants as on
 use Rattle.compare.specs.declared.Comparison.the-variants.{Compared, Refused}
-use Rattle.compare.specs.Judging.{Judgeable, Answerable, Answered, Sound, Ready, Judged}
+use Rattle.compare.specs.Judging.{Judgeable, Answered, Ready, Judged}
+use Rattle.answers.specs.Judging.{Answerable}
+use Rattle.compare.proofs.JointJoining.{short-books}
 use Rattle.compare.proofs.Joining.{judgeable}
 use Rattle.compare.proofs.Rows.{first-counted, second-counted, first-clashed, second-clashed, both-judged}
-
--- ---- claims that fit
-
-module _ (cs : List ℕ) (n : ℕ) {r : ClaimsCheck} (e : r ≡ claimsCheck n cs) (q : r ≡ claims.Accepted) where
-  pub asked-ready : {s t run : List ℕ} {a b room : ℕ} → n ≡ max a b → Sound s a t b run cs room → Ready s a t b run cs room
-  asked-ready l S = record { sound = S; fit = ap (λ (k : ℕ). claimsCheck k cs) (sym l) ∙ sym e ∙ q }
 
 -- ---- the books
 
 -- the front of an array has room for the answers, which stand there when they are written
-module _ {s t run cs : List ℕ} {a b room : ℕ} (R : Ready s a t b run cs room) where
+module _ {s t cs : List ℕ} {n : ℕ} (R : Ready s t cs n) where
   abbrev zeros : List ℕ
   zeros = replicate {A = ℕ} 4096 0
 
   pub front-fit : records cs ≤ length (replicate {A = ℕ} 4096 0)
-  front-fit = omega (arith, accepted-claims (max a b) cs (R .fit) .few, length-replicate {A = ℕ} 4096 0)
+  front-fit = omega (arith, accepted-claims (max (R .own) (R .other)) cs (R .fit) .few, length-replicate {A = ℕ} 4096 0)
 
   pub front-long : length (take (records cs) (replicate {A = ℕ} 4096 0)) ≡ records cs
   front-long = length-take-le (records cs) zeros front-fit
@@ -54,30 +47,32 @@ module _ {s t run cs : List ℕ} {a b room : ℕ} (R : Ready s a t b run cs room
     answers-there = subst (λ (k : ℕ). take k (ours ++ drop (records cs) zeros) ≡ ours) (l ∙ front-long) (take-append-seam ours (drop (records cs) zeros))
 
 -- two runs of answers, and room for what is written of them
-pub answers-room : {s t run cs : List ℕ} {a b room i k : ℕ} → Ready s a t b run cs room → i ≡ records cs → k ≡ records cs → (k ≡ i) × (3 * i ≤ room)
-answers-room R p q = (q ∙ sym p, rw p (R .sound .rooms))
+pub answers-room : (cs : List ℕ) {room i k : ℕ} → 3 * records cs ≤ room → i ≡ records cs → k ≡ records cs → (k ≡ i) × (3 * i ≤ room)
+answers-room cs h p q = (q ∙ sym p, rw p h)
 
-module _ {s t run cs : List ℕ} {a b n room : ℕ} (R : Ready s a t b run cs room) (e : n ≡ max a b) where
+module _ {s t cs : List ℕ} {n : ℕ} (R : Ready s t cs n) where
   pub first-answerable : {k : ℕ} → k ≡ records cs → Answerable s n cs k
-  first-answerable q = rw e (record { counted = first-counted s t cs [] (R .sound .first) (R .sound .second) (R .fit); fit = R .fit; rooms = q })
+  first-answerable q = rw (R .larger) (record { counted = first-counted s t cs [] (R .first) (R .second) (R .fit); fit = R .fit; rooms = q })
 
   pub second-answerable : {k : ℕ} → k ≡ records cs → Answerable t n cs k
-  second-answerable q = rw e (record { counted = second-counted s t cs [] (R .sound .first) (R .sound .second) (R .fit); fit = R .fit; rooms = q })
+  second-answerable q = rw (R .larger) (record { counted = second-counted s t cs [] (R .first) (R .second) (R .fit); fit = R .fit; rooms = q })
 
-  pub both-judgeable : Judgeable run n
-  both-judgeable = rw (e, R .sound .joint) (judgeable s t a b (R .sound .first) (R .sound .second))
+  pub both-judgeable : Judgeable (s ++ t) n × (length s ≤ 49152) × (length t ≤ 49152)
+  both-judgeable =
+      let short = short-books s t (R .own) (R .other) (R .first) (R .second) in
+      (rw (R .larger) (judgeable s t (R .own) (R .other) (R .first) (R .second)), short .0, short .1)
 
   module _ {o : Outcome} {ours : List ℕ} (A : Answered s n cs o ours) where
     pub first-refuses : {r : Refusal} {i : ℕ} {out : List ℕ} → o ≡ on.Refused r i → Judged s t cs out (Refused 1 r i) out
-    first-refuses {out = out} q = first-clashed s t cs out (R .sound .first) (R .sound .second) (R .fit) (rw e at (A .outcome-is)) q
+    first-refuses {out = out} q = first-clashed s t cs out (R .first) (R .second) (R .fit) (rw (R .larger) at (A .outcome-is)) q
 
     module _ {x y z : ℕ} (q : o ≡ on.Accepted x y z) {p : Outcome} {theirs : List ℕ} (B : Answered t n cs p theirs) where
       pub second-refuses : {r : Refusal} {i : ℕ} {out : List ℕ} → p ≡ on.Refused r i → Judged s t cs out (Refused 2 r i) out
-      second-refuses {out = out} h = second-clashed s t cs out (R .sound .first) (R .sound .second) (R .fit) (rw e at (A .outcome-is)) q (rw e at (B .outcome-is)) h
+      second-refuses {out = out} h = second-clashed s t cs out (R .first) (R .second) (R .fit) (rw (R .larger) at (A .outcome-is)) q (rw (R .larger) at (B .outcome-is)) h
 
       pub both-answer :
-          {u v w : ℕ} {c : Bool} {ours′ theirs′ : List ℕ} (out : List ℕ) {out′ : List ℕ} → p ≡ on.Accepted u v w → c ≡ not (clash (marked run) n (facts run)) → ours′ ≡ ours → theirs′ ≡ theirs
+          {u v w : ℕ} {c : Bool} {ours′ theirs′ : List ℕ} (out : List ℕ) {out′ : List ℕ} → p ≡ on.Accepted u v w → c ≡ not (clash (marked (s ++ t)) n (facts (s ++ t))) → ours′ ≡ ours → theirs′ ≡ theirs
           → out′ ≡ front (threes (λ i. getD ours′ i 0) (λ i. getD theirs′ i 0) (length ours′)) out → Judged s t cs out (Compared c) out′
       both-answer {c = c} out {out′ = out′} h d x y f =
-          both-judged s t cs out (R .sound .first) (R .sound .second) (R .fit) ours theirs out′ c (rw e at A) (rw e at B) q h (rw (e, R .sound .joint) at d)
+          both-judged s t cs out (R .first) (R .second) (R .fit) ours theirs out′ c (rw (R .larger) at A) (rw (R .larger) at B) q h (rw (R .larger) at d)
           (f ∙ ap₂ (λ (x y : List ℕ). front (threes (λ i. getD x i 0) (λ i. getD y i 0) (length x)) out) x y)

@@ -17,7 +17,6 @@ use Rattle.rules.proofs.Runs.{shortest-same}
 use Rattle.records.specs.Record.{records}
 use Rattle.records.specs.Facts.{entries, facts}
 use Rattle.records.specs.Marked.{marked}
-use Rattle.records.specs.Refusal.{scan}
 use Rattle.records.specs.Check.{bookCheck, claimsCheck}
 use Rattle.records.specs.declared.Refusal.{Refusal}
 use Rattle.records.specs.declared.Refusal.the-variants.{ShortBuffer, Contradiction}
@@ -34,9 +33,9 @@ use Rattle.index.specs.Parts as parts
 use Rattle.outcomes.specs.Call as calls
 use Rattle.records.specs.Claimed.{answersTo, claimed, pickedFacts}
 use Rattle.outcomes.specs.Call.{pairsOf, byRuns}
-use Rattle.outcomes.specs.Fresh.{freshCall}
-use Rattle.outcomes.specs.Lent.{Lent}
-use Rattle.answers.specs.Judging as judging
+use Rattle.outcomes.specs.Fresh.{freshCall, uncounted}
+use Rattle.outcomes.specs.Lent.{unasked}
+use Rattle.answers.proofs.Fresh.{fresh-refused, fresh-runs, counts-refused, counts-accepted}
 use Rattle.closure.specs.Counted.{Counted}
 use Rattle.outcomes.specs.declared.Outcome.{Outcome}
 use Rattle.outcomes.specs.declared.Outcome.the-variants as on
@@ -45,20 +44,10 @@ use Rattle.compare.specs.declared.Comparison.{Comparison}
 use Rattle.compare.specs.declared.Comparison.the-variants.{Compared, Refused}
 use Rattle.compare.specs.Answers.{answerOf, bytesOf}
 use Rattle.compare.specs.Call.{byBook, byClaims, byRows, outcome, left, Determined}
-use Rattle.compare.specs.Judging.{Answered, Judged}
+use Rattle.compare.specs.Judging.{Answered, Ready, Rows, Judged}
 use Rattle.compare.proofs.Joining.{laid-is}
 
 -- ---- one book
-
--- a fresh call on a book that rows 3 to 9 accept
-pub fresh-runs : (s : List ℕ) (n : ℕ) → bookCheck s ≡ book.Accepted n → freshCall s [] ≡ byRuns s n
-unfolding freshCall calls.byBook calls.byClaims claimsCheck scan
-fresh-runs s n e = rw e
-
--- or refuse
-pub fresh-refused : (s : List ℕ) {r : Refusal} {i : ℕ} → bookCheck s ≡ book.Refused r i → freshCall s [] ≡ on.Refused r i
-unfolding freshCall calls.byBook
-fresh-refused s e = rw e
 
 -- what row 14 comes to
 module _ (s : List ℕ) (n : ℕ) where
@@ -102,29 +91,30 @@ answers-length s n cs = tab-length _ 0 (records cs)
 
 -- what judging it leaves in the lent answers
 pub answers-left :
-    (s : List ℕ) (n : ℕ) (cs : List ℕ) (l l′ : Lent) (r : Outcome) → length (l .answers) ≡ records cs → judging.Judged s n cs l r l′ → Answered s n cs r (l′ .answers)
+    (s : List ℕ) (n : ℕ) (cs was : List ℕ) (r : Outcome) (answers : List ℕ) → length was ≡ records cs → r ≡ byRuns s n → answers ≡ calls.left s cs (unasked was) r .answers → Answered s n cs r answers
 unfolding calls.left calls.indexed
-answers-left s n cs l l′ r long J = record { outcome-is = J .outcome-is; answers-are = λ a b c q. are a b c q (known (leb (shortestClash (marked s) n (entries s)) (records s))) }
+answers-left s n cs was r answers long o l = record { outcome-is = o; answers-are = λ a b c q. are a b c q (known (leb (shortestClash (marked s) n (entries s)) (records s))) }
   where
-    own : (a b c : ℕ) → a ≡ n → r ≡ on.Accepted a b c → l′ .answers ≡ answersTo s n cs
+    own : (a b c : ℕ) → a ≡ n → r ≡ on.Accepted a b c → answers ≡ answersTo s n cs
     own a b c e q =
-        ap (λ (x : Lent). x .answers) (J .left-is ∙ ap (calls.left s cs l) q)
-        ∙ front-whole (answersTo s a cs) (l .answers) (answers-length s a cs ∙ sym long)
+        l
+        ∙ ap (λ (x : Outcome). calls.left s cs (unasked was) x .answers) q
+        ∙ front-whole (answersTo s a cs) was (answers-length s a cs ∙ sym long)
         ∙ ap (λ (k : ℕ). answersTo s k cs) e
 
-    are : (a b c : ℕ) → r ≡ on.Accepted a b c → Known (leb (shortestClash (marked s) n (entries s)) (records s)) → l′ .answers ≡ answersTo s n cs
-    are a b c q (is-false t) = let z = sym q ∙ J .outcome-is ∙ runs-free s n t in let e : a ≡ n = cc in own a b c e q
-    are a b c q (is-true t) = let z = sym q ∙ J .outcome-is ∙ runs-clash s n t in let y : _≡_ {A = ℕ} 0 1 = cc in absurd (omega arith)
+    are : (a b c : ℕ) → r ≡ on.Accepted a b c → Known (leb (shortestClash (marked s) n (entries s)) (records s)) → answers ≡ answersTo s n cs
+    are a b c q (is-false t) = let z = sym q ∙ o ∙ runs-free s n t in let e : a ≡ n = cc in own a b c e q
+    are a b c q (is-true t) = let z = sym q ∙ o ∙ runs-clash s n t in let y : _≡_ {A = ℕ} 0 1 = cc in absurd (omega arith)
 
 -- a fresh call on it, and what comes after
-module _ (k : ℕ) (s : List ℕ) (rest : Comparison) {o : Outcome} (e : o ≡ freshCall s []) where
-  pub after-refused : {r : Refusal} {i : ℕ} → o ≡ on.Refused r i → Refused k r i ≡ byBook k (freshCall s []) rest
+module _ (k : ℕ) (s : List ℕ) (rest : Comparison) where
+  pub after-refused : {r : Refusal} {i : ℕ} → uncounted (freshCall s []) ≡ book.Refused r i → Refused k r i ≡ byBook k (freshCall s []) rest
   unfolding byBook
-  after-refused q = sym (ap (λ (x : Outcome). byBook k x rest) (sym e ∙ q))
+  after-refused q = sym (ap (λ (x : Outcome). byBook k x rest) (counts-refused (freshCall s []) q))
 
-  pub after-accepted : {a b c : ℕ} → o ≡ on.Accepted a b c → rest ≡ byBook k (freshCall s []) rest
+  pub after-accepted : {n : ℕ} → uncounted (freshCall s []) ≡ book.Accepted n → rest ≡ byBook k (freshCall s []) rest
   unfolding byBook
-  after-accepted q = sym (ap (λ (x : Outcome). byBook k x rest) (sym e ∙ q))
+  after-accepted q = sym (ap (λ (x : Outcome). byBook k x rest) (counts-accepted (freshCall s []) q .2))
 
 -- ---- two books
 
@@ -137,38 +127,33 @@ module _ (s t cs out : List ℕ) where
   unfolding left
   refused k r i e = (e, refl)
 
-  -- rows 3 to 9 of the first
-  pub first-refused : {r : Refusal} {i : ℕ} → bookCheck s ≡ book.Refused r i → Judged s t cs out (Refused 1 r i) out
+  -- where a row before 14 refuses, the fresh calls and the refusal tell which book it is of, or that it is the claims'
+  pub rows-first : {r : Refusal} {i : ℕ} → bookCheck s ≡ book.Refused r i → byRows s t cs ≡ byBook 1 (freshCall s []) (byBook 2 (freshCall t []) (Refused 0 r i))
   unfolding byRows byBook
-  first-refused {r} {i} e = refused 1 r i (sym (ap (λ (o : Outcome). byBook 1 o (behind s t cs)) (fresh-refused s e)))
+  rows-first {r} {i} e =
+      ap (λ (o : Outcome). byBook 1 o (behind s t cs)) (fresh-refused s e)
+      ∙ sym (ap (λ (o : Outcome). byBook 1 o (byBook 2 (freshCall t []) (Refused 0 r i))) (fresh-refused s e))
 
-  -- what comes after a row that lets pass is a refusal, so nothing is written
-  pub rest-refused : (k j : ℕ) (r : Refusal) (i : ℕ) (o : Outcome) (d : Comparison) → d ≡ byBook k o (Refused j r i) → out ≡ left s t cs out d
+  pub rows-second : {r : Refusal} {i : ℕ} → bookCheck t ≡ book.Refused r i → byRows s t cs ≡ byBook 1 (freshCall s []) (byBook 2 (freshCall t []) (Refused 0 r i))
+  unfolding byRows byBook
+  rows-second {r} {i} e =
+      ap (byBook 1 (freshCall s []))
+      (ap (λ (o : Outcome). byBook 2 o (byClaims (consistent s t) (claimsCheck (pieces s t) cs))) (fresh-refused t e)
+      ∙ sym (ap (λ (o : Outcome). byBook 2 o (Refused 0 r i)) (fresh-refused t e)))
+
+  -- then nothing is written
+  pub rest-refused : (r : Refusal) (i : ℕ) (o u : Outcome) (d : Comparison) → d ≡ byBook 1 o (byBook 2 u (Refused 0 r i)) → out ≡ left s t cs out d
   unfolding left byBook
-  rest-refused k j r i (on.Refused q x) d e = rw e
-  rest-refused k j r i (on.Accepted a b c) d e = rw e
-
-  pub second-refused : {r : Refusal} {i : ℕ} (d : Comparison) → bookCheck t ≡ book.Refused r i → d ≡ byBook 1 (freshCall s []) (Refused 2 r i) → Judged s t cs out d out
-  unfolding byRows byBook
-  second-refused {r} {i} d e q = (
-    q ∙ ap (byBook 1 (freshCall s [])) (sym (ap (λ (o : Outcome). byBook 2 o (byClaims (consistent s t) (claimsCheck (pieces s t) cs))) (fresh-refused t e))),
-    rest-refused 1 2 r i (freshCall s []) d q,
-  )
+  rest-refused r i (on.Refused x y) u d e = rw e
+  rest-refused r i (on.Accepted x y v) (on.Refused p q) d e = rw e
+  rest-refused r i (on.Accepted x y v) (on.Accepted p q w) d e = rw e
 
   module _ {a b : ℕ} (first : bookCheck s ≡ book.Accepted a) (second : bookCheck t ≡ book.Accepted b) where
-    pub asked-refused :
-        {r : Refusal} {i : ℕ} (d c : Comparison) → claimsCheck (max a b) cs ≡ claims.Refused r i → c ≡ byBook 2 (freshCall t []) (Refused 0 r i)
-        → d ≡ byBook 1 (freshCall s []) c → Judged s t cs out d out
-    unfolding byRows byClaims byBook left
-    asked-refused {r} {i} d c e p q =
-        let f : claimsCheck (pieces s t) cs ≡ claims.Refused r i = ap (λ (n : ℕ). claimsCheck n cs) (sym (joint-pieces s t a b first second)) ∙ e in (
-          q ∙ ap (byBook 1 (freshCall s [])) (p ∙ ap (λ (x : _). byBook 2 (freshCall t []) (byClaims (consistent s t) x)) (sym f)),
-          untouched (freshCall s []) (freshCall t []) (q ∙ ap (byBook 1 (freshCall s [])) p),
-        )
-      where
-        untouched : (o u : Outcome) → d ≡ byBook 1 o (byBook 2 u (Refused 0 r i)) → out ≡ left s t cs out d
-        untouched (on.Refused x y) u z = rw z
-        untouched (on.Accepted x y v) u z = rest-refused 2 0 r i u d z
+    pub rows-claims : {r : Refusal} {i : ℕ} → claimsCheck (max a b) cs ≡ claims.Refused r i → byRows s t cs ≡ byBook 1 (freshCall s []) (byBook 2 (freshCall t []) (Refused 0 r i))
+    unfolding byRows byClaims
+    rows-claims {r} {i} e =
+        let f : claimsCheck (pieces s t) cs ≡ claims.Refused r i = ap (λ (n : ℕ). claimsCheck n cs) (sym (joint-pieces s t a b first second)) ∙ e in
+        ap (λ (x : _). byBook 1 (freshCall s []) (byBook 2 (freshCall t []) (byClaims (consistent s t) x))) f
 
     -- ---- behind all rows but 14
 
@@ -231,3 +216,18 @@ roomy s t cs room l = rw (le-ltb room (3 * records cs) l, outcome)
 
 pub rows-determined : (s t cs out : List ℕ) (r : Comparison) (out′ : List ℕ) → 3 * records cs ≤ length out → Judged s t cs out r out′ → Determined s t cs out r out′
 rows-determined s t cs out r out′ l J = (J .0 ∙ sym (roomy s t cs (length out) l), J .1)
+
+-- ---- rows 3 to 13
+
+module _ (s t cs : List ℕ) where
+  pub rows-refuse : {x : Refusal} {i : ℕ} → byRows s t cs ≡ byBook 1 (freshCall s []) (byBook 2 (freshCall t []) (Refused 0 x i)) → Rows s t cs (book.Refused x i)
+  rows-refuse {x} {i} e = record {
+    accepted = λ n q. let z : _≡_ {A = ℕ} 0 1 = cc in absurd (omega arith);
+    refused = λ y j q. let a : x ≡ y = cc in let b : i ≡ j = cc in rw (a, b) at e;
+  }
+
+  pub rows-accept : {n : ℕ} → Ready s t cs n → Rows s t cs (book.Accepted n)
+  rows-accept {n} R = record {
+    accepted = λ m q. let a : n ≡ m = cc in rw a at R;
+    refused = λ y j q. let z : _≡_ {A = ℕ} 0 1 = cc in absurd (omega arith);
+  }

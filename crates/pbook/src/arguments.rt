@@ -1,6 +1,7 @@
 // The program's arguments: a path, and words joined into a line.
 ghost use Rattle.io.specs.Counts.{Counts};
 use files::Got;
+use text::Form;
 
 // The places of the words of a command: the book, and what follows it.
 pub const BOOK: usize = 2;
@@ -20,7 +21,7 @@ pub fn path(i: usize, buf: &mut [u8]) -> Got
 }
 
 // The arguments from number `first` on with a space between. Where they do not fit, the whole line, which is too long then.
-pub fn words(first: usize, line: &mut [u8]) -> usize
+fn words(first: usize, line: &mut [u8]) -> usize
     ensures { λ r. ⌜ Counts r (now (line .exit)) ⌝ }
 {
     let count = os::arg_count();
@@ -43,4 +44,16 @@ pub fn words(first: usize, line: &mut [u8]) -> usize
         return 0;
     }
     at - 1
+}
+
+// The words behind the book. They are told first where they are wrong: they are not judged by a file that cannot be read.
+pub fn said(form: Form, line: &mut [u8], page: &mut [u8]) -> Got
+    ensures { λ r. ⌜ Counts (r .n) (now (line .exit)) ⌝ }
+{
+    let n = words(NEXT, line);
+    let bad = commands::desk::end_of(book_pages::words::write_words(form, &line[..n], page));
+    if 0 < bad {
+        files::write_page(page, bad);
+    }
+    Got { n, failed: 0 < bad }
 }

@@ -1,10 +1,10 @@
 // The commands that write a file. The lock is made before the book is read, so that nobody else's change is lost.
+ghost use mathlib.Core.Path.{_≡_};
 ghost use Rattle.io.specs.Counts.{Counts};
 use commands::Change;
 use commands::Export;
 use files::changing;
 use files::changing::Standing;
-use matrices::Matrix;
 
 // A book that was read under a lock: the lock's descriptor, how many bytes were read, the file's mode. Where that failed it was told, and nothing is left.
 struct Open {
@@ -12,6 +12,17 @@ struct Open {
     n: usize,
     mode: u32,
     failed: bool,
+}
+
+fn fail(file: i32) -> Open
+    ensures { λ r. ⌜ r .n ≡ 0 ⌝ }
+{
+    Open {
+        file,
+        n: 0,
+        mode: 0,
+        failed: true,
+    }
 }
 
 // Reads the book that is to be changed, whose lock is made.
@@ -24,22 +35,12 @@ fn open_plain(file: i32, path: &[u8], source: &mut [u8]) -> Open
     }
     let Standing::Plain(mode) = standing else {
         changing::drop_lock(file, path);
-        return Open {
-            file,
-            n: 0,
-            mode: 0,
-            failed: true,
-        };
+        return fail(file);
     };
     let got = files::read_file(path, source);
     if got.failed {
         changing::drop_lock(file, path);
-        return Open {
-            file,
-            n: 0,
-            mode: 0,
-            failed: true,
-        };
+        return fail(file);
     }
     Open {
         file,
@@ -55,49 +56,20 @@ fn open_book(path: &[u8], source: &mut [u8]) -> Open
 {
     let file = changing::make_lock(path);
     if file < 0 {
-        return Open {
-            file,
-            n: 0,
-            mode: 0,
-            failed: true,
-        };
+        return fail(file);
     }
     open_plain(file, path, source)
 }
 
 // A book changed by words that can be read.
-fn change_book(
-    which: Change,
-    path: &[u8],
-    words: &[u8],
-    source: &mut [u8],
-    page: &mut [u8],
-    e: &mut Matrix,
-    d: &mut Matrix,
-    t: &mut Matrix,
-    u: &mut Matrix,
-    p: &mut Matrix,
-    q: &mut Matrix,
-) {
+fn change_book(which: Change, path: &[u8], words: &[u8], source: &mut [u8], page: &mut [u8]) {
     let open = open_book(path, source);
     if open.failed {
         return;
     }
     let n = open.n;
     let mut out = [0u8; change_pages::OUT_BYTES];
-    let made = commands::desk::change_page(
-        which,
-        &source[..n],
-        words,
-        &mut out,
-        page,
-        e,
-        d,
-        t,
-        u,
-        p,
-        q,
-    );
+    let made = commands::desk::change_page(which, &source[..n], words, &mut out, page);
     let written = made.written;
     let end = commands::desk::end_of(written);
     if made.changed {
@@ -110,27 +82,11 @@ fn change_book(
     files::write_page(page, end);
 }
 
-// The words are told first, before the lock is made.
-pub fn change(
-    which: Change,
-    source: &mut [u8],
-    page: &mut [u8],
-    e: &mut Matrix,
-    d: &mut Matrix,
-    t: &mut Matrix,
-    u: &mut Matrix,
-    p: &mut Matrix,
-    q: &mut Matrix,
-) {
+// The words are read before the lock is made.
+pub fn change(which: Change, source: &mut [u8], page: &mut [u8]) {
     let mut line = io::buffer();
-    let said = crate::arguments::words(crate::arguments::NEXT, &mut line);
-    let bad = commands::desk::end_of(book_pages::words::write_words(
-        commands::desk::change_form(which),
-        &line[..said],
-        page,
-    ));
-    if 0 < bad {
-        files::write_page(page, bad);
+    let words = crate::arguments::said(commands::desk::change_form(which), &mut line, page);
+    if words.failed {
         return;
     }
     let mut path = io::buffer();
@@ -138,20 +94,9 @@ pub fn change(
     if book.failed {
         return;
     }
-    let length = book.n;
-    change_book(
-        which,
-        &path[..length],
-        &line[..said],
-        source,
-        page,
-        e,
-        d,
-        t,
-        u,
-        p,
-        q,
-    );
+    let n = book.n;
+    let m = words.n;
+    change_book(which, &path[..n], &line[..m], source, page);
 }
 
 // Makes the lock of the file that is written to, and reads the book.
@@ -160,22 +105,12 @@ fn open_other(target: &[u8], path: &[u8], source: &mut [u8]) -> Open
 {
     let file = changing::make_lock(target);
     if file < 0 {
-        return Open {
-            file,
-            n: 0,
-            mode: 0,
-            failed: true,
-        };
+        return fail(file);
     }
     let got = files::read_file(path, source);
     if got.failed {
         changing::drop_lock(file, target);
-        return Open {
-            file,
-            n: 0,
-            mode: 0,
-            failed: true,
-        };
+        return fail(file);
     }
     Open {
         file,
@@ -186,26 +121,14 @@ fn open_other(target: &[u8], path: &[u8], source: &mut [u8]) -> Open
 }
 
 // A book written to another file.
-fn export_book(
-    which: Export,
-    path: &[u8],
-    target: &[u8],
-    source: &mut [u8],
-    page: &mut [u8],
-    e: &mut Matrix,
-    d: &mut Matrix,
-    t: &mut Matrix,
-    u: &mut Matrix,
-    p: &mut Matrix,
-    q: &mut Matrix,
-) {
+fn export_book(which: Export, path: &[u8], target: &[u8], source: &mut [u8], page: &mut [u8]) {
     let open = open_other(target, path, source);
     if open.failed {
         return;
     }
     let n = open.n;
     let mut out = [0u8; change_pages::OUT_BYTES];
-    let made = commands::desk::export_page(which, &source[..n], &mut out, page, e, d, t, u, p, q);
+    let made = commands::desk::export_page(which, &source[..n], &mut out, page);
     let written = made.written;
     let end = commands::desk::end_of(written);
     if made.changed {
@@ -218,17 +141,7 @@ fn export_book(
     files::write_page(page, end);
 }
 
-pub fn export(
-    which: Export,
-    source: &mut [u8],
-    page: &mut [u8],
-    e: &mut Matrix,
-    d: &mut Matrix,
-    t: &mut Matrix,
-    u: &mut Matrix,
-    p: &mut Matrix,
-    q: &mut Matrix,
-) {
+pub fn export(which: Export, source: &mut [u8], page: &mut [u8]) {
     let mut path = io::buffer();
     let book = crate::arguments::path(crate::arguments::BOOK, &mut path);
     if book.failed {
@@ -241,19 +154,7 @@ pub fn export(
     }
     let length = book.n;
     let reach = other.n;
-    export_book(
-        which,
-        &path[..length],
-        &target[..reach],
-        source,
-        page,
-        e,
-        d,
-        t,
-        u,
-        p,
-        q,
-    );
+    export_book(which, &path[..length], &target[..reach], source, page);
 }
 
 // An empty book in a new file.

@@ -1,4 +1,4 @@
-// The laboratory's program: a command, a book, and words in the arguments; a page out. The arrays stand here, and each family of commands is lent what it uses.
+// The laboratory's program: a command, a book, and words in the arguments; a page out. The texts and pages stand here, and each family of commands is lent what it uses.
 
 mod arguments;
 mod buffers;
@@ -6,7 +6,6 @@ mod changes;
 mod reading;
 
 use commands::Command;
-use matrices::Matrix;
 
 // The list of commands.
 fn help() {
@@ -22,27 +21,16 @@ fn named() -> Command {
 }
 
 // `long` has room for the longest page, and for the longest chain that `verify` reads; `short` for the page of a command that reads more than that.
-fn run(
-    source: &mut [u8],
-    other: &mut [u8],
-    long: &mut [u8],
-    short: &mut [u8],
-    e: &mut Matrix,
-    d: &mut Matrix,
-    t: &mut Matrix,
-    u: &mut Matrix,
-    p: &mut Matrix,
-    q: &mut Matrix,
-) {
+fn run(source: &mut [u8], other: &mut [u8], long: &mut [u8], short: &mut [u8]) {
     let command = named();
     match command {
-        Command::Book(which) => reading::book(which, source, long, e, d, t, u, p, q),
-        Command::Words(which) => reading::words(which, source, long, e, d, t, u, p, q),
-        Command::Input(which) => reading::input(which, source, other, long, e, d, t, u, p, q),
-        Command::Verify => reading::verify(source, long, short, e, d, t, u, p, q),
-        Command::Compare => reading::compare(source, other, long, short, e, d, t, u, p, q),
-        Command::Edit(which) => changes::change(which, source, short, e, d, t, u, p, q),
-        Command::Write(which) => changes::export(which, source, short, e, d, t, u, p, q),
+        Command::Book(which) => reading::book(which, source, long),
+        Command::Words(which) => reading::words(which, source, long),
+        Command::Input(which) => reading::input(which, source, other, long),
+        Command::Verify => reading::verify(source, long, short),
+        Command::Compare => reading::compare(source, other, long, short),
+        Command::Edit(which) => changes::change(which, source, short),
+        Command::Write(which) => changes::export(which, source, short),
         Command::New => changes::new(short),
         Command::Help => help(),
     }
@@ -53,22 +41,5 @@ fn main() {
     let mut other = buffers::text();
     let mut long = buffers::long_page();
     let mut short = buffers::page();
-    let mut e = [0u64; matrices::WORDS];
-    let mut d = [0u64; matrices::WORDS];
-    let mut t = [0u64; matrices::WORDS];
-    let mut u = [0u64; matrices::WORDS];
-    let mut p = [0u64; matrices::WORDS];
-    let mut q = [0u64; matrices::WORDS];
-    run(
-        &mut source,
-        &mut other,
-        &mut long,
-        &mut short,
-        &mut e,
-        &mut d,
-        &mut t,
-        &mut u,
-        &mut p,
-        &mut q,
-    );
+    run(&mut source, &mut other, &mut long, &mut short);
 }

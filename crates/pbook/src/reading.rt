@@ -4,7 +4,6 @@ use commands::BookPage;
 use commands::InputPage;
 use commands::WordsPage;
 use files::Got;
-use matrices::Matrix;
 use pages::Written;
 
 // Writes a page, or nothing of one that has no room.
@@ -25,47 +24,20 @@ fn read_named(i: usize, buf: &mut [u8]) -> Got
     files::read_file(&path[..length], buf)
 }
 
-pub fn book(
-    which: BookPage,
-    source: &mut [u8],
-    page: &mut [u8],
-    e: &mut Matrix,
-    d: &mut Matrix,
-    t: &mut Matrix,
-    u: &mut Matrix,
-    p: &mut Matrix,
-    q: &mut Matrix,
-) {
+pub fn book(which: BookPage, source: &mut [u8], page: &mut [u8]) {
     let got = read_named(crate::arguments::BOOK, source);
     if got.failed {
         return;
     }
     let n = got.n;
-    let written = commands::desk::book_page(which, &source[..n], page, e, d, t, u, p, q);
+    let written = commands::desk::book_page(which, &source[..n], page);
     print(written, page);
 }
 
-// The words are told first: they are not judged by a file that cannot be read.
-pub fn words(
-    which: WordsPage,
-    source: &mut [u8],
-    page: &mut [u8],
-    e: &mut Matrix,
-    d: &mut Matrix,
-    t: &mut Matrix,
-    u: &mut Matrix,
-    p: &mut Matrix,
-    q: &mut Matrix,
-) {
+pub fn words(which: WordsPage, source: &mut [u8], page: &mut [u8]) {
     let mut line = io::buffer();
-    let said = crate::arguments::words(crate::arguments::NEXT, &mut line);
-    let bad = commands::desk::end_of(book_pages::words::write_words(
-        commands::desk::words_form(which),
-        &line[..said],
-        page,
-    ));
-    if 0 < bad {
-        files::write_page(page, bad);
+    let words = crate::arguments::said(commands::desk::words_form(which), &mut line, page);
+    if words.failed {
         return;
     }
     let got = read_named(crate::arguments::BOOK, source);
@@ -73,33 +45,12 @@ pub fn words(
         return;
     }
     let n = got.n;
-    let written = commands::desk::words_page(
-        which,
-        &source[..n],
-        &line[..said],
-        page,
-        e,
-        d,
-        t,
-        u,
-        p,
-        q,
-    );
+    let m = words.n;
+    let written = commands::desk::words_page(which, &source[..n], &line[..m], page);
     print(written, page);
 }
 
-pub fn input(
-    which: InputPage,
-    source: &mut [u8],
-    input: &mut [u8],
-    page: &mut [u8],
-    e: &mut Matrix,
-    d: &mut Matrix,
-    t: &mut Matrix,
-    u: &mut Matrix,
-    p: &mut Matrix,
-    q: &mut Matrix,
-) {
+pub fn input(which: InputPage, source: &mut [u8], input: &mut [u8], page: &mut [u8]) {
     let got = read_named(crate::arguments::BOOK, source);
     if got.failed {
         return;
@@ -110,33 +61,12 @@ pub fn input(
         return;
     }
     let m = more.n;
-    let written = commands::desk::input_page(
-        which,
-        &source[..n],
-        &input[..m],
-        page,
-        e,
-        d,
-        t,
-        u,
-        p,
-        q,
-    );
+    let written = commands::desk::input_page(which, &source[..n], &input[..m], page);
     print(written, page);
 }
 
 // A chain is a page of `why`: its buffer has a byte more than the longest.
-pub fn verify(
-    source: &mut [u8],
-    chain: &mut [u8],
-    page: &mut [u8],
-    e: &mut Matrix,
-    d: &mut Matrix,
-    t: &mut Matrix,
-    u: &mut Matrix,
-    p: &mut Matrix,
-    q: &mut Matrix,
-) {
+pub fn verify(source: &mut [u8], chain: &mut [u8], page: &mut [u8]) {
     let got = read_named(crate::arguments::BOOK, source);
     if got.failed {
         return;
@@ -147,22 +77,11 @@ pub fn verify(
         return;
     }
     let m = more.n;
-    let written = chain_pages::write_verdict(&source[..n], &chain[..m], page, e, d, t, u, p, q);
+    let written = chain_pages::write_verdict(&source[..n], &chain[..m], page);
     print(written, page);
 }
 
-pub fn compare(
-    source: &mut [u8],
-    second: &mut [u8],
-    claims: &mut [u8],
-    page: &mut [u8],
-    e: &mut Matrix,
-    d: &mut Matrix,
-    t: &mut Matrix,
-    u: &mut Matrix,
-    p: &mut Matrix,
-    q: &mut Matrix,
-) {
+pub fn compare(source: &mut [u8], second: &mut [u8], claims: &mut [u8], page: &mut [u8]) {
     let got = read_named(crate::arguments::BOOK, source);
     if got.failed {
         return;
@@ -183,12 +102,6 @@ pub fn compare(
         &second[..k],
         &claims[..m],
         page,
-        e,
-        d,
-        t,
-        u,
-        p,
-        q,
     );
     print(written, page);
 }

@@ -13,8 +13,8 @@ slice-aggregate-judge c = sym (length-take-le _ _ (c .before .before .before .be
 judge-requires : tie.Need-judge-requires
 judge-requires c κs = search needs
 
-enum-known-outcome : tie.Need-enum-known-outcome
-enum-known-outcome c = search needs
+enum-known-judged : tie.Need-enum-known-judged
+enum-known-judged c = search needs
 
 refuse-requires : tie.Need-refuse-requires
 refuse-requires c κs = search needs
@@ -29,13 +29,13 @@ same-length : tie.Need-same-length
 same-length c = search needs
 
 returns : tie.Need-returns
-returns c = made-none _ _ _ _ _ (made-as (judged-refused _ _ _ (c .before .before .before .before .before .before .before .judge .ensures) _ _ (c .before .before .before .before .before .outcome .given .1)) (c .before .before .refuse .ensures))
+returns c = made-none _ _ _ _ _ (made-as (judged-refused _ _ _ (c .before .before .before .before .before .before .before .judge .ensures) _ _ (c .before .before .before .before .before .judged .given .1)) (c .before .before .refuse .ensures))
 
 same-length-2 : tie.Need-same-length-2
 same-length-2 c = search needs
 
 returns-2 : tie.Need-returns-2
-returns-2 c = made-as (judged-accepted _ _ _ (c .before .before .before .before .before .before .judge .ensures) _ _ _ (c .before .before .before .before .enum-told .given .1)) (c .before .before .accept .ensures)
+returns-2 c = made-as (judged-accepted _ _ _ (c .before .before .before .before .before .before .judge .ensures) _ (c .before .before .before .before .enum-told .given .1)) (c .before .before .accept .ensures)
 
 pub settle-spec : {M : Type 1} → statement M
 settle-spec =
@@ -43,7 +43,7 @@ settle-spec =
     (tie.spec
     slice-aggregate-judge
     judge-requires
-    enum-known-outcome
+    enum-known-judged
     refuse-requires
     enum-told
     accept-requires

@@ -5,7 +5,7 @@ use Prim.Native.Nat.{ℕ}
 use mathlib.Core.Path.{sym, _∙_}
 use lib.ListN.{length-replicate}
 use Rattle.pages.proofs.Puts.{chain, put-as}
-use Rattle.beside_pages.proofs.ComparisonTexts.{refused, refused-short, compared, compared-short}
+use Rattle.beside_pages.proofs.ComparisonTexts.{refused, refused-short, compared, compared-short, bytes-serve}
 use Rattle.beside_pages.proofs.comparison.put_comparison.Statement.{statement}
 use Rattle.beside_pages.proofs.comparison.put_comparison.Tie as tie
 
@@ -31,7 +31,7 @@ slice-aggregate-put-pairs : tie.Need-slice-aggregate-put-pairs
 slice-aggregate-put-pairs c = sym (c .before .before .before .before .before .before .before .before .before .before .compared .kept .1 .1 .1 .0 ∙ length-replicate {A = ℕ} 12291 0)
 
 put-pairs-requires : tie.Need-put-pairs-requires
-put-pairs-requires c κs = search needs
+put-pairs-requires c κs = bytes-serve _ _ (c .before .before .before .before .before .before .before .before .before .before .before .before .before .before .before .before .before .before .before .pre) (c .before .before .before .before .before .before .before .before .before .before .compared .kept .1 .1 .1 .0 ∙ length-replicate {A = ℕ} 12291 0)
 
 same-length : tie.Need-same-length
 same-length c = c .before .before .put-refused-in .kept .0

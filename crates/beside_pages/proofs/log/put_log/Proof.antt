@@ -5,7 +5,7 @@ use Prim.Native.Nat.{ℕ}
 use mathlib.Core.Path.{sym, _∙_}
 use lib.ListN.{length-replicate}
 use Rattle.pages.proofs.Puts.{put-as}
-use Rattle.beside_pages.proofs.LogTexts.{refused, refused-short, accepted, accepted-short}
+use Rattle.beside_pages.proofs.LogTexts.{refused, refused-short, accepted, accepted-short, bytes-serve}
 use Rattle.beside_pages.proofs.log.put_log.Statement.{statement}
 use Rattle.beside_pages.proofs.log.put_log.Tie as tie
 
@@ -28,7 +28,7 @@ slice-aggregate-put-entries : tie.Need-slice-aggregate-put-entries
 slice-aggregate-put-entries c = sym (c .before .before .before .before .before .measure .kept .1 .1 .0 ∙ length-replicate {A = ℕ} 65538 0)
 
 put-entries-requires : tie.Need-put-entries-requires
-put-entries-requires c κs = search needs
+put-entries-requires c κs = bytes-serve _ _ (c .before .before .before .before .before .before .before .before .before .before .before .before .pre) (c .before .before .before .before .before .measure .kept .1 .1 .0 ∙ length-replicate {A = ℕ} 65538 0)
 
 same-length : tie.Need-same-length
 same-length c = c .before .before .put-refused .kept .0

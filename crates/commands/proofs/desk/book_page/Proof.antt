@@ -31,19 +31,19 @@ same-length : tie.Need-same-length
 same-length c = search needs
 
 returns : tie.Need-returns
-returns c = rw (c .before .before .before .before .before .before .before .before .before .before .enum-told .given .1) (record { page-is = c .before .before .write-check .ensures .0; short = c .before .before .write-check .ensures .1 })
+returns c = rw (c .before .before .before .before .enum-told .given .1) (record { page-is = c .before .before .write-check .ensures .0; short = c .before .before .write-check .ensures .1 })
 
 same-length-2 : tie.Need-same-length-2
 same-length-2 c = search needs
 
 returns-2 : tie.Need-returns-2
-returns-2 c = rw (c .before .before .before .before .before .before .before .before .before .before .enum-told2 .given .1) (c .before .before .write-contradiction .ensures)
+returns-2 c = rw (c .before .before .before .before .enum-told2 .given .1) (c .before .before .write-contradiction .ensures)
 
 same-length-3 : tie.Need-same-length-3
 same-length-3 c = search needs
 
 returns-3 : tie.Need-returns-3
-returns-3 c = rw (c .before .before .before .before .before .before .before .before .before .before .enum-told3 .given .1) (record { page-is = c .before .before .write-grid .ensures .0; short = c .before .before .write-grid .ensures .1 })
+returns-3 c = rw (c .before .before .before .before .enum-told3 .given .1) (record { page-is = c .before .before .write-grid .ensures .0; short = c .before .before .write-grid .ensures .1 })
 
 same-length-4 : tie.Need-same-length-4
 same-length-4 c = search needs

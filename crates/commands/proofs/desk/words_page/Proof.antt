@@ -46,31 +46,31 @@ same-length : tie.Need-same-length
 same-length c = search needs
 
 returns : tie.Need-returns
-returns c = rw (c .before .before .before .before .before .before .before .before .before .before .enum-told .given .1) (record { page-is = c .before .before .write-ask-words .ensures .0; short = c .before .before .write-ask-words .ensures .1 })
+returns c = rw (c .before .before .before .before .enum-told .given .1) (record { page-is = c .before .before .write-ask-words .ensures .0; short = c .before .before .write-ask-words .ensures .1 })
 
 same-length-2 : tie.Need-same-length-2
 same-length-2 c = search needs
 
 returns-2 : tie.Need-returns-2
-returns-2 c = rw (c .before .before .before .before .before .before .before .enum-told2 .given .1) (c .before .before .write-why .ensures)
+returns-2 c = rw (c .before .before .before .before .enum-told2 .given .1) (c .before .before .write-why .ensures)
 
 same-length-3 : tie.Need-same-length-3
 same-length-3 c = search needs
 
 returns-3 : tie.Need-returns-3
-returns-3 c = rw (c .before .before .before .before .before .before .before .enum-told3 .given .1) (record { page-is = c .before .before .write-list .ensures .0; short = c .before .before .write-list .ensures .1 })
+returns-3 c = rw (c .before .before .before .before .enum-told3 .given .1) (record { page-is = c .before .before .write-list .ensures .0; short = c .before .before .write-list .ensures .1 })
 
 same-length-4 : tie.Need-same-length-4
 same-length-4 c = search needs
 
 returns-4 : tie.Need-returns-4
-returns-4 c = rw (c .before .before .before .before .before .before .before .enum-told4 .given .1) (record { page-is = c .before .before .write-list2 .ensures .0; short = c .before .before .write-list2 .ensures .1 })
+returns-4 c = rw (c .before .before .before .before .enum-told4 .given .1) (record { page-is = c .before .before .write-list2 .ensures .0; short = c .before .before .write-list2 .ensures .1 })
 
 same-length-5 : tie.Need-same-length-5
 same-length-5 c = search needs
 
 returns-5 : tie.Need-returns-5
-returns-5 c = rw (c .before .before .before .before .before .before .before .enum-told5 .given .1) (record { page-is = c .before .before .write-list3 .ensures .0; short = c .before .before .write-list3 .ensures .1 })
+returns-5 c = rw (c .before .before .before .before .enum-told5 .given .1) (record { page-is = c .before .before .write-list3 .ensures .0; short = c .before .before .write-list3 .ensures .1 })
 
 pub words-page-spec : {M : Type 1} → statement M
 words-page-spec =
