@@ -86,30 +86,22 @@ pub fn answer(book: &[u8], claims: &[u8], answers: &mut [u8]) -> Outcome
     requires { ⌜ now answers ≡ replicate ANSWERS-MOST 0 ⌝ }
     ensures { λ r. ⌜ Answered (now (book .entry)) (now (claims .entry)) (now (answers .exit)) r ⌝ }
 {
-    let mut parens = [0u8; index::PARENTHESES_BYTES];
-    let mut marks = [0u8; index::MARKS_BYTES];
-    let mut shadows = [0u16; index::SHADOWS];
-    let mut places = [0u16; index::PLACES];
     let mut e = [0u64; matrices::WORDS];
     let mut d = [0u64; matrices::WORDS];
     let mut t = [0u64; matrices::WORDS];
     let mut u = [0u64; matrices::WORDS];
     let mut p = [0u64; matrices::WORDS];
     let mut q = [0u64; matrices::WORDS];
-    answers::answer_claims(
+    answers::answer_alone(
         book,
         claims,
-        &mut parens,
-        &mut marks,
-        &mut shadows,
-        &mut places,
-        answers,
         &mut e,
         &mut d,
         &mut t,
         &mut u,
         &mut p,
         &mut q,
+        answers,
     )
 }
 
