@@ -99,12 +99,11 @@ typedef struct {
     uint64_t notpart[64];
 } piecebook_grids;
 
-piecebook_grids piecebook_grid_with(const uint8_t *book, size_t book_length, uint64_t *e, uint64_t *d, uint64_t *t, uint64_t *u, uint64_t *p,
-                                    uint64_t *q);
+piecebook_grids piecebook_grid_with(const uint8_t *book, size_t book_length, uint64_t *e, uint64_t *d, uint64_t *t);
 
 static inline piecebook_grids piecebook_grid(piecebook_workspace *workspace, const uint8_t *book, size_t book_length)
 {
-    return piecebook_grid_with(book, book_length, workspace->e, workspace->d, workspace->t, workspace->u, workspace->p, workspace->q);
+    return piecebook_grid_with(book, book_length, workspace->e, workspace->d, workspace->t);
 }
 
 /* A working book: records are added and withdrawn one at a time, and claims are answered, each as a fresh call on the records then standing would
@@ -124,35 +123,32 @@ typedef struct {
     size_t answer;
 } piecebook_working_result;
 
-piecebook_working_result piecebook_start_with(piecebook_working *state, uint8_t *area, size_t area_length, uint64_t *e, uint64_t *d, uint64_t *t,
-                                              uint64_t *u, uint64_t *p, uint64_t *q);
+piecebook_working_result piecebook_start_with(piecebook_working *state, uint8_t *area, size_t area_length, uint64_t *e, uint64_t *d, uint64_t *t);
 
 /* Begins with no records. A refusal of any of these calls leaves counts and area as they were; later bytes of the area are never written. */
 static inline piecebook_working_result piecebook_start(piecebook_workspace *workspace, piecebook_working *state, uint8_t *area, size_t area_length)
 {
-    return piecebook_start_with(state, area, area_length, workspace->e, workspace->d, workspace->t, workspace->u, workspace->p, workspace->q);
+    return piecebook_start_with(state, area, area_length, workspace->e, workspace->d, workspace->t);
 }
 
 piecebook_working_result piecebook_add_with(piecebook_working *state, uint8_t *area, size_t area_length, const uint8_t *record, size_t record_length,
-                                            uint64_t *e, uint64_t *d, uint64_t *t, uint64_t *u, uint64_t *p, uint64_t *q);
+                                            uint64_t *e, uint64_t *d, uint64_t *t);
 
 /* Adds a record behind the standing ones. */
 static inline piecebook_working_result piecebook_add(piecebook_workspace *workspace, piecebook_working *state, uint8_t *area, size_t area_length,
                                                      const uint8_t *record, size_t record_length)
 {
-    return piecebook_add_with(state, area, area_length, record, record_length, workspace->e, workspace->d, workspace->t, workspace->u, workspace->p,
-                              workspace->q);
+    return piecebook_add_with(state, area, area_length, record, record_length, workspace->e, workspace->d, workspace->t);
 }
 
 piecebook_working_result piecebook_withdraw_with(piecebook_working *state, uint8_t *area, size_t area_length, size_t record_number, uint64_t *e,
-                                                 uint64_t *d, uint64_t *t, uint64_t *u, uint64_t *p, uint64_t *q);
+                                                 uint64_t *d, uint64_t *t);
 
 /* Withdraws the record of that number, from 0; later ones move down by one. */
 static inline piecebook_working_result piecebook_withdraw(piecebook_workspace *workspace, piecebook_working *state, uint8_t *area, size_t area_length,
                                                           size_t record_number)
 {
-    return piecebook_withdraw_with(state, area, area_length, record_number, workspace->e, workspace->d, workspace->t, workspace->u, workspace->p,
-                                   workspace->q);
+    return piecebook_withdraw_with(state, area, area_length, record_number, workspace->e, workspace->d, workspace->t);
 }
 
 piecebook_working_result piecebook_ask_with(piecebook_working *state, const uint8_t *area, size_t area_length, const uint8_t *claim,
@@ -324,15 +320,14 @@ static inline piecebook_chain_result piecebook_chain(piecebook_workspace *worksp
 }
 
 size_t piecebook_chain_check_with(const uint8_t *book, size_t book_length, const uint8_t *claim, size_t claim_length, const uint8_t *steps,
-                                  size_t steps_length, uint64_t *e, uint64_t *d, uint64_t *t, uint64_t *u, uint64_t *p, uint64_t *q);
+                                  size_t steps_length, uint64_t *e, uint64_t *d, uint64_t *t);
 
 /* 1 where the steps, whoever wrote them, keep all this and each follows from the book and the premises that it names, else 0: what piecebook_chain writes passes. No
    steps, more than PIECEBOOK_STEPS, a length that is no multiple of 10, and steps on a refused book or claim do not. */
 static inline size_t piecebook_chain_check(piecebook_workspace *workspace, const uint8_t *book, size_t book_length, const uint8_t *claim,
                                            size_t claim_length, const uint8_t *steps, size_t steps_length)
 {
-    return piecebook_chain_check_with(book, book_length, claim, claim_length, steps, steps_length, workspace->e, workspace->d, workspace->t,
-                                      workspace->u, workspace->p, workspace->q);
+    return piecebook_chain_check_with(book, book_length, claim, claim_length, steps, steps_length, workspace->e, workspace->d, workspace->t);
 }
 
 /* number is 0 for an accepted book, or the number of the refusal: 15 for steps_length below PIECEBOOK_STEP_BYTES, then the book's own; place is its record. steps is how

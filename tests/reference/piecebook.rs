@@ -158,9 +158,9 @@ pub struct Grids {
 
 /// The grids of a book of at most 64 pieces.
 pub fn grid(workspace: &mut Workspace, book: &[u8]) -> Grids {
-    let [e, d, t, u, p, q] = workspace.matrices();
+    let [e, d, t, ..] = workspace.matrices();
     // SAFETY: as above.
-    unsafe { piecebook_grid_with(book.as_ptr(), book.len(), e, d, t, u, p, q) }
+    unsafe { piecebook_grid_with(book.as_ptr(), book.len(), e, d, t) }
 }
 
 /// The least length of a working book's record area.
@@ -186,23 +186,23 @@ pub struct WorkingOutcome {
 impl Working {
     /// Begins with no records.
     pub fn start(&mut self, workspace: &mut Workspace, area: &mut [u8]) -> WorkingOutcome {
-        let [e, d, t, u, p, q] = workspace.matrices();
+        let [e, d, t, ..] = workspace.matrices();
         // SAFETY: as above.
-        unsafe { piecebook_start_with(self, area.as_mut_ptr(), area.len(), e, d, t, u, p, q) }
+        unsafe { piecebook_start_with(self, area.as_mut_ptr(), area.len(), e, d, t) }
     }
 
     /// Adds a record.
     pub fn add(&mut self, workspace: &mut Workspace, area: &mut [u8], record: &[u8]) -> WorkingOutcome {
-        let [e, d, t, u, p, q] = workspace.matrices();
+        let [e, d, t, ..] = workspace.matrices();
         // SAFETY: as above.
-        unsafe { piecebook_add_with(self, area.as_mut_ptr(), area.len(), record.as_ptr(), record.len(), e, d, t, u, p, q) }
+        unsafe { piecebook_add_with(self, area.as_mut_ptr(), area.len(), record.as_ptr(), record.len(), e, d, t) }
     }
 
     /// Withdraws a record by its number.
     pub fn withdraw(&mut self, workspace: &mut Workspace, area: &mut [u8], number: usize) -> WorkingOutcome {
-        let [e, d, t, u, p, q] = workspace.matrices();
+        let [e, d, t, ..] = workspace.matrices();
         // SAFETY: as above.
-        unsafe { piecebook_withdraw_with(self, area.as_mut_ptr(), area.len(), number, e, d, t, u, p, q) }
+        unsafe { piecebook_withdraw_with(self, area.as_mut_ptr(), area.len(), number, e, d, t) }
     }
 
     /// Answers one claim.
@@ -445,11 +445,9 @@ pub fn chain(workspace: &mut Workspace, book: &[u8], claim: &[u8], steps: &mut [
 
 /// 1 where the steps are a chain behind the answer to the claim, else 0.
 pub fn chain_check(workspace: &mut Workspace, book: &[u8], claim: &[u8], steps: &[u8]) -> usize {
-    let [e, d, t, u, p, q] = workspace.matrices();
+    let [e, d, t, ..] = workspace.matrices();
     // SAFETY: as above.
-    unsafe {
-        piecebook_chain_check_with(book.as_ptr(), book.len(), claim.as_ptr(), claim.len(), steps.as_ptr(), steps.len(), e, d, t, u, p, q)
-    }
+    unsafe { piecebook_chain_check_with(book.as_ptr(), book.len(), claim.as_ptr(), claim.len(), steps.as_ptr(), steps.len(), e, d, t) }
 }
 
 /// What the writer of the chain behind a contradiction comes to: `number` is 14 where it wrote steps.
@@ -518,9 +516,6 @@ extern "C" {
         e: *mut u64,
         d: *mut u64,
         t: *mut u64,
-        u: *mut u64,
-        p: *mut u64,
-        q: *mut u64,
     ) -> usize;
 
     fn piecebook_catalog_with(
@@ -589,9 +584,6 @@ extern "C" {
         e: *mut u64,
         d: *mut u64,
         t: *mut u64,
-        u: *mut u64,
-        p: *mut u64,
-        q: *mut u64,
     ) -> WorkingOutcome;
 
     fn piecebook_add_with(
@@ -603,9 +595,6 @@ extern "C" {
         e: *mut u64,
         d: *mut u64,
         t: *mut u64,
-        u: *mut u64,
-        p: *mut u64,
-        q: *mut u64,
     ) -> WorkingOutcome;
 
     fn piecebook_withdraw_with(
@@ -616,9 +605,6 @@ extern "C" {
         e: *mut u64,
         d: *mut u64,
         t: *mut u64,
-        u: *mut u64,
-        p: *mut u64,
-        q: *mut u64,
     ) -> WorkingOutcome;
 
     fn piecebook_ask_with(
@@ -641,9 +627,6 @@ extern "C" {
         e: *mut u64,
         d: *mut u64,
         t: *mut u64,
-        u: *mut u64,
-        p: *mut u64,
-        q: *mut u64,
     ) -> Grids;
 
     fn piecebook_convert_with(

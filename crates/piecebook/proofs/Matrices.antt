@@ -80,3 +80,7 @@ module _ (n : ℕ) where
 -- six
 abbrev pub six : Times 6 (Unit {0})
 six = (tt, (tt, (tt, (tt, (tt, (tt, tt))))))
+
+-- three
+abbrev pub three : Times 3 (Unit {0})
+three = (tt, (tt, (tt, tt)))

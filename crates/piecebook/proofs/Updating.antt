@@ -62,7 +62,7 @@ module _ (third : Ty) (n i : ℕ) (#core : Name) where
   abbrev locals : List Local
   locals =
       local O′.mir valueLocal ∷ local (tyRef (named 0) mut (pointee (T.the-row .written))) valueLocal ∷ bytesAt (named 1) ∷ local third valueLocal
-      ∷ passed 6 i (local S′.mir valueLocal ∷ local T′.mir valueLocal ∷ local (tyRef erased mut (tyInt w8)) valueLocal ∷ bytesAt erased ∷ relent 6)
+      ∷ passed 3 i (local S′.mir valueLocal ∷ local T′.mir valueLocal ∷ local (tyRef erased mut (tyInt w8)) valueLocal ∷ bytesAt erased ∷ relent 3)
 
   -- a matrix lent again
   abbrev again : ℕ → ℕ → Body → Body
@@ -70,60 +70,57 @@ module _ (third : Ty) (n i : ℕ) (#core : Name) where
 
   abbrev body : Body
   body =
-      seq (assign (place 11 []) (rvOpd (copy (place 1 (deref T′.mir ∷ [])))))
-      (seq (assign (place 12 []) (addrOf (place 2 (field 0 ∷ deref (tyInt w8) ∷ []))))
-      (seq (assign (place 13 []) (aggregate (copy (place 12 []) ∷ copy (place 2 (field 1 ∷ [])) ∷ [])))
-      (again 14 4 (again 15 5 (again 16 6 (again 17 7 (again 18 8 (again 19 9
-      (seq (call #core (copy (place 11 []) ∷ copy (place 13 []) ∷ copy (place 3 []) ∷ copy (place 14 []) ∷ copy (place 15 []) ∷ copy (place 16 []) ∷ copy (place 17 []) ∷ copy (place 18 []) ∷ copy (place 19 []) ∷ []) (place 10 []))
-      (seq (assign (place 1 (deref T′.mir ∷ [])) (rvOpd (copy (place 10 (field 0 ∷ [])))))
-      (seq (assign (place 0 []) (rvOpd (copy (place 10 (field 1 ∷ []))))) return)))))))))))
+      seq (assign (place 8 []) (rvOpd (copy (place 1 (deref T′.mir ∷ [])))))
+      (seq (assign (place 9 []) (addrOf (place 2 (field 0 ∷ deref (tyInt w8) ∷ []))))
+      (seq (assign (place 10 []) (aggregate (copy (place 9 []) ∷ copy (place 2 (field 1 ∷ [])) ∷ [])))
+      (again 11 4 (again 12 5 (again 13 6
+      (seq (call #core (copy (place 8 []) ∷ copy (place 10 []) ∷ copy (place 3 []) ∷ copy (place 11 []) ∷ copy (place 12 []) ∷ copy (place 13 []) ∷ []) (place 7 []))
+      (seq (assign (place 1 (deref T′.mir ∷ [])) (rvOpd (copy (place 7 (field 0 ∷ [])))))
+      (seq (assign (place 0 []) (rvOpd (copy (place 7 (field 1 ∷ []))))) return))))))))
 
   abbrev pub function : Fn
-  function = record { lifetimes = n; outlives = []; params = 9; locals = locals; body = body }
+  function = record { lifetimes = n; outlives = []; params = 6; locals = locals; body = body }
 
   -- ---- its walk: the core is known by what it is handed and by what it hands back, which are tokens, the result and what it ensures
-  module _ {M : Type 1} (𝓤 : URA M) (H : Heap 𝓤) (A : Atoms 𝓤) (W : Given 𝓤 H A) (C : Calls 𝓤 H) (Λ : Loops 𝓤 H) (fm : FmC 𝓤 H (W .laws) C) (κ : Lft) (q : Share) (b o : ℕ) (γ : GName) (h : PiecebookWorking) (b₁ o₁ k : ℕ) (v : Val) (m : Matrices 6) where
+  module _ {M : Type 1} (𝓤 : URA M) (H : Heap 𝓤) (A : Atoms 𝓤) (W : Given 𝓤 H A) (C : Calls 𝓤 H) (Λ : Loops 𝓤 H) (fm : FmC 𝓤 H (W .laws) C) (κ : Lft) (q : Share) (b o : ℕ) (γ : GName) (h : PiecebookWorking) (b₁ o₁ k : ℕ) (v : Val) (m : Matrices 3) where
     abbrev area : Val
     area = sliceVal (b₁, o₁) k
 
     pub walk : Holds (hasTy (sliceTy (tyRef (named 1) mut (tyInt w8))) area) × WT area → k < 2 ^ 64 → Holds (hasTy third v) × WT v
         → (tokens lent : Item 𝓤) (Ensured : PiecebookWorked → SProp 𝓤) (back Post : Val → SProp 𝓤)
-        → (Is T.the-row h (T′.lowered h ∷ []) → ent 𝓤 (mean 𝓤 H A (tokens ⊛ lent)) (C #core (T′.lowered h ∷ area ∷ v ∷ pointers 6 m) back))
+        → (Is T.the-row h (T′.lowered h ∷ []) → ent 𝓤 (mean 𝓤 H A (tokens ⊛ lent)) (C #core (T′.lowered h ∷ area ∷ v ∷ pointers 3 m) back))
         → ((w : Val) → ent 𝓤 (back w) (mean 𝓤 H A (later (some (λ (r : PiecebookWorked). (tokens ⊛ ‵ (S.the-row .own r (w ∷ []))) ⊛ raw (Ensured r))))))
         → ((r : PiecebookWorked) (u : Val) → Is O.the-row (r .result) (u ∷ []) → ent 𝓤 (⋆ 𝓤 H A (‵ (fobs γ (T.the-row .coded .code (r .working))) ∷ ‵ (fbor κ (Borrowed (mem T.the-row) b o γ)) ∷ ‵ (flft κ q) ∷ tokens ∷ raw (Ensured r) ∷ [])) (Post u))
-        → ent 𝓤 (⋆ 𝓤 H A (‵ (flft κ q) ∷ ‵ (MutRef (named 0) κ T.the-row .own (record { ptr = (b, o); name = γ; now = h }) (vptr b o ∷ [])) ∷ (tokens ⊛ lent) ∷ [])) (WpFn 𝓤 H C Λ function (vptr b o ∷ area ∷ v ∷ pointers 6 m) Post)
+        → ent 𝓤 (⋆ 𝓤 H A (‵ (flft κ q) ∷ ‵ (MutRef (named 0) κ T.the-row .own (record { ptr = (b, o); name = γ; now = h }) (vptr b o ∷ [])) ∷ (tokens ⊛ lent) ∷ [])) (WpFn 𝓤 H C Λ function (vptr b o ∷ area ∷ v ∷ pointers 3 m) Post)
     walk is-area fits is-third tokens lent Ensured back Post known comes ends =
-        qed W (‵ (flft κ q) ∷ ‵ (MutRef (named 0) κ T.the-row .own (record { ptr = (b, o); name = γ; now = h }) (vptr b o ∷ [])) ∷ (tokens ⊛ lent) ∷ []) ∵ enter ! C Λ function (vptr b o ∷ area ∷ v ∷ pointers 6 m) _ $
-        alloc1 ! (λ _. alloc1 ! (λ _. alloc1 ! (λ _. alloc1 ! (λ _. alloc1 ! (λ _. alloc1 ! (λ _. alloc1 ! (λ _. alloc1 ! (λ _. alloc1 ! (λ _. alloc1 ! (λ _. alloc1 ! (λ l10. alloc1 ! (λ _. alloc1 ! (λ _. alloc1 ! (λ _. alloc1 ! (λ _. alloc1 ! (λ _. alloc1 ! (λ _. alloc1 ! (λ _. alloc1 ! (λ _. alloc1 ! (λ _. alloc0 ! $ params1 ! $
-        pass1 ! (init ! 36 refl (tt, tt)) $ pass1 ! (init ! 34 refl is-area) $ pass1 ! (init ! 32 refl is-third) $
-        pass1 ! (init ! 30 refl (tt, tt)) $ pass1 ! (init ! 28 refl (tt, tt)) $ pass1 ! (init ! 26 refl (tt, tt)) $ pass1 ! (init ! 24 refl (tt, tt)) $ pass1 ! (init ! 22 refl (tt, tt)) $ pass1 ! (init ! 20 refl (tt, tt)) $ pass0 ! $
+        qed W (‵ (flft κ q) ∷ ‵ (MutRef (named 0) κ T.the-row .own (record { ptr = (b, o); name = γ; now = h }) (vptr b o ∷ [])) ∷ (tokens ⊛ lent) ∷ []) ∵ enter ! C Λ function (vptr b o ∷ area ∷ v ∷ pointers 3 m) _ $
+        alloc1 ! (λ _. alloc1 ! (λ _. alloc1 ! (λ _. alloc1 ! (λ _. alloc1 ! (λ _. alloc1 ! (λ _. alloc1 ! (λ _. alloc1 ! (λ l7. alloc1 ! (λ _. alloc1 ! (λ _. alloc1 ! (λ _. alloc1 ! (λ _. alloc1 ! (λ _. alloc1 ! (λ _. alloc0 ! $ params1 ! $
+        pass1 ! (init ! 24 refl (tt, tt)) $ pass1 ! (init ! 22 refl is-area) $ pass1 ! (init ! 20 refl is-third) $
+        pass1 ! (init ! 18 refl (tt, tt)) $ pass1 ! (init ! 16 refl (tt, tt)) $ pass1 ! (init ! 14 refl (tt, tt)) $ pass0 ! $
         -- the borrow of the state is opened
-        move ! (41 ∷ []) $ fsplit3 ! $ drop ! $ move ! (0 ∷ 1 ∷ 42 ∷ 43 ∷ []) $
+        move ! (29 ∷ []) $ fsplit3 ! $ drop ! $ move ! (0 ∷ 1 ∷ 30 ∷ 31 ∷ []) $
         opens ! tt T.the-row {h = h} b o (λ vs. spelt ! T.the-row (Is T.the-row) (shows 𝓤 H A T.the-row) (LL.vals T.the-type T′.the-laws) (LL.tells T.the-type T′.the-laws) fullShare h vs b o $
         use1 W (‵ (fat fullShare T′.mir b o (T′.lowered h))) (W .laws .raw-at fullShare T′.mir b o (T′.lowered h)) $
         move ! (1 ∷ []) $ facts ! T.the-row (Is T.the-row) (shows 𝓤 H A T.the-row) h (LL.vals T.the-type T′.the-laws h) (λ was.
-        -- [the struct's cell; the open borrow; obs; auth; what is handed on; _19; …; _1; …; room for _0; …]
-        assigns ! (of-opd ! (load ! (from ! (hop ! (look ! 41 refl) (stop !))) (look ! 0 refl))) (from ! (stop !)) (init ! 21 refl (LL.lawful T.the-type T′.the-laws 𝓤 H A W .typed h _ was .0)) $
-        assigns ! (addr ! (from ! (fld ! refl (hop ! (look-in ! 39 (sub ! 0 refl (whole !))) (stop !))))) (from ! (stop !)) (init ! 19 refl (tt, tt)) $
-        assigns ! (agg ! (and-then ! (load ! (from ! (stop !)) (look ! 19 refl)) (and-then ! (load ! (from ! (fld ! refl (stop !))) (look-in ! 39 (sub ! 1 refl (whole !)))) (no-more !)))) (from ! (stop !)) (init ! 17 refl (tt, (tt, (record { fits = fits }, tt)))) $
-        assigns ! (addr ! (from ! (hop ! (look ! 35 refl) (stop !)))) (from ! (stop !)) (init ! 15 refl (tt, tt)) $
-        assigns ! (addr ! (from ! (hop ! (look ! 33 refl) (stop !)))) (from ! (stop !)) (init ! 13 refl (tt, tt)) $
-        assigns ! (addr ! (from ! (hop ! (look ! 31 refl) (stop !)))) (from ! (stop !)) (init ! 11 refl (tt, tt)) $
-        assigns ! (addr ! (from ! (hop ! (look ! 29 refl) (stop !)))) (from ! (stop !)) (init ! 9 refl (tt, tt)) $
-        assigns ! (addr ! (from ! (hop ! (look ! 27 refl) (stop !)))) (from ! (stop !)) (init ! 7 refl (tt, tt)) $
-        assigns ! (addr ! (from ! (hop ! (look ! 25 refl) (stop !)))) (from ! (stop !)) (init ! 5 refl (tt, tt)) $
-        move ! (4 ∷ []) $ calls-from ! fm (tokens ⊛ lent) (T′.lowered h ∷ area ∷ v ∷ pointers 6 m) back (known was) (and-then ! (load ! (from ! (stop !)) (look ! 21 refl)) (and-then ! (load ! (from ! (stop !)) (look ! 17 refl)) (and-then ! (load ! (from ! (stop !)) (look ! 37 refl)) (and-then ! (load ! (from ! (stop !)) (look ! 15 refl)) (and-then ! (load ! (from ! (stop !)) (look ! 13 refl)) (and-then ! (load ! (from ! (stop !)) (look ! 11 refl)) (and-then ! (load ! (from ! (stop !)) (look ! 9 refl)) (and-then ! (load ! (from ! (stop !)) (look ! 7 refl)) (and-then ! (load ! (from ! (stop !)) (look ! 5 refl)) (no-more !)))))))))) (λ w.
+        -- [the struct's cell; the open borrow; obs; auth; what is handed on; _13; …; _1; …; room for _0; …]
+        assigns ! (of-opd ! (load ! (from ! (hop ! (look ! 29 refl) (stop !))) (look ! 0 refl))) (from ! (stop !)) (init ! 15 refl (LL.lawful T.the-type T′.the-laws 𝓤 H A W .typed h _ was .0)) $
+        assigns ! (addr ! (from ! (fld ! refl (hop ! (look-in ! 27 (sub ! 0 refl (whole !))) (stop !))))) (from ! (stop !)) (init ! 13 refl (tt, tt)) $
+        assigns ! (agg ! (and-then ! (load ! (from ! (stop !)) (look ! 13 refl)) (and-then ! (load ! (from ! (fld ! refl (stop !))) (look-in ! 27 (sub ! 1 refl (whole !)))) (no-more !)))) (from ! (stop !)) (init ! 11 refl (tt, (tt, (record { fits = fits }, tt)))) $
+        assigns ! (addr ! (from ! (hop ! (look ! 23 refl) (stop !)))) (from ! (stop !)) (init ! 9 refl (tt, tt)) $
+        assigns ! (addr ! (from ! (hop ! (look ! 21 refl) (stop !)))) (from ! (stop !)) (init ! 7 refl (tt, tt)) $
+        assigns ! (addr ! (from ! (hop ! (look ! 19 refl) (stop !)))) (from ! (stop !)) (init ! 5 refl (tt, tt)) $
+        move ! (4 ∷ []) $ calls-from ! fm (tokens ⊛ lent) (T′.lowered h ∷ area ∷ v ∷ pointers 3 m) back (known was) (and-then ! (load ! (from ! (stop !)) (look ! 15 refl)) (and-then ! (load ! (from ! (stop !)) (look ! 11 refl)) (and-then ! (load ! (from ! (stop !)) (look ! 25 refl)) (and-then ! (load ! (from ! (stop !)) (look ! 9 refl)) (and-then ! (load ! (from ! (stop !)) (look ! 7 refl)) (and-then ! (load ! (from ! (stop !)) (look ! 5 refl)) (no-more !))))))) (λ w.
         use1 W (later (some (λ (r : PiecebookWorked). (tokens ⊛ ‵ (S.the-row .own r (w ∷ []))) ⊛ raw (Ensured r)))) (comes w) $ await ! tt $ pick ! (λ r.
         split ! $ split ! $ move ! (1 ∷ []) $ facts ! S.the-row (Is S.the-row) (shows 𝓤 H A S.the-row) r (w ∷ []) (λ is.
-        -- [the tokens; what is ensured; the struct's cell; the open borrow; obs; auth; _19; …]
-        land ! (from ! (stop !)) (init ! 24 refl (LL.lawful S.the-type S′.the-laws 𝓤 H A W .typed r _ is .0)) $ rewrite ! 24 (λ (u : Val). ‵ (fat fullShare S′.mir l10 0 u)) (ap only (S′.lowers .val-is r _ is)) refl $
-        assigns ! (of-opd ! (load ! (from ! (fld ! refl (stop !))) (look-in ! 24 (sub ! 0 refl (whole !))))) (from ! (hop ! (look ! 42 refl) (stop !))) (store ! 2 refl (LL.lawful T.the-type T′.the-laws 𝓤 H A W .typed (r .working) _ (is-working r _ is) .0)) $
-        assigns ! (of-opd ! (load ! (from ! (fld ! refl (stop !))) (look-in ! 24 (sub ! 1 refl (whole !))))) (from ! (stop !)) (init ! 44 refl (LL.lawful O.the-type O′.the-laws 𝓤 H A W .typed (r .result) _ (is-result r _ is) .0)) $
+        -- [the tokens; what is ensured; the struct's cell; the open borrow; obs; auth; _13; …]
+        land ! (from ! (stop !)) (init ! 18 refl (LL.lawful S.the-type S′.the-laws 𝓤 H A W .typed r _ is .0)) $ rewrite ! 18 (λ (u : Val). ‵ (fat fullShare S′.mir l7 0 u)) (ap only (S′.lowers .val-is r _ is)) refl $
+        assigns ! (of-opd ! (load ! (from ! (fld ! refl (stop !))) (look-in ! 18 (sub ! 0 refl (whole !))))) (from ! (hop ! (look ! 30 refl) (stop !))) (store ! 2 refl (LL.lawful T.the-type T′.the-laws 𝓤 H A W .typed (r .working) _ (is-working r _ is) .0)) $
+        assigns ! (of-opd ! (load ! (from ! (fld ! refl (stop !))) (look-in ! 18 (sub ! 1 refl (whole !))))) (from ! (stop !)) (init ! 32 refl (LL.lawful O.the-type O′.the-laws 𝓤 H A W .typed (r .result) _ (is-result r _ is) .0)) $
         -- the borrow is closed at the new state
         owned ! T.the-row (Is T.the-row) ((LL.makes T.the-type T′.the-plain) 𝓤 H A) (r .working) _ (is-working r _ is) $
         move ! (3 ∷ []) $ use1 W (‵ (cellAt fullShare (T.the-row .mir) (T′.lowered (r .working) ∷ []) b o)) (W .laws .at-raw fullShare T′.mir b o (T′.lowered (r .working))) $
         move ! (0 ∷ 1 ∷ 4 ∷ 5 ∷ 6 ∷ []) $ closes ! tt T.the-row (r .working) (T′.lowered (r .working) ∷ []) b o $
-        -- [obs; the borrow; its token; the other tokens; what is ensured; _19; …]
-        returns ! (look ! 43 refl) $ forget ! 5 refl $ forget ! 7 refl $ forget ! 9 refl $ forget ! 11 refl $ forget ! 13 refl $ forget ! 15 refl $ forget ! 17 refl $ forget ! 19 refl $ forget ! 21 refl $ forget ! 23 refl $ forget ! 25 refl $ forget ! 27 refl $ forget ! 29 refl $ forget ! 31 refl $ forget ! 33 refl $ forget ! 35 refl $ forget ! 37 refl $ forget ! 39 refl $ forget ! 41 refl $ forget ! 43 refl $
-        move ! (43 ∷ 44 ∷ []) $ free1 ! $ move ! (41 ∷ 42 ∷ []) $ free1 ! $ move ! (39 ∷ 40 ∷ []) $ free1 ! $ move ! (37 ∷ 38 ∷ []) $ free1 ! $ move ! (35 ∷ 36 ∷ []) $ free1 ! $ move ! (33 ∷ 34 ∷ []) $ free1 ! $ move ! (31 ∷ 32 ∷ []) $ free1 ! $ move ! (29 ∷ 30 ∷ []) $ free1 ! $ move ! (27 ∷ 28 ∷ []) $ free1 ! $ move ! (25 ∷ 26 ∷ []) $ free1 ! $ move ! (23 ∷ 24 ∷ []) $ free1 ! $ move ! (21 ∷ 22 ∷ []) $ free1 ! $ move ! (19 ∷ 20 ∷ []) $ free1 ! $ move ! (17 ∷ 18 ∷ []) $ free1 ! $ move ! (15 ∷ 16 ∷ []) $ free1 ! $ move ! (13 ∷ 14 ∷ []) $ free1 ! $ move ! (11 ∷ 12 ∷ []) $ free1 ! $ move ! (9 ∷ 10 ∷ []) $ free1 ! $ move ! (7 ∷ 8 ∷ []) $ free1 ! $ move ! (5 ∷ 6 ∷ []) $ free1 ! $ free0 ! $
-        keep ! (0 ∷ 1 ∷ 2 ∷ 3 ∷ 4 ∷ []) $ by ! (ends r _ (is-result r _ is)))))))))))))))))))))))))))
+        -- [obs; the borrow; its token; the other tokens; what is ensured; _13; …]
+        returns ! (look ! 31 refl) $ forget ! 5 refl $ forget ! 7 refl $ forget ! 9 refl $ forget ! 11 refl $ forget ! 13 refl $ forget ! 15 refl $ forget ! 17 refl $ forget ! 19 refl $ forget ! 21 refl $ forget ! 23 refl $ forget ! 25 refl $ forget ! 27 refl $ forget ! 29 refl $ forget ! 31 refl $
+        move ! (31 ∷ 32 ∷ []) $ free1 ! $ move ! (29 ∷ 30 ∷ []) $ free1 ! $ move ! (27 ∷ 28 ∷ []) $ free1 ! $ move ! (25 ∷ 26 ∷ []) $ free1 ! $ move ! (23 ∷ 24 ∷ []) $ free1 ! $ move ! (21 ∷ 22 ∷ []) $ free1 ! $ move ! (19 ∷ 20 ∷ []) $ free1 ! $ move ! (17 ∷ 18 ∷ []) $ free1 ! $ move ! (15 ∷ 16 ∷ []) $ free1 ! $ move ! (13 ∷ 14 ∷ []) $ free1 ! $ move ! (11 ∷ 12 ∷ []) $ free1 ! $ move ! (9 ∷ 10 ∷ []) $ free1 ! $ move ! (7 ∷ 8 ∷ []) $ free1 ! $ move ! (5 ∷ 6 ∷ []) $ free1 ! $ free0 ! $
+        keep ! (0 ∷ 1 ∷ 2 ∷ 3 ∷ 4 ∷ []) $ by ! (ends r _ (is-result r _ is)))))))))))))))))))))

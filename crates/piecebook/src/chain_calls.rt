@@ -86,13 +86,10 @@ pub extern "C" fn piecebook_chain_check_with(
     e: &mut Matrix,
     d: &mut Matrix,
     t: &mut Matrix,
-    u: &mut Matrix,
-    p: &mut Matrix,
-    q: &mut Matrix,
 ) -> usize
     ensures { λ r. ⌜ r ≡ num (passes (now (book .entry)) (now (claim .entry)) (now (steps .entry))) ⌝ }
 {
-    if chain_check::check_chain(book, claim, steps, e, d, t, u, p, q) {
+    if chain_check::check_chain(book, claim, steps, e, d, t) {
         return 1;
     }
     0

@@ -107,13 +107,10 @@ pub extern "C" fn piecebook_grid_with(
     e: &mut Matrix,
     d: &mut Matrix,
     t: &mut Matrix,
-    u: &mut Matrix,
-    p: &mut Matrix,
-    q: &mut Matrix,
 ) -> PiecebookGrids
     ensures { λ r. ⌜ GridResult (now (book .entry)) r ⌝ }
 {
-    let sheet = grids::grid(book, e, d, t, u, p, q);
+    let sheet = grids::grid(book, e, d, t);
     let outcome = sheet.outcome;
     let grids = sheet.grids;
     let part = grids.part;
@@ -201,13 +198,10 @@ pub fn add_to(
     e: &mut Matrix,
     d: &mut Matrix,
     t: &mut Matrix,
-    u: &mut Matrix,
-    p: &mut Matrix,
-    q: &mut Matrix,
 ) -> PiecebookWorked
     ensures { λ r. ⌜ Added was (now (area .entry)) (now (addition .entry)) (r .result) (r .working) (now (area .exit)) ⌝ }
 {
-    let settled = working::add_to(state_of(was), area, addition, e, d, t, u, p, q);
+    let settled = working::add_to(state_of(was), area, addition, e, d, t);
     worked(settled)
 }
 
@@ -218,13 +212,10 @@ pub fn withdraw_from(
     e: &mut Matrix,
     d: &mut Matrix,
     t: &mut Matrix,
-    u: &mut Matrix,
-    p: &mut Matrix,
-    q: &mut Matrix,
 ) -> PiecebookWorked
     ensures { λ r. ⌜ Withdrawn was (now (area .entry)) number (r .result) (r .working) (now (area .exit)) ⌝ }
 {
-    let settled = working::withdraw_from(state_of(was), area, number, e, d, t, u, p, q);
+    let settled = working::withdraw_from(state_of(was), area, number, e, d, t);
     worked(settled)
 }
 
@@ -254,13 +245,10 @@ pub extern "C" fn piecebook_start_with(
     e: &mut Matrix,
     d: &mut Matrix,
     t: &mut Matrix,
-    u: &mut Matrix,
-    p: &mut Matrix,
-    q: &mut Matrix,
 ) -> PiecebookWorkingResult
     ensures { λ r. ⌜ Started (now (state .entry)) (now (area .entry)) r (now (state .exit)) (now (area .exit)) ⌝ }
 {
-    let settled = working::start(area, e, d, t, u, p, q);
+    let settled = working::start(area, e, d, t);
     let begun = settled.working;
     let outcome = settled.outcome;
     let Outcome::Accepted(_, _, _) = outcome else {
@@ -278,13 +266,10 @@ pub extern "C" fn piecebook_add_with(
     e: &mut Matrix,
     d: &mut Matrix,
     t: &mut Matrix,
-    u: &mut Matrix,
-    p: &mut Matrix,
-    q: &mut Matrix,
 ) -> PiecebookWorkingResult
     ensures { λ r. ⌜ Added (now (state .entry)) (now (area .entry)) (now (addition .entry)) r (now (state .exit)) (now (area .exit)) ⌝ }
 {
-    let done = add_to(*state, area, addition, e, d, t, u, p, q);
+    let done = add_to(*state, area, addition, e, d, t);
     *state = done.working;
     done.result
 }
@@ -297,13 +282,10 @@ pub extern "C" fn piecebook_withdraw_with(
     e: &mut Matrix,
     d: &mut Matrix,
     t: &mut Matrix,
-    u: &mut Matrix,
-    p: &mut Matrix,
-    q: &mut Matrix,
 ) -> PiecebookWorkingResult
     ensures { λ r. ⌜ Withdrawn (now (state .entry)) (now (area .entry)) number r (now (state .exit)) (now (area .exit)) ⌝ }
 {
-    let done = withdraw_from(*state, area, number, e, d, t, u, p, q);
+    let done = withdraw_from(*state, area, number, e, d, t);
     *state = done.working;
     done.result
 }

@@ -37,7 +37,7 @@ use denote.Signature.{Slot, plain, shrSliceOf}
 use Rattle.piecebook.specs.OpenBook.{Added}
 use Rattle.piecebook.specs.declared.PiecebookWorking.{PiecebookWorking}
 use Rattle.piecebook.specs.declared.PiecebookWorked.{PiecebookWorked}
-use Rattle.piecebook.proofs.Matrices.{Times, Matrices, pointers, machines, rows, spells, tells, gaves, all-gave, six}
+use Rattle.piecebook.proofs.Matrices.{Times, Matrices, pointers, machines, rows, spells, tells, gaves, all-gave, three}
 use Rattle.piecebook.proofs.Updating.{walk}
 use Rattle.piecebook.proofs.PiecebookWorking as T
 use Rattle.piecebook.proofs.PiecebookWorking.Laws as T′
@@ -52,13 +52,13 @@ use Rattle.piecebook.proofs.piecebook_add_with as f
 use Rattle.piecebook.proofs.piecebook_add_with.Statement as stated
 use Rattle.piecebook.proofs.piecebook_add_with.Code as code
 
-abbrev PiecebookWorkingS : Slot 9
+abbrev PiecebookWorkingS : Slot 6
 PiecebookWorkingS = plain (λ _. T.the-row)
 
-abbrev ByteS : Slot 9
+abbrev ByteS : Slot 6
 ByteS = plain (λ _. u8)
 
-abbrev AdditionS : Slot 9
+abbrev AdditionS : Slot 6
 AdditionS = shrSliceOf (2 ∷ []) tt ByteS
 
 abbrev stayed : Stays (f.ended .signature .params) (f.ended .kept)
@@ -68,7 +68,7 @@ stayed = (
     gave-slice (1 ∷ []) tt ByteS,
     (
       stay-dropped AdditionS yes,
-      gaves 9 6 3 six,
+      gaves 6 3 3 three,
     ),
   ),
 )
@@ -77,13 +77,13 @@ stayed = (
 abbrev Core : {M : Type 1} (𝓤 : URA M) (H : Heap 𝓤) (A : Atoms 𝓤) (mem : Memory → SProp 𝓤) (run : Routine → Fun 𝓤) → Contract 𝓤
 Core 𝓤 H A mem run = tripleOf 𝓤 H A core.signature (core.spec 𝓤 H A mem run)
 
-module _ {M : Type 1} (𝓤 : URA M) (H : Heap 𝓤) (A : Atoms 𝓤) (W : Given 𝓤 H A) (at-mem : Memory → SProp 𝓤) (run : Routine → Fun 𝓤) (κ κ₁ κ₂ : Lft) (κs : Lfts 6) (q q₁ q₂ : Share) (qs : Shares 6) (b o : ℕ) (γ : GName) (h : PiecebookWorking) (b₁ o₁ : ℕ) (γ₁ : GName) (ys : List ℕ) (t : RefT (List ℕ)) (m : Matrices 6) where
+module _ {M : Type 1} (𝓤 : URA M) (H : Heap 𝓤) (A : Atoms 𝓤) (W : Given 𝓤 H A) (at-mem : Memory → SProp 𝓤) (run : Routine → Fun 𝓤) (κ κ₁ κ₂ : Lft) (κs : Lfts 3) (q q₁ q₂ : Share) (qs : Shares 3) (b o : ℕ) (γ : GName) (h : PiecebookWorking) (b₁ o₁ : ℕ) (γ₁ : GName) (ys : List ℕ) (t : RefT (List ℕ)) (m : Matrices 3) where
   -- the borrow of the area, at the list passed
   abbrev x : RefT (List ℕ)
   x = record { ptr = (b₁, o₁); name = γ₁; now = ys }
 
   abbrev Arg : Type 0
-  Arg = RefT PiecebookWorking × (RefT (List ℕ) × (RefT (List ℕ) × Matrices 6))
+  Arg = RefT PiecebookWorking × (RefT (List ℕ) × (RefT (List ℕ) × Matrices 3))
 
   abbrev a : Arg
   a = (record { ptr = (b, o); name = γ; now = h }, (x, (t, m)))
@@ -95,23 +95,23 @@ module _ {M : Type 1} (𝓤 : URA M) (H : Heap 𝓤) (A : Atoms 𝓤) (W : Given
   abbrev s′ : Val
   s′ = sliceVal (t .ptr) (length (t .now))
 
-  abbrev vals : List Val × (List Val × (List Val × Times 6 (List Val)))
-  vals = (vptr b o ∷ [], (s ∷ [], (s′ ∷ [], machines 6 m)))
+  abbrev vals : List Val × (List Val × (List Val × Times 3 (List Val)))
+  vals = (vptr b o ∷ [], (s ∷ [], (s′ ∷ [], machines 3 m)))
 
   abbrev Post : Val → SProp 𝓤
   Post = walkOf 𝓤 H A f.ended stayed (f.clauses 𝓤 H A at-mem run) .post (((κ, (κ₁, (κ₂, κs))), (q, (q₁, (q₂, qs))), tt, a, vals), tt)
 
   -- the tokens but for the state's
   abbrev tokens : Item 𝓤
-  tokens = ‵ (flft κ₁ q₁) ⊛ ‵ (flft κ₂ q₂) ⊛ raw (toks 𝓤 A 6 κs qs)
+  tokens = ‵ (flft κ₁ q₁) ⊛ ‵ (flft κ₂ q₂) ⊛ raw (toks 𝓤 A 3 κs qs)
 
   -- what is handed on to the core
   abbrev lent : Item 𝓤
-  lent = ‵ (owns (MutSlice (named 0) κ₁ u8 ∷ ShrSlice (named 1) κ₂ u8 ∷ rows 6 κs) (x, (t, m)) (s ∷ [], (s′ ∷ [], machines 6 m)))
+  lent = ‵ (owns (MutSlice (named 0) κ₁ u8 ∷ ShrSlice (named 1) κ₂ u8 ∷ rows 3 κs) (x, (t, m)) (s ∷ [], (s′ ∷ [], machines 3 m)))
 
   -- what the core's triple binds outside
   abbrev to-core : Core 𝓤 H A at-mem run .Ghost
-  to-core = (((κ₁, (κ₂, κs)), (q₁, (q₂, qs)), tt, (h, (x, (t, m))), (T′.lowered h ∷ [], (s ∷ [], (s′ ∷ [], machines 6 m)))), tt)
+  to-core = (((κ₁, (κ₂, κs)), (q₁, (q₂, qs)), tt, (h, (x, (t, m))), (T′.lowered h ∷ [], (s ∷ [], (s′ ∷ [], machines 3 m)))), tt)
 
   goes : Is T.the-row h (T′.lowered h ∷ []) → ent 𝓤 (⋆ 𝓤 H A (tokens ∷ lent ∷ [])) (Core 𝓤 H A at-mem run .pre to-core)
   goes was =
@@ -129,33 +129,33 @@ module _ {M : Type 1} (𝓤 : URA M) (H : Heap 𝓤) (A : Atoms 𝓤) (W : Given
       → ent 𝓤 (⋆ 𝓤 H A (‵ (fobs γ (T.the-row .coded .code (r .working))) ∷ ‵ (fbor κ (Body (mem T.the-row) b o γ)) ∷ ‵ (flft κ q) ∷ tokens ∷ raw (Ensured r) ∷ [])) (Post u)
   exits r u is =
       qed W (‵ (fobs γ (T.the-row .coded .code (r .working))) ∷ ‵ (fbor κ (Body (mem T.the-row) b o γ)) ∷ ‵ (flft κ q) ∷ tokens ∷ raw (Ensured r) ∷ []) ∵
-      move ! (4 ∷ []) $ use1 W (some (λ (zs : Unit {0} × (List ℕ × (Unit {0} × Times 6 (List ℕ)))). ‵ (lasts core.ended (κ₁, (κ₂, κs)) (h, (x, (t, m))) zs) ⊛ raw (fact 𝓤 (Said r (zs .1 .0))))) (id⊢ 𝓤 _) $ pick ! (λ zs.
+      move ! (4 ∷ []) $ use1 W (some (λ (zs : Unit {0} × (List ℕ × (Unit {0} × Times 3 (List ℕ)))). ‵ (lasts core.ended (κ₁, (κ₂, κs)) (h, (x, (t, m))) zs) ⊛ raw (fact 𝓤 (Said r (zs .1 .0))))) (id⊢ 𝓤 _) $ pick ! (λ zs.
       split ! $ move ! (1 ∷ []) $ heard ! (Said r (zs .1 .0)) (λ e. fsplit ! $ drop ! $ fsplit ! $ fsplit ! $ move ! (1 ∷ []) $ feqL ! (λ l. move ! (1 ∷ []) $ fsplit ! $ drop ! $
       -- [the matrices; the area's last list; obs; the borrow; its token; the other tokens]
-      suffices ! _ (ends-at 𝓤 H A f.ended stayed (f.clauses 𝓤 H A at-mem run) W (((κ, (κ₁, (κ₂, κs))), (q, (q₁, (q₂, qs))), tt, a, vals), tt) u (r .result) (r .working, (zs .1 .0, (tt, zs .1 .1 .1))) (tt, (l, (tt, six)))) $ says ! e $
+      suffices ! _ (ends-at 𝓤 H A f.ended stayed (f.clauses 𝓤 H A at-mem run) W (((κ, (κ₁, (κ₂, κs))), (q, (q₁, (q₂, qs))), tt, a, vals), tt) u (r .result) (r .working, (zs .1 .0, (tt, zs .1 .1 .1))) (tt, (l, (tt, three)))) $ says ! e $
       move ! (4 ∷ 5 ∷ []) $ join ! $ frame ! $
       nothing ! $ fjoin ! $ move ! (1 ∷ 0 ∷ []) $ fjoin ! $ move ! (1 ∷ 2 ∷ []) $ feqI ! (List Val) (vptr b o ∷ []) (vptr b o ∷ []) refl $ fjoin3 ! $ fjoin ! $
       owned ! O.the-row (Is O.the-row) ((LL.makes O.the-type O′.the-plain) 𝓤 H A) (r .result) _ is $ move ! (1 ∷ 0 ∷ []) $ done !)))
 
   module _ (C : Calls 𝓤 H) (Λ : Loops 𝓤 H) (fm : FmC 𝓤 H (W .laws) C) (known : Triple 𝓤 (C #core) (Core 𝓤 H A at-mem run)) where
-    enters : Is (MutSlice (named 1) κ₁ u8) x (s ∷ []) → Room u8 (length ys) → Is (ShrSlice (named 2) κ₂ u8) t (s′ ∷ []) → ent 𝓤 (onEntry 𝓤 H A f.signature (κ, (κ₁, (κ₂, κs))) (q, (q₁, (q₂, qs))) a vals) (WpFn 𝓤 H C Λ code.function (vptr b o ∷ s ∷ s′ ∷ pointers 6 m) Post)
+    enters : Is (MutSlice (named 1) κ₁ u8) x (s ∷ []) → Room u8 (length ys) → Is (ShrSlice (named 2) κ₂ u8) t (s′ ∷ []) → ent 𝓤 (onEntry 𝓤 H A f.signature (κ, (κ₁, (κ₂, κs))) (q, (q₁, (q₂, qs))) a vals) (WpFn 𝓤 H C Λ code.function (vptr b o ∷ s ∷ s′ ∷ pointers 3 m) Post)
     enters is-area room is-addition =
-        qed W ((‵ (flft κ q) ⊛ tokens) ∷ ‵ (owns (MutRef (named 0) κ T.the-row ∷ MutSlice (named 1) κ₁ u8 ∷ ShrSlice (named 1) κ₂ u8 ∷ rows 6 κs) a vals) ∷ []) ∵
+        qed W ((‵ (flft κ q) ⊛ tokens) ∷ ‵ (owns (MutRef (named 0) κ T.the-row ∷ MutSlice (named 1) κ₁ u8 ∷ ShrSlice (named 1) κ₂ u8 ∷ rows 3 κs) a vals) ∷ []) ∵
         split ! $ move ! (2 ∷ []) $ fsplit ! $ move ! (3 ∷ 1 ∷ []) $ join ! $ move ! (2 ∷ 1 ∷ 0 ∷ []) $
-        by ! (walk (sliceTy (tyRef (named 2) imm (tyInt w8))) 9 3 #core 𝓤 H A W C Λ fm κ q b o γ h b₁ o₁ (length ys) s′ m
+        by ! (walk (sliceTy (tyRef (named 2) imm (tyInt w8))) 6 3 #core 𝓤 H A W C Λ fm κ q b o γ h b₁ o₁ (length ys) s′ m
         (mut-slice-lawful 𝓤 H A W (named 1) κ₁ u8 .typed x (s ∷ []) is-area .0) (room .0) (shr-slice-lawful 𝓤 H A W (named 2) κ₂ u8 .typed t (s′ ∷ []) is-addition .0) tokens lent Ensured (Core 𝓤 H A at-mem run .post to-core) Post (λ was. via 𝓤 _ (goes was) (known to-core)) (λ w. id⊢ 𝓤 _) exits)
 
 module _ {M : Type 1} (𝓤 : URA M) (H : Heap 𝓤) (A : Atoms 𝓤) (W : Given 𝓤 H A) (mem : Memory → SProp 𝓤) (run : Routine → Fun 𝓤) where
   walks : (C : Calls 𝓤 H) (Λ : Loops 𝓤 H) → FmC 𝓤 H (W .laws) C → Triple 𝓤 (C #core) (Core 𝓤 H A mem run) → Walks 𝓤 H A f.ended stayed (WpFn 𝓤 H C Λ code.function) (f.clauses 𝓤 H A mem run)
   walks C Λ fm known = walked 𝓤 H A f.ended stayed (f.clauses 𝓤 H A mem run) (WpFn 𝓤 H C Λ code.function)
-      (λ κs. (ptr-vals, (slice-vals, (slice-vals, spells 6 (κs .1 .1 .1)))))
+      (λ κs. (ptr-vals, (slice-vals, (slice-vals, spells 3 (κs .1 .1 .1)))))
       (λ κs. (
         mut-tells (named 0) (κs .0) T.the-row,
         (
           mut-slice-tells (named 1) (κs .1 .0) u8,
           (
             shr-slice-tells (named 2) (κs .1 .1 .0) u8,
-            tells 6 (κs .1 .1 .1),
+            tells 3 (κs .1 .1 .1),
           ),
         ),
       ))
@@ -166,12 +166,12 @@ meets : {M : Type 1} (𝓤 : URA M) (H : Heap 𝓤) (A : Atoms 𝓤) → Given �
     → Meets 𝓤 H A f.signature (WpFn 𝓤 H (𝓣 .C) (𝓣 .Λ) code.function) (f.spec 𝓤 H A mem run)
 meets 𝓤 H A W mem run 𝓣 known =
     walk-meets 𝓤 H A f.ended stayed W (
-      goes-ref 𝓤 H A W 9 0 tt PiecebookWorkingS,
+      goes-ref 𝓤 H A W 6 0 tt PiecebookWorkingS,
       (
-        goes-gave-slice 𝓤 H A W 9 1 tt ByteS,
+        goes-gave-slice 𝓤 H A W 6 1 tt ByteS,
         (
-          goes-dropped 𝓤 H A W 9 AdditionS yes (λ κs x f. refl),
-          all-gave 9 𝓤 H A W 6 3 six,
+          goes-dropped 𝓤 H A W 6 AdditionS yes (λ κs x f. refl),
+          all-gave 6 𝓤 H A W 3 3 three,
         ),
       ),
     ) (f.clauses 𝓤 H A mem run)

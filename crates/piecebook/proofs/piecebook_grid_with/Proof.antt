@@ -1,15 +1,14 @@
 -- `piecebook::piecebook_grid_with` meets its contract: the numbers of the outcome, and the grids as they are. Assumes nothing.
 use mathlib.Core.Path.{ap, _∙_}
-use borrow.Author.Needs.{needs}
 use Rattle.outcomes.specs.Outcome.{number, place}
 use Rattle.piecebook.proofs.piecebook_grid_with.Statement.{statement}
 use Rattle.piecebook.proofs.piecebook_grid_with.Tie as tie
 
 grid-requires : tie.Need-grid-requires
-grid-requires c κs = search needs
+grid-requires c κs = tt
 
 result-of-requires : tie.Need-result-of-requires
-result-of-requires c κs = search needs
+result-of-requires c κs = tt
 
 returns : tie.Need-returns
 returns c =

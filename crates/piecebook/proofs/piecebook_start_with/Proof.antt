@@ -2,12 +2,11 @@
 -- Assumes nothing.
 use mathlib.Core.Path.{refl}
 use Rattle.piecebook.proofs.OpenBooks.{began}
-use borrow.Author.Needs.{needs}
 use Rattle.piecebook.proofs.piecebook_start_with.Statement.{statement}
 use Rattle.piecebook.proofs.piecebook_start_with.Tie as tie
 
 start-requires : tie.Need-start-requires
-start-requires c κs = search needs
+start-requires c κs = tt
 
 enum-told : tie.Need-enum-told
 enum-told c = c .match .keys1
@@ -16,7 +15,7 @@ enum-told-2 : tie.Need-enum-told-2
 enum-told-2 c = c .match .keys2
 
 told-requires : tie.Need-told-requires
-told-requires c κs = search needs
+told-requires c κs = tt
 
 same-length : tie.Need-same-length
 same-length c = c .before .before .before .before .before .before .start .kept .0
@@ -25,7 +24,7 @@ returns : tie.Need-returns
 returns c = began _ _ _ _ _ _ _ _ (c .before .enum-told2 .given .1) (c .before .before .before .before .before .before .start .ensures) (c .told .ensures) refl
 
 told-requires-2 : tie.Need-told-requires-2
-told-requires-2 c κs = search needs
+told-requires-2 c κs = tt
 
 same-length-2 : tie.Need-same-length-2
 same-length-2 c = c .before .before .before .before .before .before .before .start .kept .0
