@@ -208,10 +208,7 @@ fn grid_of(book: &[u8]) -> GridAnswer
     let mut e = [0u64; matrices::WORDS];
     let mut d = [0u64; matrices::WORDS];
     let mut t = [0u64; matrices::WORDS];
-    let mut u = [0u64; matrices::WORDS];
-    let mut p = [0u64; matrices::WORDS];
-    let mut q = [0u64; matrices::WORDS];
-    grids::grid(book, &mut e, &mut d, &mut t, &mut u, &mut p, &mut q)
+    grids::grid(book, &mut e, &mut d, &mut t)
 }
 
 // The text of the book's grids, from the start of the page. Answers where it ends.
