@@ -1,6 +1,6 @@
 -- Row 14's outcome and what it leaves, in buffers of exactly the lengths that are written. Assumes nothing.
 use Prim.Native.Nat.{ℕ, _-_}
-use mathlib.Core.Path.{_≡_, refl, sym, ap, subst, _∙_}
+use mathlib.Core.Path.{_≡_, refl, sym, ap, _∙_}
 use mathlib.Core.Bool.{false}
 use mathlib.Core.List.{List}
 use native.Mathlib.Omega.{arith}
@@ -25,7 +25,6 @@ use Rattle.records.specs.Claimed.{answersTo}
 use Rattle.outcomes.specs.Call.{pairsOf, byRuns, indexed, cleared, left}
 use Rattle.closure.specs.Counted.{Counted}
 use Rattle.answers.specs.Judging.{Cleared, Exact, Judged}
-use Rattle.outcomes.specs.declared.Outcome.{Outcome}
 use Rattle.outcomes.specs.declared.Outcome.the-variants.{Accepted, Refused}
 use Rattle.claims.proofs.Counts.{counted-settleable, counted-unmarked}
 use Rattle.outcomes.proofs.Buffers.{front-whole, packed-long, answers-long, same-lent}
@@ -69,12 +68,6 @@ module _ (s : List ℕ) (n : ℕ) (cs : List ℕ) (l : Lent) (X : Exact s n cs l
         (z .places-are ∙ sym (zeroed 2048 (l .places) (X .places-long)))
         refl;
   }
-
-  pub judged-clashed :
-      {r : Outcome} (place : ℕ) (parens marks shadows places : List ℕ) → r ≡ Refused Contradiction place → Clashed (marked s) n s place → Cleared 2560 1280 8192 2048 parens marks shadows places
-      → Judged s n cs l r (lent parens marks shadows places (l .answers))
-  judged-clashed {r} place parens marks shadows places e c z =
-      subst (λ x. Judged s n cs l x (lent parens marks shadows places (l .answers))) (sym e) (judged-refused place parens marks shadows places c z)
 
   pub judged-accepted :
       (nodes shadowed : ℕ) (parens marks shadows places answers d t : List ℕ)

@@ -4,8 +4,6 @@ ghost use mathlib.Core.List.{[]};
 ghost use lib.ListN.{length};
 ghost use lib.Dec.{ltb};
 ghost use mathlib.Core.Bool.{_||_};
-ghost use Rattle.records.specs.declared.Refusal.the-variants.{Contradiction};
-ghost use Rattle.outcomes.specs.declared.Outcome.the-variants.{Refused};
 ghost use Rattle.outcomes.specs.Lent.{lent};
 ghost use Rattle.outcomes.specs.Call.{Determined};
 ghost use Rattle.outcomes.specs.Outcome.{number, place, nodeCount};
@@ -35,20 +33,6 @@ pub fn clear_index(parens: &mut [u8], marks: &mut [u8], shadows: &mut [u16], pla
     numbers::clear(marks);
     numbers::shorts::fill(shadows, 0);
     numbers::shorts::fill(places, 0);
-}
-
-// Row 14 at this place: there is no index.
-fn refuse_clash(
-    parens: &mut [u8],
-    marks: &mut [u8],
-    shadows: &mut [u16],
-    places: &mut [u16],
-    at: usize,
-) -> Outcome
-    ensures { λ r. ⌜ (r ≡ Refused Contradiction at) × Cleared (length (now (parens .entry))) (length (now (marks .entry))) (length (now (shadows .entry))) (length (now (places .entry))) (now (parens .exit)) (now (marks .exit)) (now (shadows .exit)) (now (places .exit)) ⌝ }
-{
-    clear_index(parens, marks, shadows, places);
-    Outcome::Refused(Refusal::Contradiction, at)
 }
 
 // The marks of the whole book, then row 14, the index and the answers, for a book and claims that pass the rows before, in lent parts of document 01's lengths.
@@ -91,7 +75,10 @@ pub fn judge_in(
         places,
     );
     match settled {
-        Settled::Clash(place) => refuse_clash(parens, marks, shadows, places, place),
+        Settled::Clash(place) => {
+            clear_index(parens, marks, shadows, places);
+            Outcome::Refused(Refusal::Contradiction, place)
+        }
         Settled::Free(nodes, shadowed) => {
             claims::answer_all(
                 book,
@@ -156,7 +143,7 @@ fn check_rows(book: &[u8], claims: &[u8]) -> BookCheck
     }
 }
 
-// Answers the claims about the book and writes the index. Demands 1 to 3 stand in the promises. The six matrices are scratch: what they hold at entry does not matter, and at exit it is free. Demands 1 to 3 stand in the promises.
+// Answers the claims about the book and writes the index. Demands 1 to 3 stand in the promises. The six matrices are scratch: what they hold at entry does not matter, and at exit it is free.
 pub fn answer_claims(
     book: &[u8],
     claims: &[u8],
