@@ -1,6 +1,6 @@
 -- The text of a log by the call's outcome, and how long it is. Assumes nothing.
 use Prim.Native.Nat.{ℕ, _+_, _*_, _/_, _≤_, _<_}
-use mathlib.Core.Path.{_≡_, _∙_, ap, sym}
+use mathlib.Core.Path.{_≡_, _∙_, ap, sym, subst}
 use mathlib.Core.List.{List, _++_}
 use native.Mathlib.Omega.{arith}
 use lib.ListN.{length, take, getD, replicate, length-append, length-replicate}
@@ -70,21 +70,22 @@ module _ (book log source other out : List ℕ) (r : Replicated) (d : Determined
   unfolding measuredText
   told = rw (d .bytes-are, comes)
 
-  pub refused : (e : Refusal) (i : ℕ) → r .outcome ≡ Refused e i → line.refused e i source other ≡ measuredText book log source other
-  unfolding textOf
-  refused e i is = rw (sym told, is)
-
-  pub refused-short : (e : Refusal) (i : ℕ) → r .outcome ≡ Refused e i → length (line.refused e i source other) ≤ 142
-      → length (measuredText book log source other) ≤ 655380
-  refused-short e i is h = rw (sym (refused e i is)) (omega arith)
-
-  module _ (n nodes shadows : ℕ) (is : r .outcome ≡ Accepted n nodes shadows) where
-    pub accepted : entryLines log out (entryCount log) ≡ measuredText book log source other
+  -- a text of the outcome that was put is the log's
+  module _ {p q : List ℕ} {end : ℕ} where
+    pub refused : (e : Refusal) (i : ℕ) → r .outcome ≡ Refused e i → Put p 0 (line.refused e i source other) q end × (length (line.refused e i source other) ≤ 142)
+        → Put p 0 (measuredText book log source other) q end × (length (measuredText book log source other) ≤ 655380)
     unfolding textOf
-    accepted = rw (sym told, is)
+    refused e i is a =
+        let same : line.refused e i source other ≡ measuredText book log source other = rw (sym told, is) in
+        subst (λ s. Put p 0 s q end × (length s ≤ 655380)) same (a .0, omega (arith, a .1))
 
-    pub accepted-short : length (entryLines log out (entryCount log)) ≤ 655380 → length (measuredText book log source other) ≤ 655380
-    accepted-short h = rw (sym accepted) h
+    pub accepted : (n nodes shadows : ℕ) → r .outcome ≡ Accepted n nodes shadows
+        → Put p 0 (entryLines log out (entryCount log)) q end × (length (entryLines log out (entryCount log)) ≤ 655380)
+        → Put p 0 (measuredText book log source other) q end × (length (measuredText book log source other) ≤ 655380)
+    unfolding textOf
+    accepted n nodes shadows is a =
+        let same : entryLines log out (entryCount log) ≡ measuredText book log source other = rw (sym told, is) in
+        subst (λ s. Put p 0 s q end × (length s ≤ 655380)) same a
 
 -- at most 32,769 entries are read
 pub log-fits : (out : List ℕ) (n : ℕ) → n ≤ length out → length out ≡ 65538 → length (take n out) ≤ 65538

@@ -1,11 +1,8 @@
 -- `beside_pages::put_log` meets its contract. Assumes nothing.
-use native.Mathlib.Omega.{arith}
-use borrow.Author.Needs.{needs}
 use Prim.Native.Nat.{ℕ}
 use mathlib.Core.Path.{sym, _∙_}
 use lib.ListN.{length-replicate}
-use Rattle.pages.proofs.Puts.{put-as}
-use Rattle.beside_pages.proofs.LogTexts.{refused, refused-short, accepted, accepted-short, bytes-serve}
+use Rattle.beside_pages.proofs.LogTexts.{refused, accepted, bytes-serve}
 use Rattle.beside_pages.proofs.log.put_log.Statement.{statement}
 use Rattle.beside_pages.proofs.log.put_log.Tie as tie
 
@@ -34,13 +31,13 @@ same-length : tie.Need-same-length
 same-length c = c .before .before .put-refused .kept .0
 
 returns : tie.Need-returns
-returns c = (put-as (refused _ _ _ _ _ _ (c .before .before .before .before .before .before .before .before .measure .ensures) _ _ (c .before .before .before .before .before .outcome .given .1)) (c .before .before .put-refused .ensures .0), refused-short _ _ _ _ _ _ (c .before .before .before .before .before .before .before .before .measure .ensures) _ _ (c .before .before .before .before .before .outcome .given .1) (c .before .before .put-refused .ensures .1))
+returns c = refused _ _ _ _ _ _ (c .before .before .before .before .before .before .before .before .measure .ensures) _ _ (c .before .before .before .before .before .outcome .given .1) (c .before .before .put-refused .ensures)
 
 same-length-2 : tie.Need-same-length-2
 same-length-2 c = c .before .before .put-entries .kept .0
 
 returns-2 : tie.Need-returns-2
-returns-2 c = (put-as (accepted _ _ _ _ _ _ (c .before .before .before .before .before .before .before .before .measure .ensures) _ _ _ (c .before .before .before .before .before .enum-told .given .1)) (c .before .before .put-entries .ensures .0), accepted-short _ _ _ _ _ _ (c .before .before .before .before .before .before .before .before .measure .ensures) _ _ _ (c .before .before .before .before .before .enum-told .given .1) (c .before .before .put-entries .ensures .1))
+returns-2 c = accepted _ _ _ _ _ _ (c .before .before .before .before .before .before .before .before .measure .ensures) _ _ _ (c .before .before .before .before .before .enum-told .given .1) (c .before .before .put-entries .ensures)
 
 pub put-log-spec : {M : Type 1} → statement M
 put-log-spec =

@@ -1,5 +1,4 @@
--- `book_pages::put_grid` meets its contract. Assumes nothing.
-use native.Mathlib.Omega.{arith}
+-- `grid::put_grid` meets its contract, by what the grid call comes to. Assumes nothing.
 use borrow.Author.Needs.{needs}
 use Rattle.pages.proofs.Puts.{put-as}
 use Rattle.book_pages.proofs.GridTexts.{refused, refused-short, small, accepted, accepted-short}

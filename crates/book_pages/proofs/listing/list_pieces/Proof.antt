@@ -1,5 +1,4 @@
 -- `listing::list_pieces` meets its contract: the buffers are those of the text. Assumes nothing.
-use native.Mathlib.Omega.{arith}
 use borrow.Author.Needs.{needs}
 use Prim.Native.Nat.{ℕ}
 use mathlib.Core.Path.{sym}

@@ -1,4 +1,4 @@
--- `book_pages::put_catalog` meets its contract. Assumes nothing.
+-- `listing::put_catalog` meets its contract, by what the catalog comes to. Assumes nothing.
 use native.Mathlib.Omega.{arith}
 use borrow.Author.Needs.{needs}
 use Prim.Native.Nat.{ℕ}

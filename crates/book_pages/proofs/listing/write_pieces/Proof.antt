@@ -1,6 +1,5 @@
 -- `book_pages::write_pieces` meets its contract. Assumes nothing.
 use native.Mathlib.Omega.{arith}
-use borrow.Author.Needs.{needs}
 use Prim.Native.Nat.{ℕ}
 use lib.ListN.{length-replicate}
 use mathlib.Core.Path.{sym}

@@ -6,7 +6,6 @@ use lib.ListN.{length-replicate}
 use mathlib.Core.Path.{sym}
 use lib.Seq.{length-take-le}
 use Rattle.sentences.proofs.Tellings.{took-bytes, took-unread, page-read, page-unread, put-page}
-use lib.Dec.{lit≤}
 use Rattle.book_pages.proofs.session.write_about.Statement.{statement}
 use Rattle.book_pages.proofs.session.write_about.Tie as tie
 

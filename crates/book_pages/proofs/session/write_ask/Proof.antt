@@ -1,6 +1,5 @@
 -- `book_pages::write_ask` meets its contract. Assumes nothing.
 use native.Mathlib.Omega.{arith}
-use borrow.Author.Needs.{needs}
 use mathlib.Core.Path.{sym}
 use lib.Seq.{length-take-le}
 use Rattle.sentences.proofs.Tellings.{took-bytes, took-unread, page-read, page-unread}
