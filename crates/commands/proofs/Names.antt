@@ -8,7 +8,8 @@ use borrow.Author.Tests.{eqb-true, eq-eqb, ne-eqb, lt-ltb, le-ltb}
 use Rattle.lists.proofs.Bools.{and-both, both-and, Known, is-true, is-false, known}
 use Rattle.text.specs.Tests.{ifTrue}
 use Rattle.commands.specs.declared.Command.{Command}
-use Rattle.commands.specs.declared.Command.the-variants.{Help}
+use Rattle.commands.specs.declared.Command.the-variants.{Task}
+use Rattle.commands.specs.declared.Task.the-variants.{Help}
 use Rattle.commands.specs.Named.{same, Row, row, named, ofBook, ofWords, ofFiles, rowsFor, commandOf}
 
 -- what `check::same` ensures
@@ -48,13 +49,13 @@ pub upon : (word name : List ℕ) (rows : List Row) (command below : Command) {r
 unfolding named
 upon word name rows command below e p = e ∙ ap (λ (x : Command). ifTrue (same word name) command x) p
 
-pub none : (word : List ℕ) → Help ≡ named [] word
+pub none : (word : List ℕ) → Task Help ≡ named [] word
 unfolding named
 none word = refl
 
 -- the rows, by how many arguments there are
 module _ (word : List ℕ) (count : ℕ) where
-  pub few : count < 3 → Help ≡ commandOf word count
+  pub few : count < 3 → Task Help ≡ commandOf word count
   unfolding commandOf rowsFor named
   few l = rw (lt-ltb count 3 l)
 

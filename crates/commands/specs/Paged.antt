@@ -11,7 +11,6 @@ use Rattle.book_pages.specs.AskText.{checkText, askText, askWordsText}
 use Rattle.book_pages.specs.ListText.{listText}
 use Rattle.book_pages.specs.GridText.{gridText}
 use Rattle.book_pages.specs.ShowText.{showText}
-use Rattle.beside_pages.specs.LogText.{logText}
 use Rattle.change_pages.specs.Change as made
 use Rattle.change_pages.specs.Changes as new
 use Rattle.chain_pages.specs.Why.{Why}
@@ -20,8 +19,8 @@ use Rattle.commands.specs.declared.BookPage.{BookPage}
 use Rattle.commands.specs.declared.BookPage.the-variants as book
 use Rattle.commands.specs.declared.WordsPage.{WordsPage}
 use Rattle.commands.specs.declared.WordsPage.the-variants as words
-use Rattle.commands.specs.declared.InputPage.{InputPage}
-use Rattle.commands.specs.declared.InputPage.the-variants as input
+use Rattle.commands.specs.declared.Session.{Session}
+use Rattle.commands.specs.declared.Session.the-variants.{Check, AskWords, AskInput}
 use Rattle.commands.specs.declared.Change.{Change}
 use Rattle.commands.specs.declared.Change.the-variants.{Add, Withdraw}
 use Rattle.commands.specs.declared.Export.{Export}
@@ -32,25 +31,31 @@ pub record Served (text : List ℕ) (most : ℕ) (page page′ : List ℕ) (r : 
   pub page-is : Page page text page′ r
   pub short : length text ≤ most
 
+-- of a session with a book: `asked` are the words, or the claims
+abbrev pub SessionPaged : Session → (source asked page page′ : List ℕ) → Written → Type 0
+SessionPaged Check source asked page page′ r = Served (checkText source) 142 page page′ r
+SessionPaged AskWords source asked page page′ r = Served (askWordsText source asked) 175 page page′ r
+SessionPaged AskInput source asked page page′ r = Served (askText source asked) 135343 page page′ r
+
 -- of a book alone
 abbrev pub BookPaged : BookPage → (source page page′ : List ℕ) → Written → Type 0
-BookPaged book.Check source page page′ r = Served (checkText source) 142 page page′ r
 BookPaged book.Why source page page′ r = Clash source page page′ r
 BookPaged book.Grid source page page′ r = Served (gridText source) 4498 page page′ r
 BookPaged book.Show source page page′ r = Served (showText source) 229404 page page′ r
 
--- of a book and the words behind it; the lists are for PART, MEETS and APART, by document 01's numbers
+-- the kind of a list's claims, by document 01's numbers; a chain has none
+abbrev pub listKind : WordsPage → ℕ
+listKind words.Why = 0
+listKind words.Inside = 1
+listKind words.Touching = 3
+listKind words.Apart = 2
+
+-- of a book and the words behind it
 abbrev pub WordsPaged : WordsPage → (source words page page′ : List ℕ) → Written → Type 0
-WordsPaged words.Ask source said page page′ r = Served (askWordsText source said) 175 page page′ r
 WordsPaged words.Why source said page page′ r = Why source said page page′ r
 WordsPaged words.Inside source said page page′ r = Served (listText source 1 said) 12300 page page′ r
 WordsPaged words.Touching source said page page′ r = Served (listText source 3 said) 12300 page page′ r
 WordsPaged words.Apart source said page page′ r = Served (listText source 2 said) 12300 page page′ r
-
--- of a book and standard input
-abbrev pub InputPaged : InputPage → (source input page page′ : List ℕ) → Written → Type 0
-InputPaged input.Ask source other page page′ r = Served (askText source other) 135343 page page′ r
-InputPaged input.Replicates source other page page′ r = Served (logText source other) 655380 page page′ r
 
 -- the new book by the words, or why the file stays as it is
 abbrev pub changeBy : Change → (source words : List ℕ) → made.Change
@@ -64,7 +69,6 @@ exportBy Convert source = new.converting source
 
 -- what the words of a page are
 abbrev pub wordsForm : WordsPage → Form
-wordsForm words.Ask = Claims
 wordsForm words.Why = Claims
 wordsForm words.Inside = Log
 wordsForm words.Touching = Log

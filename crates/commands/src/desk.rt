@@ -1,52 +1,57 @@
 // The page of each command, by its family.
 ghost use mathlib.Core.Path.{_≡_};
 ghost use Rattle.change_pages.specs.Made.{Made};
-ghost use Rattle.commands.specs.Paged.{BookPaged, WordsPaged, InputPaged, changeBy, exportBy, wordsForm, changeForm, endOf};
+ghost use Rattle.commands.specs.Paged.{SessionPaged, BookPaged, listKind, WordsPaged, changeBy, exportBy, wordsForm, changeForm, endOf};
 use crate::BookPage;
 use crate::Change;
 use crate::Export;
-use crate::InputPage;
+use crate::Session;
 use crate::WordsPage;
 use change_pages::Changed;
 use pages::Written;
 use text::Form;
 
+// What is asked are the words, or the claims of standard input.
+pub fn session_page(which: Session, source: &[u8], asked: &[u8], page: &mut [u8]) -> Written
+    ensures { λ r. ⌜ SessionPaged which (now (source .entry)) (now (asked .entry)) (now (page .entry)) (now (page .exit)) r ⌝ }
+{
+    match which {
+        Session::Check => book_pages::session::write_check(source, page),
+        Session::AskWords => book_pages::session::write_ask_words(source, asked, page),
+        Session::AskInput => book_pages::session::write_ask(source, asked, page),
+    }
+}
+
 pub fn book_page(which: BookPage, source: &[u8], page: &mut [u8]) -> Written
     ensures { λ r. ⌜ BookPaged which (now (source .entry)) (now (page .entry)) (now (page .exit)) r ⌝ }
 {
     match which {
-        BookPage::Check => book_pages::session::write_check(source, page),
         BookPage::Why => chain_pages::write_contradiction(source, page),
         BookPage::Grid => book_pages::grid::write_grid(source, page),
         BookPage::Show => book_pages::show::write_show(source, page),
     }
 }
 
+// The kind of a list's claims, and 0 for a chain.
+fn list_kind(which: WordsPage) -> usize
+    ensures { λ r. ⌜ r ≡ listKind which ⌝ }
+{
+    match which {
+        WordsPage::Why => 0,
+        WordsPage::Inside => records::PART as usize,
+        WordsPage::Touching => records::MEETS as usize,
+        WordsPage::Apart => records::APART as usize,
+    }
+}
+
 pub fn words_page(which: WordsPage, source: &[u8], words: &[u8], page: &mut [u8]) -> Written
     ensures { λ r. ⌜ WordsPaged which (now (source .entry)) (now (words .entry)) (now (page .entry)) (now (page .exit)) r ⌝ }
 {
-    match which {
-        WordsPage::Ask => book_pages::session::write_ask_words(source, words, page),
-        WordsPage::Why => chain_pages::write_why(source, words, page),
-        WordsPage::Inside => book_pages::listing::write_list(
-            source,
-            records::PART as usize,
-            words,
-            page,
-        ),
-        WordsPage::Touching => book_pages::listing::write_list(
-            source,
-            records::MEETS as usize,
-            words,
-            page,
-        ),
-        WordsPage::Apart => book_pages::listing::write_list(
-            source,
-            records::APART as usize,
-            words,
-            page,
-        ),
+    let kind = list_kind(which);
+    if kind == 0 {
+        return chain_pages::write_why(source, words, page);
     }
+    book_pages::listing::write_list(source, kind, words, page)
 }
 
 // What the words of a page are.
@@ -54,20 +59,10 @@ pub fn words_form(which: WordsPage) -> Form
     ensures { λ r. ⌜ r ≡ wordsForm which ⌝ }
 {
     match which {
-        WordsPage::Ask => Form::Claims,
         WordsPage::Why => Form::Claims,
         WordsPage::Inside => Form::Log,
         WordsPage::Touching => Form::Log,
         WordsPage::Apart => Form::Log,
-    }
-}
-
-pub fn input_page(which: InputPage, source: &[u8], input: &[u8], page: &mut [u8]) -> Written
-    ensures { λ r. ⌜ InputPaged which (now (source .entry)) (now (input .entry)) (now (page .entry)) (now (page .exit)) r ⌝ }
-{
-    match which {
-        InputPage::Ask => book_pages::session::write_ask(source, input, page),
-        InputPage::Replicates => beside_pages::log::write_log(source, input, page),
     }
 }
 

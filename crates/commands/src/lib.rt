@@ -7,9 +7,15 @@ ghost use Rattle.commands.specs.Named.{same, named, ofBook, ofWords, ofF
 
 pub mod desk;
 
+// A session with a book: its counts, the answer to the claim in the words, or the answers to the claims of standard input.
+pub enum Session {
+    Check,
+    AskWords,
+    AskInput,
+}
+
 // A page of a book alone.
 pub enum BookPage {
-    Check,
     Why,
     Grid,
     Show,
@@ -17,17 +23,10 @@ pub enum BookPage {
 
 // A page of a book and the words behind it.
 pub enum WordsPage {
-    Ask,
     Why,
     Inside,
     Touching,
     Apart,
-}
-
-// A page of a book and standard input.
-pub enum InputPage {
-    Ask,
-    Replicates,
 }
 
 // A book is written anew by the words behind it.
@@ -42,16 +41,22 @@ pub enum Export {
     Convert,
 }
 
-pub enum Command {
+// What is no session.
+pub enum Task {
     Book(BookPage),
     Words(WordsPage),
-    Input(InputPage),
+    Replicates,
     Verify,
     Compare,
     Edit(Change),
     Write(Export),
     New,
     Help,
+}
+
+pub enum Command {
+    Session(Session),
+    Task(Task),
 }
 
 // One row of a table: its command where the word is its name, or else that of the rows below it.
@@ -68,38 +73,78 @@ fn row(word: &[u8], name: &[u8], command: Command, below: Command) -> Command
 fn of_one(word: &[u8]) -> Command
     ensures { λ r. ⌜ r ≡ named ofBook (now (word .entry)) ⌝ }
 {
-    let command = Command::Help;
-    let command = row(word, b"new", Command::New, command);
+    let command = Command::Task(Task::Help);
+    let command = row(word, b"new", Command::Task(Task::New), command);
     let command = row(
         word,
         b"replicates",
-        Command::Input(InputPage::Replicates),
+        Command::Task(Task::Replicates),
         command,
     );
-    let command = row(word, b"ask", Command::Input(InputPage::Ask), command);
-    let command = row(word, b"show", Command::Book(BookPage::Show), command);
-    let command = row(word, b"grid", Command::Book(BookPage::Grid), command);
-    let command = row(word, b"why", Command::Book(BookPage::Why), command);
-    row(word, b"check", Command::Book(BookPage::Check), command)
+    let command = row(word, b"ask", Command::Session(Session::AskInput), command);
+    let command = row(
+        word,
+        b"show",
+        Command::Task(Task::Book(BookPage::Show)),
+        command,
+    );
+    let command = row(
+        word,
+        b"grid",
+        Command::Task(Task::Book(BookPage::Grid)),
+        command,
+    );
+    let command = row(
+        word,
+        b"why",
+        Command::Task(Task::Book(BookPage::Why)),
+        command,
+    );
+    row(word, b"check", Command::Session(Session::Check), command)
 }
 
 // The commands of a book and words.
 fn of_words(word: &[u8]) -> Command
     ensures { λ r. ⌜ r ≡ named ofWords (now (word .entry)) ⌝ }
 {
-    let command = Command::Help;
-    let command = row(word, b"withdraw", Command::Edit(Change::Withdraw), command);
-    let command = row(word, b"add", Command::Edit(Change::Add), command);
-    let command = row(word, b"apart", Command::Words(WordsPage::Apart), command);
+    let command = Command::Task(Task::Help);
+    let command = row(
+        word,
+        b"withdraw",
+        Command::Task(Task::Edit(Change::Withdraw)),
+        command,
+    );
+    let command = row(
+        word,
+        b"add",
+        Command::Task(Task::Edit(Change::Add)),
+        command,
+    );
+    let command = row(
+        word,
+        b"apart",
+        Command::Task(Task::Words(WordsPage::Apart)),
+        command,
+    );
     let command = row(
         word,
         b"touching",
-        Command::Words(WordsPage::Touching),
+        Command::Task(Task::Words(WordsPage::Touching)),
         command,
     );
-    let command = row(word, b"inside", Command::Words(WordsPage::Inside), command);
-    let command = row(word, b"why", Command::Words(WordsPage::Why), command);
-    row(word, b"ask", Command::Words(WordsPage::Ask), command)
+    let command = row(
+        word,
+        b"inside",
+        Command::Task(Task::Words(WordsPage::Inside)),
+        command,
+    );
+    let command = row(
+        word,
+        b"why",
+        Command::Task(Task::Words(WordsPage::Why)),
+        command,
+    );
+    row(word, b"ask", Command::Session(Session::AskWords), command)
 }
 
 // The commands of two files, or else of a book and words.
@@ -107,17 +152,27 @@ fn of_two(word: &[u8]) -> Command
     ensures { λ r. ⌜ r ≡ named (ofFiles ++ ofWords) (now (word .entry)) ⌝ }
 {
     let command = of_words(word);
-    let command = row(word, b"convert", Command::Write(Export::Convert), command);
-    let command = row(word, b"pack", Command::Write(Export::Pack), command);
-    let command = row(word, b"compare", Command::Compare, command);
-    row(word, b"verify", Command::Verify, command)
+    let command = row(
+        word,
+        b"convert",
+        Command::Task(Task::Write(Export::Convert)),
+        command,
+    );
+    let command = row(
+        word,
+        b"pack",
+        Command::Task(Task::Write(Export::Pack)),
+        command,
+    );
+    let command = row(word, b"compare", Command::Task(Task::Compare), command);
+    row(word, b"verify", Command::Task(Task::Verify), command)
 }
 
 pub fn command_of(word: &[u8], count: usize) -> Command
     ensures { λ r. ⌜ r ≡ commandOf (now (word .entry)) count ⌝ }
 {
     if count < 3 {
-        return Command::Help;
+        return Command::Task(Task::Help);
     }
     if count == 3 {
         return of_one(word);

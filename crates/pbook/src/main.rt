@@ -6,6 +6,8 @@ mod changes;
 mod reading;
 
 use commands::Command;
+use commands::Session;
+use commands::Task;
 
 // The list of commands.
 fn help() {
@@ -20,19 +22,27 @@ fn named() -> Command {
     commands::command_of(&word[..n], os::arg_count())
 }
 
+// A session is not called from `run`, whose frame has the matrices of the other pages.
+fn session(which: Session, source: &mut [u8], other: &mut [u8], page: &mut [u8]) {
+    match which {
+        Session::Check => reading::check(source, page),
+        Session::AskWords => reading::ask_words(source, page),
+        Session::AskInput => reading::ask_input(source, other, page),
+    }
+}
+
 // `long` has room for the longest page, and for the longest chain that `verify` reads; `short` for the page of a command that reads more than that.
-fn run(source: &mut [u8], other: &mut [u8], long: &mut [u8], short: &mut [u8]) {
-    let command = named();
-    match command {
-        Command::Book(which) => reading::book(which, source, long),
-        Command::Words(which) => reading::words(which, source, long),
-        Command::Input(which) => reading::input(which, source, other, long),
-        Command::Verify => reading::verify(source, long, short),
-        Command::Compare => reading::compare(source, other, long, short),
-        Command::Edit(which) => changes::change(which, source, short),
-        Command::Write(which) => changes::export(which, source, short),
-        Command::New => changes::new(short),
-        Command::Help => help(),
+fn run(task: Task, source: &mut [u8], other: &mut [u8], long: &mut [u8], short: &mut [u8]) {
+    match task {
+        Task::Book(which) => reading::book(which, source, long),
+        Task::Words(which) => reading::words(which, source, long),
+        Task::Replicates => reading::replicates(source, other, long),
+        Task::Verify => reading::verify(source, long, short),
+        Task::Compare => reading::compare(source, other, long, short),
+        Task::Edit(which) => changes::change(which, source, short),
+        Task::Write(which) => changes::export(which, source, short),
+        Task::New => changes::new(short),
+        Task::Help => help(),
     }
 }
 
@@ -41,5 +51,9 @@ fn main() {
     let mut other = buffers::text();
     let mut long = buffers::long_page();
     let mut short = buffers::page();
-    run(&mut source, &mut other, &mut long, &mut short);
+    let command = named();
+    match command {
+        Command::Session(which) => session(which, &mut source, &mut other, &mut long),
+        Command::Task(task) => run(task, &mut source, &mut other, &mut long, &mut short),
+    }
 }

@@ -1,10 +1,11 @@
 // The commands that read, and lay out a page: one function for each family.
 ghost use Rattle.io.specs.Counts.{Counts};
 use commands::BookPage;
-use commands::InputPage;
+use commands::Session;
 use commands::WordsPage;
 use files::Got;
 use pages::Written;
+use text::Form;
 
 // Writes a page, or nothing of one that has no room.
 fn print(written: Written, page: &[u8]) {
@@ -22,6 +23,48 @@ fn read_named(i: usize, buf: &mut [u8]) -> Got
     }
     let length = given.n;
     files::read_file(&path[..length], buf)
+}
+
+pub fn check(source: &mut [u8], page: &mut [u8]) {
+    let got = read_named(crate::arguments::BOOK, source);
+    if got.failed {
+        return;
+    }
+    let n = got.n;
+    let none = [0u8; 0];
+    let written = commands::desk::session_page(Session::Check, &source[..n], &none, page);
+    print(written, page);
+}
+
+pub fn ask_words(source: &mut [u8], page: &mut [u8]) {
+    let mut line = io::buffer();
+    let words = crate::arguments::said(Form::Claims, &mut line, page);
+    if words.failed {
+        return;
+    }
+    let got = read_named(crate::arguments::BOOK, source);
+    if got.failed {
+        return;
+    }
+    let n = got.n;
+    let m = words.n;
+    let written = commands::desk::session_page(Session::AskWords, &source[..n], &line[..m], page);
+    print(written, page);
+}
+
+pub fn ask_input(source: &mut [u8], claims: &mut [u8], page: &mut [u8]) {
+    let got = read_named(crate::arguments::BOOK, source);
+    if got.failed {
+        return;
+    }
+    let n = got.n;
+    let more = files::read_input(claims);
+    if more.failed {
+        return;
+    }
+    let m = more.n;
+    let written = commands::desk::session_page(Session::AskInput, &source[..n], &claims[..m], page);
+    print(written, page);
 }
 
 pub fn book(which: BookPage, source: &mut [u8], page: &mut [u8]) {
@@ -50,18 +93,18 @@ pub fn words(which: WordsPage, source: &mut [u8], page: &mut [u8]) {
     print(written, page);
 }
 
-pub fn input(which: InputPage, source: &mut [u8], input: &mut [u8], page: &mut [u8]) {
+pub fn replicates(source: &mut [u8], log: &mut [u8], page: &mut [u8]) {
     let got = read_named(crate::arguments::BOOK, source);
     if got.failed {
         return;
     }
     let n = got.n;
-    let more = files::read_input(input);
+    let more = files::read_input(log);
     if more.failed {
         return;
     }
     let m = more.n;
-    let written = commands::desk::input_page(which, &source[..n], &input[..m], page);
+    let written = beside_pages::log::write_log(&source[..n], &log[..m], page);
     print(written, page);
 }
 
