@@ -37,7 +37,7 @@ pub fn clear_index(parens: &mut [u8], marks: &mut [u8], shadows: &mut [u16], pla
 
 // The marks of the whole book, then row 14, the index and the answers, for a book and claims that pass the rows before, in lent parts of document 01's lengths.
 // n is the count of the book's pieces, or a larger one. The matrices are scratch.
-pub fn judge_in(
+fn judge_in(
     book: &[u8],
     n: usize,
     claims: &[u8],

@@ -119,7 +119,7 @@ fn spread(
     end
 }
 
-// Breadth first from k: each piece met gets as its parent the piece from which it is met. 2048 stands for none, at first everywhere.
+// Breadth first from k: each piece met gets as its parent the piece from which it is met. `NONE` stands at first everywhere.
 pub fn search_from(k: usize, n: usize, edges: &[u64], parent: &mut [u16], order: &mut [u16])
     requires { ⌜ (IsMatrix (now edges)) × (n ≤ ROWS) × (k < n) × (length (now parent) ≡ ROWS) × (length (now order) ≡ ROWS) × ((q : ℕ) → q < n → fresh (now parent) q ≡ true) ⌝ }
     ensures { λ _. ⌜ Searched n (pairOf n (now (edges .entry))) k (now (parent .exit)) ⌝ }
