@@ -1,11 +1,9 @@
 // Which command the arguments name: by the first word, and by how many arguments there are, the program's own name among them.
-// Commands that read and write alike are one family: the program has a function for each family, and `desk` a page for each command.
+// Commands that read and write alike are one family: the program has a function for each family.
 ghost use mathlib.Core.Path.{_≡_};
 ghost use mathlib.Core.List.{_++_};
 ghost use Rattle.text.specs.Tests.{ifTrue};
 ghost use Rattle.commands.specs.Named.{same, named, ofBook, ofWords, ofFiles, commandOf};
-
-pub mod desk;
 
 // A session with a book: its counts, the answer to the claim in the words, or the answers to the claims of standard input.
 pub enum Session {

@@ -51,7 +51,7 @@ pub fn said(form: Form, line: &mut [u8], page: &mut [u8]) -> Got
     ensures { λ r. ⌜ Counts (r .n) (now (line .exit)) ⌝ }
 {
     let n = words(NEXT, line);
-    let bad = commands::desk::end_of(book_pages::words::write_words(form, &line[..n], page));
+    let bad = crate::desk::end_of(book_pages::words::write_words(form, &line[..n], page));
     if 0 < bad {
         files::write_page(page, bad);
     }

@@ -69,9 +69,9 @@ fn change_book(which: Change, path: &[u8], words: &[u8], source: &mut [u8], page
     }
     let n = open.n;
     let mut out = [0u8; change_pages::OUT_BYTES];
-    let made = commands::desk::change_page(which, &source[..n], words, &mut out, page);
+    let made = crate::desk::change_page(which, &source[..n], words, &mut out, page);
     let written = made.written;
-    let end = commands::desk::end_of(written);
+    let end = crate::desk::end_of(written);
     if made.changed {
         if changing::keep(open.file, path, &out, made.bytes, open.mode) {
             files::write_page(page, end);
@@ -85,7 +85,7 @@ fn change_book(which: Change, path: &[u8], words: &[u8], source: &mut [u8], page
 // The words are read before the lock is made.
 pub fn change(which: Change, source: &mut [u8], page: &mut [u8]) {
     let mut line = io::buffer();
-    let words = crate::arguments::said(commands::desk::change_form(which), &mut line, page);
+    let words = crate::arguments::said(crate::desk::change_form(which), &mut line, page);
     if words.failed {
         return;
     }
@@ -128,9 +128,9 @@ fn export_book(which: Export, path: &[u8], target: &[u8], source: &mut [u8], pag
     }
     let n = open.n;
     let mut out = [0u8; change_pages::OUT_BYTES];
-    let made = commands::desk::export_page(which, &source[..n], &mut out, page);
+    let made = crate::desk::export_page(which, &source[..n], &mut out, page);
     let written = made.written;
-    let end = commands::desk::end_of(written);
+    let end = crate::desk::end_of(written);
     if made.changed {
         if changing::keep_from(open.file, target, &out, made.bytes, path) {
             files::write_page(page, end);
@@ -166,7 +166,7 @@ pub fn new(page: &mut [u8]) {
     }
     let length = book.n;
     if changing::make_empty(&path[..length]) {
-        let end = commands::desk::end_of(change_pages::write_new(page));
+        let end = crate::desk::end_of(change_pages::write_new(page));
         files::write_page(page, end);
     }
 }

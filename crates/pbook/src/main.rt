@@ -3,6 +3,7 @@
 mod arguments;
 mod buffers;
 mod changes;
+mod desk;
 mod reading;
 
 use commands::Command;

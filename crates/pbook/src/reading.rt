@@ -9,7 +9,7 @@ use text::Form;
 
 // Writes a page, or nothing of one that has no room.
 fn print(written: Written, page: &[u8]) {
-    files::write_page(page, commands::desk::end_of(written));
+    files::write_page(page, crate::desk::end_of(written));
 }
 
 // The file that an argument names.
@@ -32,7 +32,7 @@ pub fn check(source: &mut [u8], page: &mut [u8]) {
     }
     let n = got.n;
     let none = [0u8; 0];
-    let written = commands::desk::session_page(Session::Check, &source[..n], &none, page);
+    let written = crate::desk::session_page(Session::Check, &source[..n], &none, page);
     print(written, page);
 }
 
@@ -48,7 +48,7 @@ pub fn ask_words(source: &mut [u8], page: &mut [u8]) {
     }
     let n = got.n;
     let m = words.n;
-    let written = commands::desk::session_page(Session::AskWords, &source[..n], &line[..m], page);
+    let written = crate::desk::session_page(Session::AskWords, &source[..n], &line[..m], page);
     print(written, page);
 }
 
@@ -63,7 +63,7 @@ pub fn ask_input(source: &mut [u8], claims: &mut [u8], page: &mut [u8]) {
         return;
     }
     let m = more.n;
-    let written = commands::desk::session_page(Session::AskInput, &source[..n], &claims[..m], page);
+    let written = crate::desk::session_page(Session::AskInput, &source[..n], &claims[..m], page);
     print(written, page);
 }
 
@@ -73,13 +73,13 @@ pub fn book(which: BookPage, source: &mut [u8], page: &mut [u8]) {
         return;
     }
     let n = got.n;
-    let written = commands::desk::book_page(which, &source[..n], page);
+    let written = crate::desk::book_page(which, &source[..n], page);
     print(written, page);
 }
 
 pub fn words(which: WordsPage, source: &mut [u8], page: &mut [u8]) {
     let mut line = io::buffer();
-    let words = crate::arguments::said(commands::desk::words_form(which), &mut line, page);
+    let words = crate::arguments::said(crate::desk::words_form(which), &mut line, page);
     if words.failed {
         return;
     }
@@ -89,7 +89,7 @@ pub fn words(which: WordsPage, source: &mut [u8], page: &mut [u8]) {
     }
     let n = got.n;
     let m = words.n;
-    let written = commands::desk::words_page(which, &source[..n], &line[..m], page);
+    let written = crate::desk::words_page(which, &source[..n], &line[..m], page);
     print(written, page);
 }
 

@@ -1,13 +1,13 @@
 // The page of each command, by its family.
 ghost use mathlib.Core.Path.{_≡_};
 ghost use Rattle.change_pages.specs.Made.{Made};
-ghost use Rattle.commands.specs.Paged.{SessionPaged, BookPaged, listKind, WordsPaged, changeBy, exportBy, wordsForm, changeForm, endOf};
-use crate::BookPage;
-use crate::Change;
-use crate::Export;
-use crate::Session;
-use crate::WordsPage;
+ghost use Rattle.pbook.specs.Paged.{SessionPaged, BookPaged, listKind, WordsPaged, changeBy, exportBy, wordsForm, changeForm, endOf};
 use change_pages::Changed;
+use commands::BookPage;
+use commands::Change;
+use commands::Export;
+use commands::Session;
+use commands::WordsPage;
 use pages::Written;
 use text::Form;
 

@@ -1,8 +1,8 @@
--- `desk::words_page` meets its contract, by the kind of a list's claims. Assumes nothing.
+-- `pbook::desk::words_page` meets its contract, by the kind of a list's claims. Assumes nothing.
 use borrow.Author.Needs.{needs}
-use Rattle.commands.proofs.Listings.{why-page, list-page}
-use Rattle.commands.proofs.desk.words_page.Statement.{statement}
-use Rattle.commands.proofs.desk.words_page.Tie as tie
+use Rattle.pbook.proofs.Listings.{why-page, list-page}
+use Rattle.pbook.proofs.desk.words_page.Statement.{statement}
+use Rattle.pbook.proofs.desk.words_page.Tie as tie
 
 list-kind-requires : tie.Need-list-kind-requires
 list-kind-requires c κs = search needs

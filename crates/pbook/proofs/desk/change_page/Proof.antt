@@ -1,7 +1,7 @@
--- `desk::change_page` meets its contract, change by change. Assumes nothing.
+-- `pbook::desk::change_page` meets its contract, change by change. Assumes nothing.
 use borrow.Author.Needs.{needs}
-use Rattle.commands.proofs.desk.change_page.Statement.{statement}
-use Rattle.commands.proofs.desk.change_page.Tie as tie
+use Rattle.pbook.proofs.desk.change_page.Statement.{statement}
+use Rattle.pbook.proofs.desk.change_page.Tie as tie
 
 enum-told : tie.Need-enum-told
 enum-told c = search needs

@@ -8,9 +8,9 @@ use Rattle.pages.specs.Written.{Page}
 use Rattle.pages.specs.declared.Written.{Written}
 use Rattle.book_pages.specs.ListText.{listText}
 use Rattle.chain_pages.specs.Why.{Why}
 use Rattle.commands.specs.declared.WordsPage.{WordsPage}
 use Rattle.commands.specs.declared.WordsPage.the-variants as words
-use Rattle.commands.specs.Paged.{listKind, WordsPaged}
+use Rattle.pbook.specs.Paged.{listKind, WordsPaged}
 
 module _ (source said page page′ : List ℕ) (r : Written) (k : ℕ) where
   pub why-page : (which : WordsPage) → k ≡ listKind which → k ≡ 0 → Why source said page page′ r → WordsPaged which source said page page′ r

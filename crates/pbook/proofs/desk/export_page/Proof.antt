@@ -1,7 +1,7 @@
--- `desk::export_page` meets its contract, by the new file. Assumes nothing.
+-- `pbook::desk::export_page` meets its contract, by the new file. Assumes nothing.
 use borrow.Author.Needs.{needs}
-use Rattle.commands.proofs.desk.export_page.Statement.{statement}
-use Rattle.commands.proofs.desk.export_page.Tie as tie
+use Rattle.pbook.proofs.desk.export_page.Statement.{statement}
+use Rattle.pbook.proofs.desk.export_page.Tie as tie
 
 enum-told : tie.Need-enum-told
 enum-told c = search needs
