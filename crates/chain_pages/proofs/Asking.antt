@@ -15,7 +15,7 @@ use Rattle.sentences.specs.Arguments.{wordsOf}
 use Rattle.sentences.specs.declared.sources.Words.{Words}
 use Rattle.sentences.specs.declared.sources.Words.the-variants.{Entry, Wrong}
 use Rattle.sentences.proofs.Tellings.{Paged, page-read, page-unread, page-entry, page-wrong}
-use Rattle.chain_text.specs.Verified.{said}
+use Rattle.chain_pages.specs.Verified.{said}
 use Rattle.chain_pages.specs.WhyText.{whyText, whyPage}
 use Rattle.chain_pages.specs.Why.{Behind, Asks, Why, OfBook, OfSource, textOf}
 use Rattle.chain_pages.proofs.Readings.{no-bytes, not-read, one-book}

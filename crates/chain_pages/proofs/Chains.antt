@@ -23,7 +23,7 @@ use Rattle.chain_check.specs.Call.{asked}
 use Rattle.chain_writing.specs.Call.{replyOf, reply, shown, Written}
 use Rattle.chain_writing.specs.declared.Reply.the-variants.{Answered, Refused}
 use Rattle.chain_writing.specs.declared.Chain.{Chain}
-use Rattle.chain_text.specs.Verified.{said}
+use Rattle.chain_pages.specs.Verified.{said}
 use Rattle.chain_pages.specs.Why.{Whole, Shown}
 
 -- a claim that is answered is six bytes

@@ -27,9 +27,9 @@ use Rattle.sentences.specs.Sources.{Breaks}
 use Rattle.sentences.proofs.Tellings.{Paged, put-page, page-read, page-unread}
 use Rattle.report.specs.Session.{countsLine}
 use Rattle.report.proofs.Rooms.{counts-width}
-use Rattle.chain_text.specs.StepLine.{stepLines}
-use Rattle.chain_text.specs.ChainText.{Bytes}
-use Rattle.chain_text.proofs.Rooms.{steps-width}
+use Rattle.chain_pages.specs.StepLine.{stepLines}
+use Rattle.chain_pages.specs.ChainText.{Bytes}
+use Rattle.chain_pages.proofs.Rooms.{steps-width}
 use Rattle.chain_pages.specs.Clash.{clashText, clashPage, Behind, Clash, Shown, StepsOf, OfBook}
 use Rattle.chain_pages.proofs.Readings.{no-bytes, not-read, one-book}
 

@@ -7,8 +7,8 @@ use native.Mathlib.Omega.{arith}
 use lib.ListN.{length}
 use Rattle.records.specs.Record.{recordAt}
 use Rattle.chain_writing.specs.declared.Reply.the-variants.{Answered}
-use Rattle.chain_text.specs.Verified.{Verified, Verifies}
-use Rattle.chain_text.proofs.Plains.{passing-is}
+use Rattle.chain_pages.specs.Verified.{Verified, Verifies}
+use Rattle.chain_pages.proofs.Plains.{passing-is}
 use Rattle.chain_pages.specs.WhyText.{whyText}
 use Rattle.chain_pages.specs.Verdict.{WhyPasses, LongFails}
 use Rattle.chain_pages.proofs.Replies.{answered, answered-short}

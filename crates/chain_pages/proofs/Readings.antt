@@ -5,7 +5,7 @@ use mathlib.Core.List.{List, []}
 use native.Mathlib.Omega.{arith}
 use Rattle.text.specs.Text.{Reading, Entries}
 use Rattle.sentences.specs.Sources.{Breaks}
-use Rattle.chain_text.specs.ChainText.{Bytes}
+use Rattle.chain_pages.specs.ChainText.{Bytes}
 
 pub no-bytes : Bytes []
 no-bytes j = omega arith

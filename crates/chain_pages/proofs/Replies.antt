@@ -13,10 +13,10 @@ use Rattle.chain_format.specs.Step.{steps}
 use Rattle.chain_writing.specs.declared.Reply.{Reply}
 use Rattle.chain_writing.specs.declared.Reply.the-variants.{Answered, Refused}
 use Rattle.sentences.specs.Refusals as line
-use Rattle.chain_text.specs.StepLine.{stepLines}
-use Rattle.chain_text.specs.AnswerLine.{answerLine}
-use Rattle.chain_text.specs.ChainText.{chainText, Bytes}
-use Rattle.chain_text.proofs.Rooms.{steps-width, answer-line-width}
+use Rattle.chain_pages.specs.StepLine.{stepLines}
+use Rattle.chain_pages.specs.AnswerLine.{answerLine}
+use Rattle.chain_pages.specs.ChainText.{chainText, Bytes}
+use Rattle.chain_pages.proofs.Rooms.{steps-width, answer-line-width}
 use Rattle.chain_pages.specs.WhyText.{whyText}
 
 module _ (source claim : List ℕ) (r : Reply) (c : List ℕ) where

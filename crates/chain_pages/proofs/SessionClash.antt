@@ -45,7 +45,7 @@ use Rattle.text.specs.declared.Form.the-variants.{Records}
 use Rattle.sentences.specs.Words.{kindName}
 use Rattle.sentences.specs.Refusals as line
 use Rattle.sentences.proofs.Readings.{of-read}
-use Rattle.chain_text.specs.StepLine.{count, stepLine, stepLines}
+use Rattle.chain_pages.specs.StepLine.{count, stepLine, stepLines}
 use Rattle.chain_pages.specs.Clash.{clashText, clashPage}
 use Rattle.chain_pages.specs.SessionClash.{clashSource, clashBook, clashSteps, SessionClash}
 

@@ -46,11 +46,11 @@ use Rattle.sentences.specs.Words.{kindName, answerName}
 use Rattle.sentences.specs.Sources.{ofSource}
 use Rattle.sentences.specs.Arguments.{wordsOf, ofWords}
 use Rattle.answers.specs.Examples.{sessionBook}
-use Rattle.chain_text.specs.StepLine.{count, stepLine, stepLines}
-use Rattle.chain_text.specs.AnswerLine.{answerLine}
-use Rattle.chain_text.specs.ChainText.{chainText, Bytes}
-use Rattle.chain_text.specs.Verified.{said, Verified}
-use Rattle.chain_text.proofs.Verifying.{answer-verifies}
+use Rattle.chain_pages.specs.StepLine.{count, stepLine, stepLines}
+use Rattle.chain_pages.specs.AnswerLine.{answerLine}
+use Rattle.chain_pages.specs.ChainText.{chainText, Bytes}
+use Rattle.chain_pages.specs.Verified.{said, Verified}
+use Rattle.chain_pages.proofs.Verifying.{answer-verifies}
 use Rattle.chain_pages.specs.WhyText.{whyText, whyPage}
 use Rattle.chain_pages.specs.SessionWhy.{partSteps, notpartSteps, partPage, notpartPage, SessionWhy, SessionVerified}
 

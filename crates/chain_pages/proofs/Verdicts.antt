@@ -14,7 +14,7 @@ use Rattle.text.specs.Either.{readEither}
 use Rattle.sentences.specs.Unread.{unreadLine}
 use Rattle.sentences.specs.Sources.{Breaks}
 use Rattle.sentences.proofs.Tellings.{Paged, put-page, page-read, page-unread}
-use Rattle.chain_text.specs.Verified.{Verifies}
+use Rattle.chain_pages.specs.Verified.{Verifies}
 use Rattle.chain_pages.specs.Verdict.{verdictLine, verdictPage, Verdict}
 use Rattle.chain_pages.proofs.Readings.{not-read, one-book}
 

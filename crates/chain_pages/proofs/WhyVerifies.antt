@@ -19,10 +19,10 @@ use Rattle.text.specs.declared.Form.the-variants.{Records, Claims}
 use Rattle.text.specs.Entry.{sixBytes}
 use Rattle.sentences.proofs.Readings.{of-read}
 use Rattle.sentences.proofs.Arguments.{of-entry}
-use Rattle.chain_text.specs.ChainText.{chainText, Bytes}
-use Rattle.chain_text.specs.Verified.{said, Verified}
-use Rattle.chain_text.proofs.Plains.{passing-is}
-use Rattle.chain_text.proofs.Verifying.{answer-verifies}
+use Rattle.chain_pages.specs.ChainText.{chainText, Bytes}
+use Rattle.chain_pages.specs.Verified.{said, Verified}
+use Rattle.chain_pages.proofs.Plains.{passing-is}
+use Rattle.chain_pages.proofs.Verifying.{answer-verifies}
 use Rattle.chain_writing.proofs.Replies.{kind-of}
 use Rattle.chain_pages.specs.WhyText.{whyText, whyPage}
 use Rattle.chain_pages.specs.Why.{Asks, textOf, WhyVerifies}

@@ -18,8 +18,8 @@ use Rattle.text.specs.Either.{readEither}
 use Rattle.sentences.specs.Refusals.{refused}
 use Rattle.sentences.specs.Sources.{ofBook}
 use Rattle.report.specs.Session.{countsLine}
-use Rattle.chain_text.specs.StepLine.{stepLines}
-use Rattle.chain_text.specs.ChainText.{Bytes}
+use Rattle.chain_pages.specs.StepLine.{stepLines}
+use Rattle.chain_pages.specs.ChainText.{Bytes}
 
 -- of the outcome of a book that was read from a source, with the steps c
 unfoldable pub clashText : (source : List ℕ) → Outcome → (c : List ℕ) → List ℕ

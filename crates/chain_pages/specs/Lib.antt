@@ -1,3 +1,10 @@
+pub mod StepLine
+pub mod AnswerLine
+pub mod ChainText
+pub mod Read
+pub mod Found
+pub mod Begins
+pub mod Verified
 pub mod Rooms
 pub mod WhyText
 pub mod Why

@@ -4,7 +4,7 @@ use mathlib.Core.Path.{_≡_}
 use mathlib.Core.List.{List, [], _∷_, _++_}
 use Rattle.pages.specs.Text.{ascii}
 use Rattle.answers.specs.Examples.{sessionBook}
-use Rattle.chain_text.specs.Verified.{Verified}
+use Rattle.chain_pages.specs.Verified.{Verified}
 use Rattle.chain_pages.specs.WhyText.{whyPage}
 
 -- a step by rule r of kind k on pieces below 256

@@ -13,7 +13,7 @@ use Rattle.text.specs.Text.{Entries}
 use Rattle.text.specs.Either.{readEither}
 use Rattle.sentences.specs.Sources.{ofBook}
 use Rattle.chain_writing.specs.Call.{shown}
-use Rattle.chain_text.specs.Verified.{said, Verifies}
+use Rattle.chain_pages.specs.Verified.{said, Verifies}
 use Rattle.chain_pages.specs.Why.{Asks, Why}
 
 unfoldable pub verdictLine : Bool → List ℕ

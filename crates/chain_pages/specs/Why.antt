@@ -21,8 +21,8 @@ use Rattle.text.specs.Either.{readEither}
 use Rattle.sentences.specs.declared.sources.Words.the-variants.{Entry}
 use Rattle.sentences.specs.Sources.{ofBook}
 use Rattle.sentences.specs.Arguments.{wordsOf}
-use Rattle.chain_text.specs.ChainText.{Bytes}
-use Rattle.chain_text.specs.Verified.{said, Verified}
+use Rattle.chain_pages.specs.ChainText.{Bytes}
+use Rattle.chain_pages.specs.Verified.{said, Verified}
 use Rattle.chain_pages.specs.WhyText.{whyText, whyPage}
 
 -- the steps behind the reply to a claim: they pass. OPEN and refusals have none

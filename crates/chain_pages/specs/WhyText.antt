@@ -9,8 +9,8 @@ use Rattle.text.specs.Entry.{sixBytes}
 use Rattle.sentences.specs.Refusals.{refused}
 use Rattle.sentences.specs.Sources.{ofBook}
 use Rattle.sentences.specs.Arguments.{ofWords}
-use Rattle.chain_text.specs.ChainText.{chainText}
-use Rattle.chain_text.specs.Verified.{said}
+use Rattle.chain_pages.specs.ChainText.{chainText}
+use Rattle.chain_pages.specs.Verified.{said}
 
 -- of a reply to a claim, with the steps c, where the book was read from a source
 unfoldable pub whyText : (source claim : List ℕ) → Reply → (c : List ℕ) → List ℕ

@@ -4,8 +4,8 @@ ghost use mathlib.Core.List.{[]};
 ghost use Rattle.outcomes.specs.Fresh.{freshCall};
 ghost use Rattle.pages.specs.Put.{Put};
 ghost use Rattle.chain_format.specs.Step.{steps};
-ghost use Rattle.chain_text.specs.StepLine.{stepLines};
-ghost use Rattle.chain_text.specs.ChainText.{Bytes};
+ghost use Rattle.chain_pages.specs.StepLine.{stepLines};
+ghost use Rattle.chain_pages.specs.ChainText.{Bytes};
 ghost use Rattle.chain_pages.specs.Clash.{Shown, StepsOf, OfBook, Clash};
 use outcomes::Outcome;
 use pages::Written;
@@ -17,7 +17,7 @@ fn put_lines(page: &mut [u8], at: usize, c: &[u8]) -> usize
     ensures { λ r. ⌜ Put (now (page .entry)) at (stepLines (now (c .entry)) (steps (now (c .entry)))) (now (page .exit)) r ⌝ }
     ensures { λ r. ⌜ Bytes (now (c .entry)) ⌝ }
 {
-    chain_text::lines::put_steps(page, at, c)
+    crate::lines::put_steps(page, at, c)
 }
 
 // The writer's call, which works in these matrices.

@@ -23,7 +23,7 @@ pub fn write_verdict(source: &[u8], chain: &[u8], page: &mut [u8]) -> Written
     match read {
         Source::Unread(l, reason) => sentences::write_unread(page, sentences::BOOK, l, reason),
         Source::Bytes(n) => {
-            let passes = chain_text::verify(&book[..n], chain);
+            let passes = crate::verified::verify(&book[..n], chain);
             let end = put_verdict(page, passes);
             pages::finish(page.len(), end)
         }

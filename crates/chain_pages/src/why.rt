@@ -2,7 +2,7 @@
 ghost use Prim.Native.Nat.{_≤_};
 ghost use lib.ListN.{length};
 ghost use Rattle.pages.specs.Put.{Put};
-ghost use Rattle.chain_text.specs.ChainText.{Bytes};
+ghost use Rattle.chain_pages.specs.ChainText.{Bytes};
 ghost use Rattle.chain_pages.specs.WhyText.{whyText};
 ghost use Rattle.chain_pages.specs.Why.{Whole, Shown, OfBook, OfSource, Why};
 ghost use Rattle.chain_format.specs.Sizes.{CHAIN-BYTES};
@@ -32,7 +32,7 @@ fn put_why(page: &mut [u8], source: &[u8], claim: &[u8], reply: Reply, c: &[u8])
         ),
         Reply::Answered(answer) => {
             let r = records::record_at(claim, 0);
-            chain_text::lines::put_chain(page, 0, r, answer, c)
+            crate::lines::put_chain(page, 0, r, answer, c)
         }
     }
 }

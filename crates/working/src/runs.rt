@@ -3,9 +3,19 @@ ghost use mathlib.Core.Path.{_≡_};
 ghost use mathlib.Core.List.{_++_};
 ghost use Prim.Native.Nat.{_+_, _≤_, _<_};
 ghost use lib.ListN.{length, take, drop};
+ghost use Rattle.lists.specs.Front.{front};
 ghost use Rattle.parentheses.specs.Padded.{padded};
 ghost use Rattle.records.specs.Sizes.{BOOK-BYTES, RECORD-BYTES, RECORDS};
 ghost use Rattle.working.specs.Standing.{extended, without, Stands};
+
+// Writes two runs one behind the other, and nothing behind them.
+fn put_runs(first: &[u8], second: &[u8], out: &mut [u8])
+    requires { ⌜ length (now first) + length (now second) ≤ length (now out) ⌝ }
+    ensures { λ _. ⌜ now (out .exit) ≡ front (now (first .entry) ++ now (second .entry)) (now (out .entry)) ⌝ }
+{
+    numbers::copy_to(first, out, 0);
+    numbers::copy_to(second, out, first.len());
+}
 
 // Writes two runs one behind the other, and zeros behind them.
 pub fn write_runs(first: &[u8], second: &[u8], out: &mut [u8])
@@ -14,8 +24,7 @@ pub fn write_runs(first: &[u8], second: &[u8], out: &mut [u8])
 {
     let at = first.len();
     let end = at + second.len();
-    numbers::copy_to(first, out, 0);
-    numbers::copy_to(second, out, at);
+    put_runs(first, second, out);
     numbers::clear(&mut out[end..]);
 }
 
@@ -39,7 +48,7 @@ pub fn extend(
     ensures { λ r. ⌜ Stands (extended (now (area .entry)) records (now (addition .entry))) (now (run .exit)) r ⌝ }
 {
     let end = records::RECORD_BYTES * records;
-    write_runs(&area[..end], addition, run);
+    put_runs(&area[..end], addition, run);
     end + records::RECORD_BYTES
 }
 
@@ -54,7 +63,8 @@ pub fn remove(
     ensures { λ r. ⌜ Stands (without (now (area .entry)) records number) (now (run .exit)) r ⌝ }
 {
     let at = records::RECORD_BYTES * number;
+    let next = at + records::RECORD_BYTES;
     let end = records::RECORD_BYTES * records;
-    write_without(area, at, end, run);
+    put_runs(&area[..at], &area[next..end], run);
     end - records::RECORD_BYTES
 }

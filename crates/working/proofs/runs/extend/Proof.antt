@@ -13,11 +13,11 @@ use Rattle.working.proofs.runs.extend.Tie as tie
 mul-end : tie.Need-mul-end
 mul-end c = fits-six _ (at-most _ (c .before .before .pre .0))
 
-slice-aggregate-write-runs : tie.Need-slice-aggregate-write-runs
-slice-aggregate-write-runs c = sym (length-take-le _ _ (within _ _ (at-most _ (c .before .before .before .pre .0)) (c .before .before .before .pre .1 .0)))
+slice-aggregate-put-runs : tie.Need-slice-aggregate-put-runs
+slice-aggregate-put-runs c = sym (length-take-le _ _ (within _ _ (at-most _ (c .before .before .before .pre .0)) (c .before .before .before .pre .1 .0)))
 
-write-runs-requires : tie.Need-write-runs-requires
-write-runs-requires c κs =
+put-runs-requires : tie.Need-put-runs-requires
+put-runs-requires c κs =
     let b = c .before .before .before .before in
     room (b .args .area .now) (b .args .addition .now) (b .args .records) (length (b .args .run .now)) (b .pre .0) (b .pre .1 .0) (b .pre .1 .1) (omega arith)
 
@@ -28,8 +28,8 @@ returns : tie.Need-returns
 unfolding extended standing
 returns c =
     let b = c .before .before .before .before .before in
-    stands _ _ (length (b .args .run .now)) _ (c .write-runs .ensures) (extended-length (b .args .area .now) (b .args .addition .now) (b .args .records) (within _ _ (at-most _ (b .pre .0)) (b .pre .1 .0)) (b .pre .1 .1)) (next-within _ 49152 (b .pre .0) refl) (omega arith)
+    stands _ (b .args .run .now) _ _ (c .put-runs .ensures) (extended-length (b .args .area .now) (b .args .addition .now) (b .args .records) (within _ _ (at-most _ (b .pre .0)) (b .pre .1 .0)) (b .pre .1 .1)) (next-within _ 49152 (b .pre .0) refl) (omega arith)
 
 pub extend-spec : {M : Type 1} → statement M
 extend-spec =
-    tie.close (tie.spec mul-end slice-aggregate-write-runs write-runs-requires add-result returns)
+    tie.close (tie.spec mul-end slice-aggregate-put-runs put-runs-requires add-result returns)

@@ -7,11 +7,8 @@ use Rattle.working.proofs.runs.write_runs.Tie as tie
 add-end : tie.Need-add-end
 add-end c = search needs
 
-copy-to-requires : tie.Need-copy-to-requires
-copy-to-requires c κs = search needs
-
-copy-to-requires-2 : tie.Need-copy-to-requires-2
-copy-to-requires-2 c κs = search needs
+put-runs-requires : tie.Need-put-runs-requires
+put-runs-requires c κs = search needs
 
 sub-clear : tie.Need-sub-clear
 sub-clear c = search needs
@@ -30,16 +27,15 @@ same-length c = search needs
 
 returns : tie.Need-returns
 returns c =
-    let b = c .before .before .before .before .before .before .before .before .before .before .before .before .before .before .before in
-    runs-written (b .args .first .now) (b .args .second .now) (b .args .out .now) _ _ _ (b .pre) (c .before .before .before .before .before .before .before .before .before .before .copy-to .ensures) (c .before .before .before .before .before .before .copy-to2 .ensures) (c .before .before .clear .ensures)
+    let b = c .before .before .before .before .before .before .before .before .before .before .before in
+    runs-written (b .args .first .now) (b .args .second .now) (b .args .out .now) _ _ (b .pre) (c .before .before .before .before .before .before .put-runs .ensures) (c .before .before .clear .ensures)
 
 pub write-runs-spec : {M : Type 1} → statement M
 write-runs-spec =
     tie.close
     (tie.spec
     add-end
-    copy-to-requires
-    copy-to-requires-2
+    put-runs-requires
     sub-clear
     part-clear-start
     part-clear-end

@@ -1,13 +1,11 @@
 -- `runs::write_without` meets its contract. Assumes nothing.
-use mathlib.Core.Path.{_≡_, sym, ap, _∙_}
-use mathlib.Core.List.{List, _++_}
-use Prim.Native.Nat.{ℕ, _+_, _-_}
+use mathlib.Core.Path.{sym, ap, _∙_}
 use native.Mathlib.Omega.{arith}
 use denote.Ref.{now}
-use lib.ListN.{length, take, drop, length-drop}
-use lib.Seq.{length-take-le, take-take}
+use lib.ListN.{length}
+use lib.Seq.{length-take-le}
 use Rattle.parentheses.specs.Padded.{padded}
-use Rattle.working.proofs.RunsLaws.{drop-take}
+use Rattle.working.proofs.RunsLaws.{gap-length, gap-is}
 use borrow.Author.Needs.{needs}
 use Rattle.working.proofs.runs.write_without.Statement.{statement}
 use Rattle.working.proofs.runs.write_without.Tie as tie
@@ -33,7 +31,7 @@ write-runs-requires c κs =
     let at = b .args .at in
     let end = b .args .end in
     let s = b .args .area .now in
-    omega (arith, b .pre .0, b .pre .1 .0, b .pre .1 .1, length-take-le at s (omega (arith, b .pre .0, b .pre .1 .0)), length-drop (at + 6) s, length-take-le (end - (at + 6)) (drop (at + 6) s) (omega (arith, b .pre .0, b .pre .1 .0, length-drop (at + 6) s)))
+    omega (arith, b .pre .0, b .pre .1 .1, gap-length s at end (b .pre .0) (b .pre .1 .0))
 
 same-length : tie.Need-same-length
 same-length c = search needs
@@ -41,12 +39,7 @@ same-length c = search needs
 returns : tie.Need-returns
 returns c =
     let b = c .before .before .before .before .before .before .before .before in
-    let at = b .args .at in
-    let end = b .args .end in
-    let s = now (b .args .area) in
-    let front : take at s ≡ take at (take end s) = sym (take-take at end s (omega (arith, b .pre .0))) in
-    let rest : take (end - (at + 6)) (drop (at + 6) s) ≡ drop (at + 6) (take end s) = sym (drop-take (at + 6) end s (b .pre .0) (b .pre .1 .0)) in
-    c .before .before .write-runs .ensures ∙ ap (padded 0 (length (now (b .args .out)))) (ap (λ (x : List ℕ). x ++ take (end - (at + 6)) (drop (at + 6) s)) front ∙ ap (λ (x : List ℕ). take at (take end s) ++ x) rest)
+    c .before .before .write-runs .ensures ∙ ap (padded 0 (length (now (b .args .out)))) (gap-is (now (b .args .area)) (b .args .at) (b .args .end) (b .pre .0) (b .pre .1 .0))
 
 pub write-without-spec : {M : Type 1} → statement M
 write-without-spec =
