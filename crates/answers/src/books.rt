@@ -18,26 +18,17 @@ fn count_in(book: &[u8], n: usize, e: &mut Matrix, d: &mut Matrix, t: &mut Matri
     ensures { λ r. ⌜ r ≡ byRuns (now (book .entry)) n ⌝ }
 {
     let mut voids = [0u64; matrices::ROW_WORDS];
-    closure::marking::mark_voids(book, &mut voids);
     let mut order = [0u16; matrices::ROWS];
     let mut lead = [0u16; matrices::ROWS];
-    let mut parens = [0u8; index::PARENTHESES_BYTES];
-    let mut marks = [0u8; index::MARKS_BYTES];
-    let mut shadows = [0u16; index::SHADOWS];
-    let mut places = [0u16; index::PLACES];
-    let settled = contradiction::settle(
+    let settled = contradiction::settle_counted(
         book,
         n,
-        &voids,
+        &mut voids,
         e,
         &mut order,
         &mut lead,
         d,
         t,
-        &mut parens,
-        &mut marks,
-        &mut shadows,
-        &mut places,
     );
     match settled {
         Settled::Clash(place) => Outcome::Refused(Refusal::Contradiction, place),

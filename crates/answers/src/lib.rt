@@ -6,6 +6,8 @@ ghost use lib.Dec.{ltb};
 ghost use mathlib.Core.Bool.{_||_};
 ghost use Rattle.outcomes.specs.Lent.{lent};
 ghost use Rattle.outcomes.specs.Call.{Determined};
+ghost use Rattle.outcomes.specs.declared.Outcome.the-variants.{Refused};
+ghost use Rattle.records.specs.declared.Refusal.the-variants.{Contradiction};
 ghost use Rattle.outcomes.specs.Outcome.{number, place, nodeCount};
 ghost use Rattle.outcomes.specs.Demands.{Demand2, Demand3, Contradicted};
 ghost use Rattle.outcomes.specs.Fitting.{Fitting};
@@ -35,6 +37,20 @@ pub fn clear_index(parens: &mut [u8], marks: &mut [u8], shadows: &mut [u16], pla
     numbers::shorts::fill(places, 0);
 }
 
+// Refuses a contradictory book, with the index zeroed.
+fn refuse_clash(
+    place: usize,
+    parens: &mut [u8],
+    marks: &mut [u8],
+    shadows: &mut [u16],
+    places: &mut [u16],
+) -> Outcome
+    ensures { λ r. ⌜ (r ≡ Refused Contradiction place) × Cleared (length (now (parens .entry))) (length (now (marks .entry))) (length (now (shadows .entry))) (length (now (places .entry))) (now (parens .exit)) (now (marks .exit)) (now (shadows .exit)) (now (places .exit)) ⌝ }
+{
+    clear_index(parens, marks, shadows, places);
+    Outcome::Refused(Refusal::Contradiction, place)
+}
+
 // The marks of the whole book, then row 14, the index and the answers, for a book and claims that pass the rows before, in lent parts of document 01's lengths.
 // n is the count of the book's pieces, or a larger one. The matrices are scratch.
 fn judge_in(
@@ -57,13 +73,12 @@ fn judge_in(
     ensures { λ r. ⌜ Judged (now (book .entry)) n (now (claims .entry)) (lent (now (parens .entry)) (now (marks .entry)) (now (shadows .entry)) (now (places .entry)) (now (answers .entry))) r (lent (now (parens .exit)) (now (marks .exit)) (now (shadows .exit)) (now (places .exit)) (now (answers .exit))) ⌝ }
 {
     let mut voids = [0u64; matrices::ROW_WORDS];
-    closure::marking::mark_voids(book, &mut voids);
     let mut order = [0u16; matrices::ROWS];
     let mut lead = [0u16; matrices::ROWS];
     let settled = contradiction::settle(
         book,
         n,
-        &voids,
+        &mut voids,
         e,
         &mut order,
         &mut lead,
@@ -75,10 +90,7 @@ fn judge_in(
         places,
     );
     match settled {
-        Settled::Clash(place) => {
-            clear_index(parens, marks, shadows, places);
-            Outcome::Refused(Refusal::Contradiction, place)
-        }
+        Settled::Clash(place) => refuse_clash(place, parens, marks, shadows, places),
         Settled::Free(nodes, shadowed) => {
             claims::answer_all(
                 book,

@@ -8,7 +8,6 @@ ghost use lib.ListN.{length};
 ghost use Rattle.records.specs.Check.{bookCheck};
 ghost use Rattle.catalog.specs.Lent.{lent};
 ghost use Rattle.catalog.specs.Call.{Determined};
-ghost use Rattle.records.specs.declared.BookCheck.the-variants as on;
 ghost use Rattle.closure.specs.Void.{voidOf};
 ghost use Rattle.closure.specs.Counted.{MarksOf};
 ghost use Rattle.contradiction.specs.Settleable.{Settleable};
@@ -81,7 +80,7 @@ fn fill(
     }
 }
 
-// The marks of the book, then row 14 and the index.
+// The marks of the book, then row 14 and the index; its steps are dropped.
 fn settle(
     book: &[u8],
     n: usize,
@@ -94,10 +93,9 @@ fn settle(
     shadows: &mut [u16],
     places: &mut [u16],
 ) -> Settled
-    requires { ⌜ (bookCheck (now book) ≡ on.Accepted n) × Settleable n (now book) (length (now parens)) (length (now marks)) (length (now shadows)) (length (now places)) × (length (now voids) ≡ ROW-WORDS) ⌝ }
+    requires { ⌜ Settleable n (now book) (length (now parens)) (length (now marks)) (length (now shadows)) (length (now places)) × (length (now voids) ≡ ROW-WORDS) ⌝ }
     ensures { λ r. ⌜ MarksOf (now (book .entry)) (now (voids .exit)) × Settles (voidOf (now (voids .exit))) n (now (book .entry)) (now (d .exit)) (now (t .exit)) (row r) × Indexes n (now (book .entry)) (now (parens .exit)) (now (marks .exit)) (now (shadows .exit)) (now (places .exit)) r ⌝ }
 {
-    closure::marking::mark_voids(book, voids);
     let mut order = [0u16; matrices::ROWS];
     let mut lead = [0u16; matrices::ROWS];
     contradiction::settle(

@@ -40,6 +40,7 @@ module _ (s : List ℕ) {n : ℕ} (C : Counted s n) where
               fits = m;
               within = λ f h. let w = S .bounded .within f h in (lt-of-lt-of-le (w .0) l, lt-of-lt-of-le (w .1) l);
             };
+        markable = S .markable;
         roomy = record { few = omega arith; parens = omega arith; marks = omega arith; shadows = few; places = m };
       }
 

@@ -27,13 +27,14 @@ use Rattle.records.specs.PartIn.{partIn}
 use Rattle.index.specs.Index.{Room}
 use Rattle.contradiction.specs.Opened.{Opened}
 use Rattle.contradiction.specs.Settleable.{Settleable}
-use Rattle.contradiction.specs.Settled.{row, Clashed, Settles, Steps, Indexes}
+use Rattle.contradiction.specs.Settled.{row, Clashed, Settles, Steps, Indexes, Counts}
 use Rattle.contradiction.specs.declared.row_14.Row14.{Row14}
 use Rattle.contradiction.specs.declared.row_14.Row14.the-variants.{Free, Clash}
 use Rattle.contradiction.specs.declared.row_14.Settled.{Settled}
 use Rattle.contradiction.specs.declared.row_14.Settled.the-variants as counted
 use Rattle.closure.specs.Bounded.{Bounded}
 use Rattle.closure.specs.Stepped.{Stepped}
+use Rattle.closure.proofs.VoidRows.{accepted-markable}
 use Rattle.records.specs.Contradiction.{Contradiction}
 use Rattle.contradiction.proofs.Halving.{facts-roomy}
 use Rattle.contradiction.proofs.GroupIndex.{room}
@@ -46,6 +47,7 @@ settleable s n e =
     let small : n ≤ 2048 = accepted-pieces A in
     record {
       bounded = record { some = accepted-positive A; fits = small; within = accepted-within A };
+      markable = accepted-markable A;
       roomy = record { few = omega arith; parens = omega arith; marks = omega arith; shadows = few; places = small };
     }
 
@@ -84,6 +86,9 @@ module _ {n : ℕ} {run parens marks shadows places : List ℕ} where
   pub indexes-clash : {place : ℕ} → Indexes n run parens marks shadows places (counted.Clash place)
   indexes-clash = record { free = λ a b q. let z : _≡_ {A = ℕ} 0 1 = cc in absurd (omega arith) }
 
+  pub counts : {r : Settled} → Indexes n run parens marks shadows places r → Counts n run r
+  counts I = record { free = λ a b q. let J = I .free a b q in (J .nodes-are, J .shadowed-are) }
+
 -- row 14 of what was settled with an index
 pub row-free : {r : Settled} {nodes shadowed : ℕ} → r ≡ counted.Free nodes shadowed → row r ≡ Free
 unfolding row
@@ -100,6 +105,7 @@ module _ {n : ℕ} {run : List ℕ} {b mb sc pc : ℕ} (S : Settleable n run b m
       let R = S .roomy in
       record {
         bounded = S .bounded;
+        markable = S .markable;
         roomy =
             record {
               few = R .few;

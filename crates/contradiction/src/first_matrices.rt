@@ -1,4 +1,4 @@
-// The first two matrices of a run, D and T, with its groups and steps, and its index where one is asked for; and whether it is contradictory.
+// The groups and the index of a run; its first two matrices, D and T, without an index, and whether it is contradictory.
 ghost use mathlib.Core.Path.{_≡_};
 ghost use Prim.Native.Nat.{_/_};
 ghost use lib.ListN.{length};
@@ -13,13 +13,12 @@ ghost use Rattle.closure.specs.Stepped.{Stepped};
 ghost use Rattle.records.specs.PartIn.{partIn};
 ghost use Rattle.contradiction.specs.Numbered.{Numbered};
 ghost use Rattle.contradiction.specs.Opened.{Opened};
-ghost use Rattle.contradiction.specs.Settleable.{Settleable};
 ghost use Rattle.records.specs.Sizes.{RECORD-BYTES};
 use matrices::Matrix;
 use matrices::RowNumbers;
 
 // The groups of the run's pieces: the number of each piece's, its leader, and an order of the pieces. e is scratch.
-fn grouped(
+pub fn grouped(
     run: &[u8],
     n: usize,
     e: &mut Matrix,
@@ -35,7 +34,7 @@ fn grouped(
 }
 
 // The index of the run's PARTs in the lent parts: the tree of its groups, in which each piece has the place of its group. x is scratch.
-fn index_of(
+pub fn index_of(
     run: &[u8],
     n: usize,
     count: usize,
@@ -56,47 +55,7 @@ fn index_of(
     counts
 }
 
-// What the first half of a closure finds with an index: its counts, and whether the run is contradictory.
-pub struct Begun {
-    pub nodes: usize,
-    pub shadows: usize,
-    pub clash: bool,
-}
-
-// The first half of a closure: the groups, the index, the steps, D and T of the run, and whether it is contradictory.
-pub fn begin(
-    run: &[u8],
-    n: usize,
-    voids: &[u64],
-    e: &mut Matrix,
-    order: &mut RowNumbers,
-    lead: &mut RowNumbers,
-    d: &mut Matrix,
-    t: &mut Matrix,
-    parens: &mut [u8],
-    marks: &mut [u8],
-    shadows: &mut [u16],
-    places: &mut [u16],
-) -> Begun
-    requires { ⌜ Settleable n (now run) (length (now parens)) (length (now marks)) (length (now shadows)) (length (now places)) × Voids (now voids) ⌝ }
-    ensures { λ r. ⌜ Opened (voidOf (now (voids .entry))) n (facts (now (run .entry))) (now (d .exit)) (now (t .exit)) (r .clash) × Stepped n (facts (now (run .entry))) (now (e .exit)) (now (order .exit)) (now (lead .exit)) × BookIndex n (partIn (facts (now (run .entry)))) (now (parens .exit)) (now (marks .exit)) (now (shadows .exit)) (now (places .exit)) (r .nodes) (r .shadows) ⌝ }
-{
-    let mut number = [0u16; matrices::ROWS];
-    let count = grouped(run, n, e, &mut number, lead, order);
-    let counts = index_of(run, n, count, &number, t, parens, marks, shadows, places);
-    let nodes = counts.nodes;
-    containment::contents(n, nodes, parens, marks, shadows, places, lead, d);
-    closure::steps(run, lead, n, e);
-    closure::meeting(run, n, voids, e, order, lead, t);
-    let clash = verdicts::clashes(run, voids, d, t);
-    Begun {
-        nodes,
-        shadows: counts.shadows,
-        clash,
-    }
-}
-
-// The same without an index: D is made from the steps.
+// The groups, the steps, D and T of the run, and whether it is contradictory. There is no index: D is made from the steps.
 pub fn begin_alone(
     run: &[u8],
     n: usize,

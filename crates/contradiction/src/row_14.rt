@@ -13,7 +13,7 @@ ghost use Rattle.closure.specs.Counted.{MarksOf};
 ghost use Rattle.closure.specs.Void.{voidOf, Voids};
 ghost use Rattle.contradiction.specs.Settleable.{Settleable};
 ghost use Rattle.closure.specs.Bounded.{Bounded};
-ghost use Rattle.contradiction.specs.Settled.{row, Settles, Steps, Indexes};
+ghost use Rattle.contradiction.specs.Settled.{row, Settles, Steps, Indexes, Counts};
 use crate::first_matrices;
 use matrices::Matrix;
 use matrices::RowNumbers;
@@ -57,11 +57,11 @@ pub enum Settled {
     Clash(usize),
 }
 
-// Settles row 14 of a run with the marks of its book, with its index, steps, D and T where it is free.
+// Marks the voids of a book and settles its row 14, with its index, steps, D and T where it is free.
 pub fn settle(
-    run: &[u8],
+    book: &[u8],
     n: usize,
-    voids: &[u64],
+    voids: &mut [u64],
     e: &mut Matrix,
     order: &mut RowNumbers,
     lead: &mut RowNumbers,
@@ -72,11 +72,52 @@ pub fn settle(
     shadows: &mut [u16],
     places: &mut [u16],
 ) -> Settled
-    requires { ⌜ Settleable n (now run) (length (now parens)) (length (now marks)) (length (now shadows)) (length (now places)) × Voids (now voids) ⌝ }
-    ensures { λ r. ⌜ Settles (voidOf (now (voids .entry))) n (now (run .entry)) (now (d .exit)) (now (t .exit)) (row r) × Steps n (now (run .entry)) (now (e .exit)) (now (order .exit)) (now (lead .exit)) (row r) × Indexes n (now (run .entry)) (now (parens .exit)) (now (marks .exit)) (now (shadows .exit)) (now (places .exit)) r ⌝ }
+    requires { ⌜ Settleable n (now book) (length (now parens)) (length (now marks)) (length (now shadows)) (length (now places)) × (length (now voids) ≡ ROW-WORDS) ⌝ }
+    ensures { λ r. ⌜ MarksOf (now (book .entry)) (now (voids .exit)) × Settles (voidOf (now (voids .exit))) n (now (book .entry)) (now (d .exit)) (now (t .exit)) (row r) × Steps n (now (book .entry)) (now (e .exit)) (now (order .exit)) (now (lead .exit)) (row r) × Indexes n (now (book .entry)) (now (parens .exit)) (now (marks .exit)) (now (shadows .exit)) (now (places .exit)) r ⌝ }
 {
-    let begun = first_matrices::begin(
-        run,
+    closure::marking::mark_voids(book, voids);
+    let mut number = [0u16; matrices::ROWS];
+    let count = first_matrices::grouped(book, n, e, &mut number, lead, order);
+    let counts = first_matrices::index_of(
+        book,
+        n,
+        count,
+        &number,
+        t,
+        parens,
+        marks,
+        shadows,
+        places,
+    );
+    containment::contents(n, counts.nodes, parens, marks, shadows, places, lead, d);
+    closure::steps(book, lead, n, e);
+    closure::meeting(book, n, voids, e, order, lead, t);
+    if verdicts::clashes(book, voids, d, t) {
+        return Settled::Clash(contradiction(book, n, voids, e, d, t));
+    }
+    Settled::Free(counts.nodes, counts.shadows)
+}
+
+// The same for a caller that wants no more of the index than its counts.
+pub fn settle_counted(
+    book: &[u8],
+    n: usize,
+    voids: &mut [u64],
+    e: &mut Matrix,
+    order: &mut RowNumbers,
+    lead: &mut RowNumbers,
+    d: &mut Matrix,
+    t: &mut Matrix,
+) -> Settled
+    requires { ⌜ (bookCheck (now book) ≡ is.Accepted n) × (length (now voids) ≡ ROW-WORDS) ⌝ }
+    ensures { λ r. ⌜ MarksOf (now (book .entry)) (now (voids .exit)) × Settles (voidOf (now (voids .exit))) n (now (book .entry)) (now (d .exit)) (now (t .exit)) (row r) × Steps n (now (book .entry)) (now (e .exit)) (now (order .exit)) (now (lead .exit)) (row r) × Counts n (now (book .entry)) r ⌝ }
+{
+    let mut parens = [0u8; index::PARENTHESES_BYTES];
+    let mut marks = [0u8; index::MARKS_BYTES];
+    let mut shadows = [0u16; index::SHADOWS];
+    let mut places = [0u16; index::PLACES];
+    settle(
+        book,
         n,
         voids,
         e,
@@ -84,18 +125,14 @@ pub fn settle(
         lead,
         d,
         t,
-        parens,
-        marks,
-        shadows,
-        places,
-    );
-    if begun.clash {
-        return Settled::Clash(contradiction(run, n, voids, e, d, t));
-    }
-    Settled::Free(begun.nodes, begun.shadows)
+        &mut parens,
+        &mut marks,
+        &mut shadows,
+        &mut places,
+    )
 }
 
-// Settles row 14 for a caller that wants no index.
+// Settles row 14 of a run with the marks of its book, for a caller that wants no index.
 pub fn settle_alone(
     run: &[u8],
     n: usize,

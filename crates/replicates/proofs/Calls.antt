@@ -11,16 +11,16 @@ use Rattle.matrices.specs.Matrix.{bitOf}
 use Rattle.rules.specs.Follows.{clash}
 use Rattle.records.specs.Facts.{facts}
 use Rattle.records.specs.Marked.{marked}
-use Rattle.records.specs.PartIn.{partIn}
 use Rattle.records.specs.Check.{bookCheck, claimsCheck}
 use Rattle.records.specs.Refusal.{scan}
 use Rattle.records.specs.declared.BookCheck.the-variants as book
 use Rattle.records.specs.declared.Refusal.{Refusal}
 use Rattle.records.specs.declared.Refusal.the-variants.{ShortBuffer, Contradiction}
-use Rattle.groups.specs.Index.{BookIndex}
+use Rattle.index.specs.Parts.{shadows}
+use Rattle.groups.specs.Index.{bookVisits}
 use Rattle.contradiction.specs.Settled.{Clashed}
 use Rattle.closure.specs.Apart.{Aparts}
-use Rattle.outcomes.specs.Call.{byRuns, byClaims, byBook}
+use Rattle.outcomes.specs.Call.{pairsOf, byRuns, byClaims, byBook}
 use Rattle.outcomes.specs.declared.Outcome.the-variants.{Accepted, Refused}
 use Rattle.claims.proofs.Counts.{own-count}
 use Rattle.answers.proofs.Judges.{refuses, accepts}
@@ -77,9 +77,9 @@ module _ (s : List ℕ) (n : ℕ) (sound : bookCheck s ≡ book.Accepted n) (w :
   unfolding byPart
   clash-refused place d q C = refused Contradiction place d q (ap (byPart w log) (refuses s n (own-count sound) place C))
 
-  module _ {nodes shadowed : ℕ} (c : false ≡ clash (marked s) n (facts s)) {parens marks shadows places : List ℕ} (I : BookIndex n (partIn (facts s)) parens marks shadows places nodes shadowed) where
+  module _ {nodes shadowed : ℕ} (c : false ≡ clash (marked s) n (facts s)) (k : (nodes ≡ length (bookVisits n (pairsOf s))) × (shadowed ≡ length (shadows (bookVisits n (pairsOf s))))) where
     free : Accepted n nodes shadowed ≡ byRuns s n
-    free = accepts s n (own-count sound) nodes shadowed c (I .nodes-are) (I .shadowed-are)
+    free = accepts s n (own-count sound) nodes shadowed c (k .0) (k .1)
 
     pub part-refused :
         (r : Refusal) (i : ℕ) (d : Replicated) → d ≡ record { outcome = Refused r i; window = w } → Refused r i ≡ byPart w log (Accepted n nodes shadowed) → Judged s n w log out d out

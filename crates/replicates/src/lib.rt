@@ -172,7 +172,7 @@ fn last_window(xs: &[u16]) -> Window
     Window { pieces, count }
 }
 
-// The rows of what is APART. t is scratch.
+// The rows of what is APART. t is scratch. Order and leaders come as arrays, so that their lengths are known.
 fn find_aparts(
     book: &[u8],
     n: usize,
@@ -222,7 +222,7 @@ fn refuse(refusal: Refusal, place: usize, window: Window) -> Replicated
     }
 }
 
-// Row 14, rows 20 and 21, and the bytes, for a book that passes the rows before. The index is written for its counts alone.
+// Row 14, rows 20 and 21, and the bytes, for a book that passes the rows before.
 fn judge(
     book: &[u8],
     n: usize,
@@ -238,26 +238,17 @@ fn judge(
     ensures { λ r. ⌜ Judged (now (book .entry)) n window (now (log .entry)) (now (out .entry)) r (now (out .exit)) ⌝ }
 {
     let mut voids = [0u64; matrices::ROW_WORDS];
-    closure::marking::mark_voids(book, &mut voids);
     let mut order = [0u16; matrices::ROWS];
     let mut lead = [0u16; matrices::ROWS];
-    let mut parens = [0u8; index::PARENTHESES_BYTES];
-    let mut marks = [0u8; index::MARKS_BYTES];
-    let mut shadows = [0u16; index::SHADOWS];
-    let mut places = [0u16; index::PLACES];
-    let settled = contradiction::settle(
+    let settled = contradiction::settle_counted(
         book,
         n,
-        &voids,
+        &mut voids,
         e,
         &mut order,
         &mut lead,
         d,
         t,
-        &mut parens,
-        &mut marks,
-        &mut shadows,
-        &mut places,
     );
     match settled {
         Settled::Clash(place) => refuse(Refusal::Contradiction, place, window),
