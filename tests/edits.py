@@ -4,7 +4,8 @@
 A file crates/NAME/must-fail/*.edit holds wrong programs, one to a paragraph: a comment, then its `file:`, `old:` and `new:` lines.
 rt applies the whole file and asks only that the crate is refused. Here rt's log is read: for each wrong program the proof of the
 function that it changes must be refused at a fact of its own, and not because something below it is not proved. Where the change
-is outside a function, as in a table, a line `in: FUNCTION` names the function whose proof must be refused.
+is outside a function, as in a table, a line `in: FUNCTION` names the function whose proof must be refused. Two wrong programs of
+one function stand in one edit only if they break different facts: a line `at: FACT` of each names its own, as the function's proof does.
 
     tests/edits.py             after rt must-fail or rt ci
     tests/edits.py --missing   names the public functions that other crates call and that have fewer than two wrong programs
@@ -39,11 +40,12 @@ def module(file):
 
 
 class Program:
-    """A wrong program: its title, and the functions that must be refused, as paths of modules and a name."""
+    """A wrong program: its title, the functions that must be refused, as paths of modules and a name, and the fact, if one is named."""
 
     def __init__(self, crate, paragraph):
         lines = paragraph.split("\n")
         self.title = next((line[1:].strip() for line in lines if line.startswith("#")), "")
+        self.fact = next((line[4:].strip() for line in lines if line.startswith("at: ")), "")
         self.targets = []
         self.definitions = False
         named = [line[4:].strip() for line in lines if line.startswith("in: ")]
@@ -68,18 +70,18 @@ class Program:
 
 
 def own_errors(log):
-    """The functions, as paths, whose own proofs are refused at a fact."""
-    found = set()
+    """The functions, as paths, whose own proofs are refused, and at which facts."""
+    found = {}
     # an error goes on over lines that name no file
     for line in re.split(r"\n(?=\S+\.antt:\d+|fn |\w+ \w+::|logic)", log):
-        error = re.match(r"\S*?/proofs/(\S+?)\.antt:\d+:\d+: error: (.*)", line, re.S)
-        if error and RESTING not in error[2] and not MISFIT.search(error[2]):
+        error = re.match(r"\S*?/proofs/(\S+?)\.antt:\d+:\d+: error: (?:`(\S+?)`: )?(.*)", line, re.S)
+        if error and RESTING not in error[3] and not MISFIT.search(error[3]):
             parts = error[1].split("/")
             for name in parts[-2].strip("+").split("+") if len(parts) > 1 else []:
-                found.add(tuple(parts[:-2] + [name]))
+                found.setdefault(tuple(parts[:-2] + [name]), set()).add(error[2])
         missing = re.match(r"fn \w+::(\S+): no proof: .*`search` does not close", line)
         if missing:
-            found.add(tuple(missing[1].split("::")))
+            found.setdefault(tuple(missing[1].split("::")), set())
     return found
 
 
@@ -102,10 +104,13 @@ def try_edit(crate, edit):
             reason = "it changes no function, and names none"
         elif not any(target in refused for target in program.targets):
             reason = "no fact of " + " or ".join("::".join(target) for target in program.targets) + " is refused"
+        elif program.fact and not any(program.fact in refused.get(target, ()) for target in program.targets):
+            reason = f"{program.fact} is not refused, but " + ", ".join(sorted(fact for target in program.targets for fact in refused.get(target, ())))
         results.append((program.title, reason))
-    targets = [target for program in programs for target in set(program.targets)]
-    for target in {target for target in targets if targets.count(target) > 1}:
-        results.append(("::".join(target), "two wrong programs of one function stand in one edit"))
+    for target in {target for program in programs for target in program.targets}:
+        facts = [program.fact for program in programs if target in program.targets]
+        if len(facts) > 1 and ("" in facts or len(set(facts)) < len(facts)):
+            results.append(("::".join(target), "two wrong programs of it in one edit name no facts of their own"))
     return results
 
 
