@@ -1,7 +1,7 @@
 -- Step i of a chain in bytes: ten bytes, no header. Rule, kind, then a, b and two further 16-bit numbers, low byte first. Assumes nothing.
-use Prim.Native.Nat.{ℕ, _+_, _*_, _/_}
+use Prim.Native.Nat.{ℕ, _+_, _*_, _/_, _%_}
 use mathlib.Core.Bool.{Bool, _&&_, _||_}
-use mathlib.Core.List.{List}
+use mathlib.Core.List.{List, [], _∷_}
 use lib.Dec.{eqb}
 use lib.ListN.{length, getD}
 use Rattle.rules.specs.Fact.{Fact, kind, left, right}
@@ -18,6 +18,12 @@ stepAt c i =
       first = pair (getD c (10 * i + 6) 0) (getD c (10 * i + 7) 0);
       second = pair (getD c (10 * i + 8) 0) (getD c (10 * i + 9) 0);
     }
+
+-- as it is written: of each number the low two bytes
+unfoldable pub stepBytes : Step → List ℕ
+stepBytes s =
+    s .rule ∷ s .kind ∷ s .a % 256 ∷ s .a / 256 % 256 ∷ s .b % 256 ∷ s .b / 256 % 256
+    ∷ s .first % 256 ∷ s .first / 256 % 256 ∷ s .second % 256 ∷ s .second / 256 % 256 ∷ []
 
 -- how many whole steps
 abbrev pub steps : List ℕ → ℕ

@@ -3,6 +3,7 @@ pub use chain_steps::check_steps;
 pub use steps::Step;
 pub use steps::cites;
 pub use steps::lets;
+pub use steps::put_step;
 pub use steps::shows;
 pub use steps::step_at;
 

@@ -4,8 +4,9 @@ ghost use mathlib.Core.Bool.{true, _&&_};
 ghost use Prim.Native.Nat.{_+_, _*_, _≤_};
 ghost use lib.Dec.{eqb};
 ghost use lib.ListN.{length, getD};
+ghost use Rattle.lists.specs.Front.{placed};
 ghost use Rattle.chain_format.specs.Step as on;
-ghost use Rattle.chain_format.specs.Step.{stepAt, showing};
+ghost use Rattle.chain_format.specs.Step.{stepAt, stepBytes, showing};
 ghost use Rattle.chain_format.specs.Citing as may;
 ghost use Rattle.chain_format.specs.Citing.{none, citing};
 ghost use Rattle.chain_format.specs.Rule.{rule};
@@ -41,6 +42,30 @@ pub fn step_at(c: &[u8], i: usize) -> Step
         first,
         second,
     }
+}
+
+// The one writer of steps.
+pub fn put_step(c: &mut [u8], i: usize, s: Step)
+    requires { ⌜ STEP-BYTES * i + STEP-BYTES ≤ length (now c) ⌝ }
+    ensures { λ _. ⌜ now (c .exit) ≡ placed (STEP-BYTES * i) (stepBytes s) (now (c .entry)) ⌝ }
+{
+    let a = s.a;
+    let b = s.b;
+    let first = s.first;
+    let second = s.second;
+    let ten = [
+        s.rule,
+        s.kind,
+        numbers::low(a),
+        numbers::low(a / numbers::BYTE_VALUES),
+        numbers::low(b),
+        numbers::low(b / numbers::BYTE_VALUES),
+        numbers::low(first),
+        numbers::low(first / numbers::BYTE_VALUES),
+        numbers::low(second),
+        numbers::low(second / numbers::BYTE_VALUES),
+    ];
+    numbers::copy_to(&ten, c, crate::STEP_BYTES * i);
 }
 
 // APART and MEETS.

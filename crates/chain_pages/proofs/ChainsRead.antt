@@ -11,11 +11,11 @@ use Rattle.records.specs.Record.{pair}
 use Rattle.text.specs.Number.{isDigit}
 use Rattle.lists.proofs.Parts.{here}
 use Rattle.pages.specs.Lines.{lines}
-use Rattle.chain_format.specs.Step.{stepAt, steps}
+use Rattle.chain_format.specs.Step.{stepAt, stepBytes, steps}
 use Rattle.chain_pages.specs.StepLine.{stepLine}
 use Rattle.chain_pages.specs.StepLine.{stepLines}
 use Rattle.chain_pages.specs.ChainText.{Bytes}
-use Rattle.chain_pages.specs.Read.{after, found, stepIn, leftIn, stepBytes, stepsIn}
+use Rattle.chain_pages.specs.Read.{after, found, stepIn, leftIn, stepsIn}
 use Rattle.chain_pages.proofs.Gaps.{gaps, after-is, found-is, found-none}
 use Rattle.chain_pages.proofs.Steps.{steps-none, steps-more}
 use Rattle.chain_pages.proofs.StepsRead.{Plain, Small, behindNumber, line-is, rest, step-read, left-read, left-plain}

@@ -9,7 +9,8 @@ use lib.Seq.{take-at, length-take-le}
 use Rattle.lists.specs.Front.{placed}
 use Rattle.lists.proofs.Fronts.{placed-length}
 use Rattle.chain_format.specs.declared.steps.Step.{Step}
-use Rattle.chain_pages.specs.Read.{after, found, stepIn, leftIn, stepBytes, stepsIn}
+use Rattle.chain_format.specs.Step.{stepBytes}
+use Rattle.chain_pages.specs.Read.{after, found, stepIn, leftIn, stepsIn}
 use Rattle.chain_pages.specs.Found.{FoundAt, StepAt}
 
 pub steps-none : (k : ℕ) (l : List ℕ) → found l ≡ false → stepsIn k l ≡ []

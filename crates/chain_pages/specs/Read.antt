@@ -7,6 +7,7 @@ use lib.ListN.{length, getD}
 use Rattle.pages.specs.Text.{ascii}
 use Rattle.records.specs.declared.Record.{Record}
 use Rattle.chain_format.specs.declared.steps.Step.{Step}
+use Rattle.chain_format.specs.Step.{stepBytes}
 use Rattle.verdicts.specs.declared.Answer.{Answer}
 use Rattle.verdicts.specs.declared.Answer.the-variants.{Follows, Denied}
 use Rattle.text.specs.declared.words.Sort.the-variants.{Digit, Gap}
@@ -81,11 +82,6 @@ leftBy rule l = afterIf (count rule / 2) (afterIf (count rule) l)
 
 unfoldable pub leftIn : List ℕ → List ℕ
 leftIn l = leftBy (ruleIn (after (after l))) (after (after l))
-
-unfoldable pub stepBytes : Step → List ℕ
-stepBytes s =
-    s .rule ∷ s .kind ∷ s .a % 256 ∷ s .a / 256 % 256 ∷ s .b % 256 ∷ s .b / 256 % 256
-    ∷ s .first % 256 ∷ s .first / 256 % 256 ∷ s .second % 256 ∷ s .second / 256 % 256 ∷ []
 
 abbrev pub moreIf : Bool → List ℕ → List ℕ
 moreIf true x = x

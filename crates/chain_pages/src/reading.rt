@@ -2,8 +2,7 @@
 ghost use mathlib.Core.Path.{_≡_};
 ghost use Prim.Native.Nat.{_+_, _*_, _≤_, _%_};
 ghost use lib.ListN.{length, take, drop, getD};
-ghost use Rattle.lists.specs.Front.{placed};
-ghost use Rattle.chain_pages.specs.Read.{valueOf, placeIn, kindBy, ruleIn, originBy, answerBy, stepBytes, stepsIn};
+ghost use Rattle.chain_pages.specs.Read.{valueOf, placeIn, kindBy, ruleIn, originBy, answerBy, stepsIn};
 ghost use Rattle.chain_pages.specs.Found.{FoundAt, FoundIf, StepAt, HeadOf};
 ghost use Rattle.chain_format.specs.Sizes.{CHAIN-BYTES, STEP-BYTES, STEPS};
 ghost use Rattle.numbers.specs.Sizes.{BYTE-VALUES};
@@ -137,29 +136,6 @@ fn read_step(s: &[u8], at: usize) -> StepFound
     }
 }
 
-fn put_step(c: &mut [u8], i: usize, s: Step)
-    requires { ⌜ STEP-BYTES * i + STEP-BYTES ≤ length (now c) ⌝ }
-    ensures { λ _. ⌜ now (c .exit) ≡ placed (STEP-BYTES * i) (stepBytes s) (now (c .entry)) ⌝ }
-{
-    let a = s.a;
-    let b = s.b;
-    let f = s.first;
-    let g = s.second;
-    let ten = [
-        s.rule,
-        s.kind,
-        numbers::low(a),
-        numbers::low(a / numbers::BYTE_VALUES),
-        numbers::low(b),
-        numbers::low(b / numbers::BYTE_VALUES),
-        numbers::low(f),
-        numbers::low(f / numbers::BYTE_VALUES),
-        numbers::low(g),
-        numbers::low(g / numbers::BYTE_VALUES),
-    ];
-    numbers::copy_to(&ten, c, chain_format::STEP_BYTES * i);
-}
-
 // Reads steps, 16,400 at most, into the front of c, and says how many.
 pub fn read_steps(s: &[u8], at: usize, c: &mut [u8]) -> usize
     requires { ⌜ (at ≤ length (now s)) × (CHAIN-BYTES ≤ length (now c)) ⌝ }
@@ -171,7 +147,7 @@ pub fn read_steps(s: &[u8], at: usize, c: &mut [u8]) -> usize
         let i = number_behind(s, at);
         if i.some {
             let read = read_step(s, i.next);
-            put_step(c, n, read.step);
+            chain_format::put_step(c, n, read.step);
             at = read.next;
             n += 1;
         } else {

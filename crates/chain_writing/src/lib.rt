@@ -102,7 +102,7 @@ fn write_whole(
     let single = derivations::search::find_single(n, claim, book, kind, a, b);
     if single.found {
         let step = single.step;
-        derivations::writing::put_step(c, 0, step);
+        chain_format::put_step(c, 0, step);
         return Chain {
             reply: Reply::Answered(Answer::Follows),
             steps: 1,
@@ -111,7 +111,7 @@ fn write_whole(
     let other = derivations::search::find_single(n, claim, book, records::OPPOSITES - kind, a, b);
     if other.found {
         let step = other.step;
-        derivations::writing::put_step(c, 0, step);
+        chain_format::put_step(c, 0, step);
         return Chain {
             reply: Reply::Answered(Answer::Denied),
             steps: 1,

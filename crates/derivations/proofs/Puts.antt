@@ -1,22 +1,17 @@
 -- What is written where. Assumes nothing.
-use Prim.Native.Nat.{ℕ, _+_, _*_, _/_, _%_, _≤_, _<_}
-use mathlib.Core.Path.{_≡_, sym, ap₂, _∙_}
-use mathlib.Core.List.{List}
+use Prim.Native.Nat.{ℕ, _+_, _-_, _*_, _/_, _%_, _≤_, _<_}
+use mathlib.Core.Path.{_≡_, sym, ap, _∙_}
+use mathlib.Core.List.{List, _++_}
+use native.Mathlib.Nat.{add-zero}
 use native.Mathlib.Omega.{arith}
-use lib.ListN.{length, getD, set, length-set}
-use lib.Seq.{getD-set-same, getD-set-other}
+use lib.ListN.{length, take, drop, getD, length-append, List·getD-append}
+use lib.Seq.{length-take-le, getD-take, getD-drop, getD-append-add}
+use Rattle.lists.specs.Front.{placed}
+use Rattle.lists.proofs.Fronts.{placed-length}
 use Rattle.records.specs.Record.{pair}
 use Rattle.chain_format.specs.declared.steps.Step.{Step}
-use Rattle.derivations.specs.Written.{Edited, Numbered, Put}
-use Rattle.chain_format.proofs.Computed.{read-step}
-
-edited-set : (c : List ℕ) (i v : ℕ) → Edited c (set c i v) i (i + 1)
-edited-set c i v =
-    record {
-      sized = length-set c i v;
-      below = λ j l. getD-set-other c i j v 0 (λ e. omega arith);
-      behind = λ j l. getD-set-other c i j v 0 (λ e. omega arith);
-    }
+use Rattle.chain_format.specs.Step.{stepAt, stepBytes}
+use Rattle.derivations.specs.Written.{Edited, Put}
 
 pub edited-join : {c c′ c″ : List ℕ} {low high low′ high′ : ℕ} (l h : ℕ) → Edited c c′ low high → Edited c′ c″ low′ high′ → l ≤ low → l ≤ low′ → high ≤ h → high′ ≤ h → Edited c c″ l h
 edited-join l h x y a b p q =
@@ -26,51 +21,73 @@ edited-join l h x y a b p q =
       behind = λ j k. y .behind j (omega arith) ∙ x .behind j (omega arith);
     }
 
-pub number-put : (c : List ℕ) (at x low high : ℕ) → at + 2 ≤ length c → low ≡ x % 256 → high ≡ x / 256 → Numbered c (set (set c at low) (at + 1) high) at x
-number-put c at x low high l p q =
-    let w = edited-set (set c at low) (at + 1) high in
-    let e = w .below at (omega arith) ∙ getD-set-same c at low 0 (omega arith) in
-    let d = getD-set-same (set c at low) (at + 1) high 0 (omega (arith, length-set c at low)) in
-    record {
-      edited = edited-join at (at + 2) (edited-set c at low) w (omega arith) (omega arith) (omega arith) (omega arith);
-      number = omega (arith, e, d);
-    }
+-- the low two bytes of a number below 65,536 are all of it
+both-bytes : (x : ℕ) → x < 65536 → pair (x % 256) (x / 256 % 256) ≡ x
+both-bytes x h = omega arith
 
--- bytes from `at` on that are written later leave a number before them
-later : (c c′ : List ℕ) (at x : ℕ) → ((j : ℕ) → j < at + 2 → getD c′ j 0 ≡ getD c j 0) → pair (getD c at 0) (getD c (at + 1) 0) ≡ x → x ≡ pair (getD c′ at 0) (getD c′ (at + 1) 0)
-later c c′ at x e n = omega (arith, e at (omega arith), e (at + 1) (omega arith))
+-- bytes placed from i on: before them, among them, behind them
+module _ (xs c : List ℕ) (i : ℕ) (room : i + length xs ≤ length c) where
+  taken : length (take i c) ≡ i
+  taken = length-take-le i c (omega arith)
 
-module _ (c c₁ c₂ c₃ c₄ : List ℕ) (i : ℕ) (s : Step) (room : 10 * i + 10 ≤ length c) where
-  abbrev Begun : List ℕ
-  Begun = set (set c (10 * i) (s .rule)) (10 * i + 1) (s .kind)
+  head : length (take i c ++ xs) ≡ i + length xs
+  head = length-append (take i c) xs ∙ ap (λ (n : ℕ). n + length xs) taken
 
-  pub step-put :
-      Numbered Begun c₁ (10 * i + 2) (s .a) → Numbered c₁ c₂ (10 * i + 4) (s .b) → Numbered c₂ c₃ (10 * i + 6) (s .first) → Numbered c₃ c₄ (10 * i + 8) (s .second)
-      → Put c c₄ i s
-  step-put p q r t =
-      let b = edited-set c (10 * i) (s .rule) in
-      let d = edited-set (set c (10 * i) (s .rule)) (10 * i + 1) (s .kind) in
-      let o = edited-join (10 * i) (10 * i + 10) b d (omega arith) (omega arith) (omega arith) (omega arith) in
-      let x = edited-join (10 * i) (10 * i + 10) o (p .edited) (omega arith) (omega arith) (omega arith) (omega arith) in
-      let y = edited-join (10 * i) (10 * i + 10) x (q .edited) (omega arith) (omega arith) (omega arith) (omega arith) in
-      let z = edited-join (10 * i) (10 * i + 10) y (r .edited) (omega arith) (omega arith) (omega arith) (omega arith) in
-      let w = edited-join (10 * i) (10 * i + 10) z (t .edited) (omega arith) (omega arith) (omega arith) (omega arith) in
-      let after₃ : (j : ℕ) → j < 10 * i + 8 → getD c₄ j 0 ≡ getD c₃ j 0 = t .edited .below in
-      let after₂ : (j : ℕ) → j < 10 * i + 6 → getD c₄ j 0 ≡ getD c₂ j 0 = λ j h. after₃ j (omega arith) ∙ r .edited .below j h in
-      let after₁ : (j : ℕ) → j < 10 * i + 4 → getD c₄ j 0 ≡ getD c₁ j 0 = λ j h. after₂ j (omega arith) ∙ q .edited .below j h in
-      let after₀ : (j : ℕ) → j < 10 * i + 2 → getD c₄ j 0 ≡ getD Begun j 0 = λ j h. after₁ j (omega arith) ∙ p .edited .below j h in
-      let rule : getD c₄ (10 * i) 0 ≡ s .rule = after₀ (10 * i) (omega arith) ∙ d .below (10 * i) (omega arith) ∙ getD-set-same c (10 * i) (s .rule) 0 (omega arith) in
-      let kind : getD c₄ (10 * i + 1) 0 ≡ s .kind =
-      after₀ (10 * i + 1) (omega arith) ∙ getD-set-same (set c (10 * i) (s .rule)) (10 * i + 1) (s .kind) 0 (omega (arith, length-set c (10 * i) (s .rule)))
-      in
-      let fields =
-      read-step c₄ i (s .a) (s .b) (s .first) (s .second)
-      (later c₁ c₄ (10 * i + 2) (s .a) (λ j h. after₁ j (omega arith)) (p .number))
-      (later c₂ c₄ (10 * i + 4) (s .b) (λ j h. after₂ j (omega arith)) (q .number))
-      (later c₃ c₄ (10 * i + 6) (s .first) (λ j h. after₃ j (omega arith)) (r .number))
-      (sym (t .number))
-      in
+  placed-before : (j : ℕ) → j < i → getD (placed i xs c) j 0 ≡ getD c j 0
+  unfolding placed
+  placed-before j h =
+      List·getD-append (take i c ++ xs) (drop (i + length xs) c) 0 j (omega (arith, head))
+      ∙ List·getD-append (take i c) xs 0 j (omega (arith, taken)) ∙ getD-take i c j 0 h
+
+  placed-among : (k : ℕ) → k < length xs → getD (placed i xs c) (i + k) 0 ≡ getD xs k 0
+  unfolding placed
+  placed-among k h =
+      List·getD-append (take i c ++ xs) (drop (i + length xs) c) 0 (i + k) (omega (arith, head))
+      ∙ ap (λ (n : ℕ). getD (take i c ++ xs) (n + k) 0) (sym taken) ∙ getD-append-add (take i c) xs k 0
+
+  placed-behind : (k : ℕ) → getD (placed i xs c) (i + length xs + k) 0 ≡ getD c (i + length xs + k) 0
+  unfolding placed
+  placed-behind k =
+      ap (λ (n : ℕ). getD (take i c ++ xs ++ drop (i + length xs) c) (n + k) 0) (sym head)
+      ∙ getD-append-add (take i c ++ xs) (drop (i + length xs) c) k 0 ∙ getD-drop (i + length xs) c k 0
+
+-- a step that `chain_format::put_step` wrote reads back where its numbers have sixteen bits
+module _ (c c′ : List ℕ) (i : ℕ) (s : Step) (room : 10 * i + 10 ≤ length c) (is : c′ ≡ placed (10 * i) (stepBytes s) c) where
+  step-edited : Edited c c′ (10 * i) (10 * i + 10)
+  unfolding stepBytes
+  step-edited =
+      rw is
+      (record {
+        sized = placed-length (stepBytes s) c (10 * i) room;
+        below = placed-before (stepBytes s) c (10 * i) room;
+        behind = λ j h. let e : 10 * i + 10 + (j - (10 * i + 10)) ≡ j = omega arith in rw (← e) (placed-behind (stepBytes s) c (10 * i) room (j - (10 * i + 10)));
+      })
+
+  among : (k : ℕ) → k < 10 → getD c′ (10 * i + k) 0 ≡ getD (stepBytes s) k 0
+  unfolding stepBytes
+  among k h = rw is (placed-among (stepBytes s) c (10 * i) room k h)
+
+  pub step-put : s .a < 65536 → s .b < 65536 → s .first < 65536 → s .second < 65536 → Put c c′ i s
+  unfolding stepAt stepBytes
+  step-put a b first second =
+      let rule : getD c′ (10 * i) 0 ≡ s .rule = ap (λ (n : ℕ). getD c′ n 0) (sym (add-zero (10 * i))) ∙ among 0 (omega arith) in
       record {
-        edited = w;
-        step = sym fields ∙ ap₂ (λ (x y : ℕ). record { rule = x; kind = y; a = s .a; b = s .b; first = s .first; second = s .second }) rule kind;
+        edited = step-edited;
+        step =
+            rw (
+              rule,
+              among 1 (omega arith),
+              among 2 (omega arith),
+              among 3 (omega arith),
+              among 4 (omega arith),
+              among 5 (omega arith),
+              among 6 (omega arith),
+              among 7 (omega arith),
+              among 8 (omega arith),
+              among 9 (omega arith),
+              both-bytes (s .a) a,
+              both-bytes (s .b) b,
+              both-bytes (s .first) first,
+              both-bytes (s .second) second,
+            );
       }

@@ -3,7 +3,6 @@ use Prim.Native.Nat.{ℕ, _+_, _*_, _≤_, _<_}
 use mathlib.Core.Path.{_≡_}
 use mathlib.Core.List.{List}
 use lib.ListN.{length, getD}
-use Rattle.records.specs.Record.{pair}
 use Rattle.chain_format.specs.declared.steps.Step.{Step}
 use Rattle.chain_format.specs.Step.{stepAt}
 
@@ -12,11 +11,6 @@ pub record Edited (c c′ : List ℕ) (low high : ℕ) : Type 0 where
   pub sized : length c′ ≡ length c
   pub below : (j : ℕ) → j < low → getD c′ j 0 ≡ getD c j 0
   pub behind : (j : ℕ) → high ≤ j → getD c′ j 0 ≡ getD c j 0
-
--- with a 16-bit number there
-pub record Numbered (c c′ : List ℕ) (at x : ℕ) : Type 0 where
-  pub edited : Edited c c′ at (at + 2)
-  pub number : pair (getD c′ at 0) (getD c′ (at + 1) 0) ≡ x
 
 -- with step s as step i
 pub record Put (c c′ : List ℕ) (i : ℕ) (s : Step) : Type 0 where

@@ -5,7 +5,7 @@ ghost use Prim.Native.Nat.{_+_, _-_, _*_, _≤_, _<_};
 ghost use lib.ListN.{length};
 ghost use Rattle.rules.specs.Fact as fact;
 ghost use Rattle.chain_format.specs.Step.{stepAt, shows};
-ghost use Rattle.derivations.specs.Written.{Numbered, Put};
+ghost use Rattle.derivations.specs.Written.{Put};
 ghost use Rattle.derivations.specs.Hops.{Reaches, hopStep};
 ghost use Rattle.derivations.specs.Climbs.{Climbed, Contained};
 ghost use Rattle.chain_format.specs.Sizes.{CHAIN-BYTES, STEP-BYTES, STEPS};
@@ -15,27 +15,12 @@ ghost use Rattle.records.specs.Sizes.{PIECES};
 use chain_format::Step;
 use numbers::shorts;
 
-// A 16-bit number, low byte first.
-fn put_number(c: &mut [u8], at: usize, x: usize)
-    requires { ⌜ (at + 2 ≤ length (now c)) × (x < SHORT-VALUES) ⌝ }
-    ensures { λ _. ⌜ Numbered (now (c .entry)) (now (c .exit)) at x ⌝ }
-{
-    c[at] = numbers::low(x);
-    c[at + 1] = numbers::low(x / numbers::BYTE_VALUES);
-}
-
-// The one writer of steps.
+// A step whose numbers fit in sixteen bits: it is read back as it was.
 pub fn put_step(c: &mut [u8], i: usize, s: Step)
     requires { ⌜ (STEP-BYTES * i + STEP-BYTES ≤ length (now c)) × (s .a < SHORT-VALUES) × (s .b < SHORT-VALUES) × (s .first < SHORT-VALUES) × (s .second < SHORT-VALUES) ⌝ }
     ensures { λ _. ⌜ Put (now (c .entry)) (now (c .exit)) i s ⌝ }
 {
-    let at = chain_format::STEP_BYTES * i;
-    c[at] = s.rule;
-    c[at + 1] = s.kind;
-    put_number(c, at + 2, s.a);
-    put_number(c, at + 4, s.b);
-    put_number(c, at + 6, s.first);
-    put_number(c, at + 8, s.second);
+    chain_format::put_step(c, i, s);
 }
 
 // The step that shows the hop from x to y.

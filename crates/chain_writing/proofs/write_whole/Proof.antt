@@ -14,7 +14,7 @@ find-single-requires : tie.Need-find-single-requires
 find-single-requires c κs = let A = accepted _ _ (c .before .before .before .pre .0) in let w = claim-ends (c .before .before .before .args .claim) (c .before .before .before .pre .5) in (accepted-pieces A, w .0, w .1, A .few)
 
 put-step-requires : tie.Need-put-step-requires
-put-step-requires c κs = let G = c .before .before .before .find-single .ensures .grounded (c .before .before .if1 .taken) in (omega (arith, c .before .before .before .before .before .before .before .pre .6), G .left, G .right, G .first, G .second)
+put-step-requires c κs = omega (arith, c .before .before .before .before .before .before .before .pre .6)
 
 same-length : tie.Need-same-length
 same-length c = search needs
@@ -29,7 +29,7 @@ find-single-requires-2 : tie.Need-find-single-requires-2
 find-single-requires-2 c κs = let A = accepted _ _ (c .before .before .before .before .before .pre .0) in let w = claim-ends (c .before .before .before .before .before .args .claim) (c .before .before .before .before .before .pre .5) in (accepted-pieces A, w .0, w .1, A .few)
 
 put-step-requires-2 : tie.Need-put-step-requires-2
-put-step-requires-2 c κs = let G = c .before .before .before .find-single2 .ensures .grounded (c .before .before .if2 .taken) in (omega (arith, c .before .before .before .before .before .before .before .before .before .pre .6), G .left, G .right, G .first, G .second)
+put-step-requires-2 c κs = omega (arith, c .before .before .before .before .before .before .before .before .before .pre .6)
 
 same-length-2 : tie.Need-same-length-2
 same-length-2 c = search needs

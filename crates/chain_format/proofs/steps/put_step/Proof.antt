@@ -1,8 +1,8 @@
--- `reading::put_step` meets its contract. Assumes nothing.
+-- `steps::put_step` meets its contract: the ten bytes are those of `stepBytes`. Assumes nothing.
 use borrow.Author.Needs.{needs}
-use Rattle.chain_pages.specs.Read.{stepBytes}
-use Rattle.chain_pages.proofs.reading.put_step.Statement.{statement}
-use Rattle.chain_pages.proofs.reading.put_step.Tie as tie
+use Rattle.chain_format.specs.Step.{stepBytes}
+use Rattle.chain_format.proofs.steps.put_step.Statement.{statement}
+use Rattle.chain_format.proofs.steps.put_step.Tie as tie
 
 low-requires : tie.Need-low-requires
 low-requires c κs = search needs
