@@ -1,13 +1,14 @@
 -- What it says that a step shows a fact. Assumes nothing.
-use Prim.Native.Nat.{ℕ, _<_}
-use mathlib.Core.Path.{_≡_, sym, ap, subst, _∙_}
+use Prim.Native.Nat.{ℕ, zero, suc, _-_, _≤_, _<_}
+use mathlib.Core.Path.{_≡_, refl, sym, ap, subst, _∙_}
 use mathlib.Core.Logic.{_⊎_, inl, inr}
 use mathlib.Core.Bool.{Bool, true, _&&_, false≢true}
 use mathlib.Core.List.{List}
+use native.Mathlib.Omega.{arith}
 use lib.Dec.{eqb}
 use borrow.Author.Tests.{eqb-true, eq-eqb}
 use Rattle.lists.proofs.Bools.{and-both, both-and, or-either, left-or, right-or}
-use Rattle.rules.specs.Fact.{Fact, PART, APART, MEETS, NOTPART, kind, left, right, factOf, Within}
+use Rattle.rules.specs.Fact.{Fact, PART, APART, MEETS, NOTPART, kind, left, right, factOf, opposite, Within}
 use Rattle.rules.specs.Derives.{Derives, apart-turn, meets-turn}
 use Rattle.rules.proofs.Facts.{remake}
 use Rattle.chain_format.specs.declared.steps.Step.{Step}
@@ -74,3 +75,13 @@ module _ {void : ℕ → Bool} {n : ℕ} {fs : List Fact} where
       pick (straight p q) (swapped u v w) = other (ap unordered (sym k) ∙ u) (sym w ∙ q) (sym v ∙ p)
       pick (swapped u p q) (straight v w) = other u (sym v ∙ p) (sym w ∙ q)
       pick (swapped u p q) (swapped t v w) = same (sym w ∙ q) (sym v ∙ p)
+
+-- a step shows the opposite of a fact of kind k by the number 5 - k
+pub shows-opposite : (x : Step) (k a b : ℕ) → 1 ≤ k → k ≤ 4 → showing x (5 - k) a b ≡ shows x (opposite (factOf k a b))
+unfolding factOf
+shows-opposite x zero a b l h = absurd (omega arith)
+shows-opposite x (suc zero) a b l h = refl
+shows-opposite x (suc (suc zero)) a b l h = refl
+shows-opposite x (suc (suc (suc zero))) a b l h = refl
+shows-opposite x (suc (suc (suc (suc zero)))) a b l h = refl
+shows-opposite x (suc (suc (suc (suc (suc k))))) a b l h = absurd (omega arith)

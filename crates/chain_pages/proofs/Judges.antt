@@ -9,13 +9,12 @@ use Rattle.records.specs.declared.Record.{Record}
 use Rattle.records.specs.Record.{recordAt}
 use Rattle.records.specs.Facts.{saying}
 use Rattle.records.specs.Pieces.{stated}
-use Rattle.records.proofs.Accepted.{says-left, says-right, says-kind}
+use Rattle.records.proofs.Accepted.{says-left, says-right, says-kind, kind-of}
 use Rattle.verdicts.specs.declared.Answer.{Answer}
 use Rattle.verdicts.specs.declared.Answer.the-variants.{Follows, Denied, Open}
 use Rattle.chain_format.specs.declared.steps.Step.{Step}
 use Rattle.chain_format.specs.Step.{stepAt, steps, showing}
 use Rattle.chain_check.specs.Call.{passes}
-use Rattle.chain_writing.proofs.Replies.{kind-of}
 use Rattle.chain_pages.specs.ChainText.{chainText, Bytes}
 use Rattle.chain_pages.specs.Begins.{Same}
 use Rattle.chain_pages.specs.Verified.{tells, Judged}

@@ -23,7 +23,7 @@ use Rattle.chain_pages.specs.ChainText.{chainText, Bytes}
 use Rattle.chain_pages.specs.Verified.{said, Verified}
 use Rattle.chain_pages.proofs.Plains.{passing-is}
 use Rattle.chain_pages.proofs.Verifying.{answer-verifies}
-use Rattle.chain_writing.proofs.Replies.{kind-of}
+use Rattle.records.proofs.Accepted.{kind-of}
 use Rattle.chain_pages.specs.WhyText.{whyText, whyPage}
 use Rattle.chain_pages.specs.Why.{Asks, textOf, WhyVerifies}
 

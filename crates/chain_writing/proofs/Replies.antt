@@ -16,6 +16,7 @@ use Rattle.lists.proofs.Fronts.{front-none, front-length}
 use Rattle.rules.specs.Fact.{Fact, factOf, opposite, Within}
 use Rattle.rules.specs.Follows.{follows, clash}
 use Rattle.rules.specs.Verdict.{judge, verdict}
+use Rattle.rules.proofs.Facts.{opposite-of}
 use Rattle.records.specs.declared.Record.{Record}
 use Rattle.records.specs.declared.Refusal.{Refusal}
 use Rattle.records.specs.declared.Refusal.the-variants.{ShortSteps, ClaimsLength, Contradiction}
@@ -27,7 +28,7 @@ use Rattle.records.specs.Facts.{saying, facts}
 use Rattle.records.specs.Kept.{picked}
 use Rattle.records.specs.Marked.{marked}
 use Rattle.records.specs.Check.{bookCheck, claimsCheck}
-use Rattle.records.proofs.Accepted.{accepted, accepted-claims, says-left, says-right}
+use Rattle.records.proofs.Accepted.{accepted, accepted-claims, kind-of}
 use Rattle.closure.specs.Void.{voidOf}
 use Rattle.closure.specs.Stored.{edgeBit}
 use Rattle.closure.specs.Closed.{Holds}
@@ -55,103 +56,12 @@ use Rattle.chain_check.proofs.Asking.{asked-refused, asked-misfit, asked-claim,
 use Rattle.chain_writing.specs.declared.Reply.{Reply}
 use Rattle.chain_writing.specs.declared.Reply.the-variants.{Answered, Refused}
 use Rattle.chain_writing.specs.declared.Chain.{Chain}
-use Rattle.derivations.specs.Written.{Edited}
+use Rattle.derivations.proofs.Cuts.{cut-behind, cut-chain, cut-twice}
 use Rattle.derivations.specs.Shown.{Writes}
 use Rattle.derivations.specs.Found.{Ground, Chained}
 use Rattle.chain_writing.specs.Call.{answerFor, answerTo, replyOf, reply, shown, Written, Answering, Judged}
 
--- ---- a buffer with a new front
-
-module _ (xs l : List ℕ) (j : ℕ) where
-  front-before : j < length xs → getD (front xs l) j 0 ≡ getD xs j 0
-  unfolding front
-  front-before h = List·getD-append xs (drop (length xs) l) 0 j h
-
-  front-after : length xs ≤ j → getD (front xs l) j 0 ≡ getD l j 0
-  unfolding front
-  front-after h =
-      let e : length xs + (j - length xs) ≡ j = omega arith in
-      ap (λ (i : ℕ). getD (xs ++ drop (length xs) l) i 0) (sym e) ∙ getD-append-add xs (drop (length xs) l) (j - length xs) 0 ∙ getD-drop (length xs) l (j - length xs) 0
-      ∙ ap (λ (i : ℕ). getD l i 0) e
-
-pub kind-of : (r : Record) → stated r ≡ true → (1 ≤ r .kind) × (r .kind ≤ 4)
-unfolding stated
-kind-of r t = let b = and-both (leb 1 (r .kind)) _ t in (leb-true _ _ (b .0), leb-true _ _ (b .1))
-
-pub claim-ends : {n : ℕ} (r : Record) → Within n (saying r) → (r .a < n) × (r .b < n)
-claim-ends r w = (rw (says-left r) at (w .0), rw (says-right r) at (w .1))
-
--- ---- the steps, cut off behind the last
-
-module _ (c c′ : List ℕ) (r : ℕ) (room : 10 * r ≤ length c) (E : Edited c c′ 0 (10 * r)) where
-  long : length (take (10 * r) c′) ≡ 10 * r
-  long = length-take-le (10 * r) c′ (omega (arith, E .sized))
-
-  -- what is behind them is as it was
-  pub cut-behind : c′ ≡ front (take (10 * r) c′) c
-  cut-behind =
-      ext-getD 0 c′ (front (take (10 * r) c′) c) (E .sized ∙ sym (front-length (take (10 * r) c′) c (omega (arith, long))))
-      (λ j l. elim (decLt j (10 * r)) [ yes h ↦ before j h | no h ↦ after j (omega arith) ])
-    where
-      before : (j : ℕ) → j < 10 * r → getD c′ j 0 ≡ getD (front (take (10 * r) c′) c) j 0
-      before j h = sym (front-before (take (10 * r) c′) c j (omega (arith, long)) ∙ getD-take (10 * r) c′ j 0 h)
-
-      after : (j : ℕ) → 10 * r ≤ j → getD c′ j 0 ≡ getD (front (take (10 * r) c′) c) j 0
-      after j h = E .behind j h ∙ sym (front-after (take (10 * r) c′) c j (omega (arith, long)))
-
-  module _ (n : ℕ) (es : List Cited) where
-    cut : (j : ℕ) → j < 10 * r → getD (take (10 * r) c′) j 0 ≡ getD c′ j 0
-    cut j l = getD-take (10 * r) c′ j 0 l
-
-    counted : steps (take (10 * r) c′) ≡ r
-    counted = omega (arith, long)
-
-    -- they are a chain, whose last step shows g, the claim or its opposite
-    pub cut-chain :
-        (f g : Fact) → (g ≡ f) ⊎ (g ≡ opposite f) → 1 ≤ r → r ≤ 16400 → allOk n es c′ r ≡ true → shows (stepAt c′ (r - 1)) g ≡ true → chainOk n es f (take (10 * r) c′) ≡ true
-    unfolding chainOk concludes
-    cut-chain f g w l h a x =
-        rw counted
-        (both-and (eq-eqb (length (take (10 * r) c′) % 10) 0 (omega (arith, long)))
-        (both-and (both-and (le-leb 1 r l) (le-leb r 16400 h)) (both-and (sym (all-kept n es c′ (take (10 * r) c′) r cut) ∙ a) (pick w))))
-      where
-        last : shows (stepAt (take (10 * r) c′) (r - 1)) g ≡ true
-        last = ap (λ (s : Step). shows s g) (step-kept c′ (take (10 * r) c′) (r - 1) (λ j k. cut j (omega arith))) ∙ x
-
-        pick : (g ≡ f) ⊎ (g ≡ opposite f) → (shows (stepAt (take (10 * r) c′) (r - 1)) f || shows (stepAt (take (10 * r) c′) (r - 1)) (opposite f)) ≡ true
-        pick (inl q) = left-or _ (subst (λ (f : Fact). shows (stepAt (take (10 * r) c′) (r - 1)) f ≡ true) q last)
-        pick (inr q) = right-or (shows (stepAt (take (10 * r) c′) (r - 1)) f) (subst (λ (f : Fact). shows (stepAt (take (10 * r) c′) (r - 1)) f ≡ true) q last)
-
-module _ (c c′ : List ℕ) (r : ℕ) (room : 10 * r ≤ length c) (E : Edited c c′ 0 (10 * r)) where
-  -- no two of them show the same
-  pub cut-twice : Differ c′ 0 r → NoneTwice (take (10 * r) c′)
-  cut-twice d i j a b h =
-      let l = long c c′ r room E in
-      ap₂ alike (same i (omega arith)) (same j (omega arith)) ∙ d i j a b (omega arith)
-    where
-      same : (i : ℕ) → i < r → stepAt (take (10 * r) c′) i ≡ stepAt c′ i
-      same i l = step-kept c′ (take (10 * r) c′) i (λ j k. getD-take (10 * r) c′ j 0 (omega arith))
-
 -- ---- the answer
-
-pub opposite-of : (k a b : ℕ) → 1 ≤ k → k ≤ 4 → factOf (5 - k) a b ≡ opposite (factOf k a b)
-unfolding factOf
-opposite-of zero a b l h = absurd (omega arith)
-opposite-of (suc zero) a b l h = refl
-opposite-of (suc (suc zero)) a b l h = refl
-opposite-of (suc (suc (suc zero))) a b l h = refl
-opposite-of (suc (suc (suc (suc zero)))) a b l h = refl
-opposite-of (suc (suc (suc (suc (suc k))))) a b l h = absurd (omega arith)
-
--- a step shows the opposite of a fact of kind k by the number 5 - k
-pub shows-opposite : (x : Step) (k a b : ℕ) → 1 ≤ k → k ≤ 4 → showing x (5 - k) a b ≡ shows x (opposite (factOf k a b))
-unfolding factOf
-shows-opposite x zero a b l h = absurd (omega arith)
-shows-opposite x (suc zero) a b l h = refl
-shows-opposite x (suc (suc zero)) a b l h = refl
-shows-opposite x (suc (suc (suc zero))) a b l h = refl
-shows-opposite x (suc (suc (suc (suc zero)))) a b l h = refl
-shows-opposite x (suc (suc (suc (suc (suc k))))) a b l h = absurd (omega arith)
 
 -- the byte of an answer is the verdict
 pub answered-byte : (n : ℕ) (claim : Record) (s : List ℕ) → answerByte (answerTo n claim s) ≡ verdict (marked s) n (facts (picked s claim)) (saying claim)

@@ -21,7 +21,7 @@ use Rattle.records.specs.Kept.{picked}
 use Rattle.records.specs.Marked.{marked}
 use Rattle.records.specs.Check.{bookCheck}
 use Rattle.records.proofs.Keeps.{picked-all}
-use Rattle.records.proofs.Accepted.{accepted, accepted-within, accepted-positive, says-kind, says-left, says-right}
+use Rattle.records.proofs.Accepted.{accepted, accepted-within, accepted-positive, says-kind, says-left, says-right, kind-of}
 use Rattle.contradiction.proofs.SettlingLaws.{whole-unmarked}
 use Rattle.verdicts.specs.declared.Answer.the-variants.{Follows, Denied}
 use Rattle.chain_format.specs.Step.{stepBytes, shows}
@@ -35,7 +35,8 @@ use Rattle.derivations.specs.Found.{Singly}
 use Rattle.derivations.proofs.Grounds.{written-follows}
 use Rattle.chain_writing.specs.declared.Reply.the-variants.{Answered}
 use Rattle.chain_writing.specs.Call.{answerFor, Answering}
-use Rattle.chain_writing.proofs.Replies.{kind-of, is-answer, spoken, shows-opposite}
+use Rattle.chain_writing.proofs.Replies.{is-answer, spoken}
+use Rattle.chain_format.proofs.Showing.{shows-opposite}
 
 alone : (c : List ℕ) → Differ c 0 1
 alone c i j a b h = absurd (omega arith)

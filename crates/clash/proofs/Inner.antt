@@ -21,7 +21,7 @@ use Rattle.chain_format.specs.declared.steps.Step.{Step}
 use Rattle.chain_format.specs.Step.{stepAt, showing}
 use Rattle.chain_format.specs.Citing.{citing}
 use Rattle.chain_format.specs.Chain.{chainOk}
-use Rattle.chain_writing.proofs.Replies.{claim-ends}
+use Rattle.records.proofs.Accepted.{claim-ends}
 use Rattle.derivations.specs.Found.{Ground, Chained}
 use Rattle.clash.specs.Clash.{unrestricted, clashOk}
 use Rattle.clash.specs.Silenced.{silenced, Clashes, Behind}

@@ -25,7 +25,7 @@ use Rattle.records.specs.Facts.{facts}
 use Rattle.records.specs.Kept.{picked}
 use Rattle.records.specs.Marked.{marked}
 use Rattle.records.specs.Check.{bookCheck}
-use Rattle.records.proofs.Accepted.{accepted}
+use Rattle.records.proofs.Accepted.{accepted, kind-of}
 use Rattle.records.proofs.Keeps.{picked-all}
 use Rattle.closure.specs.Void.{voidOf}
 use Rattle.closure.specs.Counted.{MarksOf}
@@ -47,7 +47,9 @@ use Rattle.chain_format.proofs.Kept.{step-kept}
 use Rattle.chain_format.proofs.Passing.{all-none}
 use Rattle.derivations.specs.Shown.{Writes}
 use Rattle.derivations.specs.Found.{Chained}
-use Rattle.chain_writing.proofs.Replies.{kind-of, cut-behind, cut-chain, cut-twice, opposite-of, shows-opposite}
+use Rattle.rules.proofs.Facts.{opposite-of}
+use Rattle.chain_format.proofs.Showing.{shows-opposite}
+use Rattle.derivations.proofs.Cuts.{cut-behind, cut-chain, cut-twice}
 use Rattle.chain_check.proofs.Meaning.{chain-ok}
 use Rattle.clash.specs.Clash.{factAt, unrestricted, citedBefore, clashOk, passing, passes, replyOf, reply, shown, Written}
 use Rattle.clash.specs.Silenced.{silenced, Clashes, Placed, Behind}

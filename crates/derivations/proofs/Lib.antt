@@ -18,3 +18,4 @@ pub mod Ways
 pub mod Serving
 pub mod Singles
 pub mod Chaining
+pub mod Cuts

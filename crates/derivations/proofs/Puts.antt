@@ -1,13 +1,12 @@
 -- What is written where. Assumes nothing.
 use Prim.Native.Nat.{ℕ, _+_, _-_, _*_, _/_, _%_, _≤_, _<_}
 use mathlib.Core.Path.{_≡_, sym, ap, _∙_}
-use mathlib.Core.List.{List, _++_}
+use mathlib.Core.List.{List}
 use native.Mathlib.Nat.{add-zero}
 use native.Mathlib.Omega.{arith}
-use lib.ListN.{length, take, drop, getD, length-append, List·getD-append}
-use lib.Seq.{length-take-le, getD-take, getD-drop, getD-append-add}
+use lib.ListN.{length, getD}
 use Rattle.lists.specs.Front.{placed}
-use Rattle.lists.proofs.Fronts.{placed-length}
+use Rattle.lists.proofs.Fronts.{placed-length, placed-before, placed-among, placed-behind}
 use Rattle.records.specs.Record.{pair}
 use Rattle.chain_format.specs.declared.steps.Step.{Step}
 use Rattle.chain_format.specs.Step.{stepAt, stepBytes}
@@ -25,32 +24,6 @@ edited-join l h x y a b p q =
 both-bytes : (x : ℕ) → x < 65536 → pair (x % 256) (x / 256 % 256) ≡ x
 both-bytes x h = omega arith
 
--- bytes placed from i on: before them, among them, behind them
-module _ (xs c : List ℕ) (i : ℕ) (room : i + length xs ≤ length c) where
-  taken : length (take i c) ≡ i
-  taken = length-take-le i c (omega arith)
-
-  head : length (take i c ++ xs) ≡ i + length xs
-  head = length-append (take i c) xs ∙ ap (λ (n : ℕ). n + length xs) taken
-
-  placed-before : (j : ℕ) → j < i → getD (placed i xs c) j 0 ≡ getD c j 0
-  unfolding placed
-  placed-before j h =
-      List·getD-append (take i c ++ xs) (drop (i + length xs) c) 0 j (omega (arith, head))
-      ∙ List·getD-append (take i c) xs 0 j (omega (arith, taken)) ∙ getD-take i c j 0 h
-
-  placed-among : (k : ℕ) → k < length xs → getD (placed i xs c) (i + k) 0 ≡ getD xs k 0
-  unfolding placed
-  placed-among k h =
-      List·getD-append (take i c ++ xs) (drop (i + length xs) c) 0 (i + k) (omega (arith, head))
-      ∙ ap (λ (n : ℕ). getD (take i c ++ xs) (n + k) 0) (sym taken) ∙ getD-append-add (take i c) xs k 0
-
-  placed-behind : (k : ℕ) → getD (placed i xs c) (i + length xs + k) 0 ≡ getD c (i + length xs + k) 0
-  unfolding placed
-  placed-behind k =
-      ap (λ (n : ℕ). getD (take i c ++ xs ++ drop (i + length xs) c) (n + k) 0) (sym head)
-      ∙ getD-append-add (take i c ++ xs) (drop (i + length xs) c) k 0 ∙ getD-drop (i + length xs) c k 0
-
 -- a step that `chain_format::put_step` wrote reads back where its numbers have sixteen bits
 module _ (c c′ : List ℕ) (i : ℕ) (s : Step) (room : 10 * i + 10 ≤ length c) (is : c′ ≡ placed (10 * i) (stepBytes s) c) where
   step-edited : Edited c c′ (10 * i) (10 * i + 10)
@@ -59,13 +32,13 @@ module _ (c c′ : List ℕ) (i : ℕ) (s : Step) (room : 10 * i + 10 ≤ length
       rw is
       (record {
         sized = placed-length (stepBytes s) c (10 * i) room;
-        below = placed-before (stepBytes s) c (10 * i) room;
-        behind = λ j h. let e : 10 * i + 10 + (j - (10 * i + 10)) ≡ j = omega arith in rw (← e) (placed-behind (stepBytes s) c (10 * i) room (j - (10 * i + 10)));
+        below = placed-before 0 (stepBytes s) c (10 * i) room;
+        behind = λ j h. let e : 10 * i + 10 + (j - (10 * i + 10)) ≡ j = omega arith in rw (← e) (placed-behind 0 (stepBytes s) c (10 * i) room (j - (10 * i + 10)));
       })
 
   among : (k : ℕ) → k < 10 → getD c′ (10 * i + k) 0 ≡ getD (stepBytes s) k 0
   unfolding stepBytes
-  among k h = rw is (placed-among (stepBytes s) c (10 * i) room k h)
+  among k h = rw is (placed-among 0 (stepBytes s) c (10 * i) room k h)
 
   pub step-put : s .a < 65536 → s .b < 65536 → s .first < 65536 → s .second < 65536 → Put c c′ i s
   unfolding stepAt stepBytes

@@ -1,12 +1,12 @@
 -- Buffers of which the front is written, piece by piece. Assumes nothing.
-use Prim.Native.Nat.{ℕ, suc, _+_, _≤_, _<_}
+use Prim.Native.Nat.{ℕ, suc, _+_, _-_, _≤_, _<_}
 use mathlib.Core.Path.{_≡_, refl, sym, ap, _∙_}
 use mathlib.Core.List.{List, [], _∷_, _++_, append-nil}
 use native.Mathlib.Nat.{add-zero, zero-add, add-suc, suc-add}
 use native.Mathlib.Numerals.{add-one}
 use native.Mathlib.Omega.{arith}
-use lib.ListN.{length, take, drop, getD, set, length-append, length-drop, take-append-drop}
-use lib.Seq.{take-append-seam, take-all, take-suc, length-take-le, drop-append-add, drop-drop, sets, sets-eq}
+use lib.ListN.{length, take, drop, getD, set, length-append, length-drop, take-append-drop, List·getD-append}
+use lib.Seq.{take-append-seam, take-all, take-suc, length-take-le, drop-append-add, drop-drop, sets, sets-eq, getD-take, getD-drop, getD-append-add}
 use Rattle.lists.specs.Front.{front, placed}
 
 module _ {A : Type 0} where
@@ -72,3 +72,42 @@ module _ {A : Type 0} where
   pub placed-first : (xs l : List A) → placed 0 xs l ≡ front xs l
   unfolding placed front
   placed-first xs l = rw zero-add
+
+-- what stands where in a buffer with a new front
+module _ {A : Type 0} (d : A) (xs l : List A) (j : ℕ) where
+  pub front-before : j < length xs → getD (front xs l) j d ≡ getD xs j d
+  unfolding front
+  front-before h = List·getD-append xs (drop (length xs) l) d j h
+
+  pub front-after : length xs ≤ j → getD (front xs l) j d ≡ getD l j d
+  unfolding front
+  front-after h =
+      let e : length xs + (j - length xs) ≡ j = omega arith in
+      ap (λ (i : ℕ). getD (xs ++ drop (length xs) l) i d) (sym e) ∙ getD-append-add xs (drop (length xs) l) (j - length xs) d ∙ getD-drop (length xs) l (j - length xs) d
+      ∙ ap (λ (i : ℕ). getD l i d) e
+
+-- and in one with a list placed from i on: before it, among it, behind it
+module _ {A : Type 0} (d : A) (xs l : List A) (i : ℕ) (room : i + length xs ≤ length l) where
+  taken : length (take i l) ≡ i
+  taken = length-take-le i l (omega arith)
+
+  head : length (take i l ++ xs) ≡ i + length xs
+  head = length-append (take i l) xs ∙ ap (λ (n : ℕ). n + length xs) taken
+
+  pub placed-before : (j : ℕ) → j < i → getD (placed i xs l) j d ≡ getD l j d
+  unfolding placed
+  placed-before j h =
+      List·getD-append (take i l ++ xs) (drop (i + length xs) l) d j (omega (arith, head))
+      ∙ List·getD-append (take i l) xs d j (omega (arith, taken)) ∙ getD-take i l j d h
+
+  pub placed-among : (k : ℕ) → k < length xs → getD (placed i xs l) (i + k) d ≡ getD xs k d
+  unfolding placed
+  placed-among k h =
+      List·getD-append (take i l ++ xs) (drop (i + length xs) l) d (i + k) (omega (arith, head))
+      ∙ ap (λ (n : ℕ). getD (take i l ++ xs) (n + k) d) (sym taken) ∙ getD-append-add (take i l) xs k d
+
+  pub placed-behind : (k : ℕ) → getD (placed i xs l) (i + length xs + k) d ≡ getD l (i + length xs + k) d
+  unfolding placed
+  placed-behind k =
+      ap (λ (n : ℕ). getD (take i l ++ xs ++ drop (i + length xs) l) (n + k) d) (sym head)
+      ∙ getD-append-add (take i l ++ xs) (drop (i + length xs) l) k d ∙ getD-drop (i + length xs) l k d

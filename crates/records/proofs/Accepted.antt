@@ -59,9 +59,16 @@ module _ (r : Record) where
   pub says-right : right (saying r) ≡ r .b
   says-right = made (r .kind) (r .a) (r .b) (λ f. right f ≡ r .b) refl refl refl refl
 
-  pub says-kind : stated r ≡ true → kind (saying r) ≡ r .kind
+  pub kind-of : stated r ≡ true → (1 ≤ r .kind) × (r .kind ≤ 4)
   unfolding stated
-  says-kind t = let b = and-both (leb 1 (r .kind)) (leb (r .kind) 4) t in made-kind (r .kind) (r .a) (r .b) (leb-true _ _ (b .0)) (leb-true _ _ (b .1))
+  kind-of t = let b = and-both (leb 1 (r .kind)) (leb (r .kind) 4) t in (leb-true _ _ (b .0), leb-true _ _ (b .1))
+
+  pub says-kind : stated r ≡ true → kind (saying r) ≡ r .kind
+  says-kind t = made-kind (r .kind) (r .a) (r .b) (kind-of t .0) (kind-of t .1)
+
+  -- both pieces of a claim within n
+  pub claim-ends : {n : ℕ} → Within n (saying r) → (r .a < n) × (r .b < n)
+  claim-ends w = (rw says-left at (w .0), rw says-right at (w .1))
 
   pub says-within : (n : ℕ) → stated r ≡ true → largest r < n → Within n (saying r)
   says-within n t l =

@@ -1,5 +1,6 @@
 -- `chain_writing::write_found` meets its contract. Assumes nothing.
-use Rattle.chain_writing.proofs.Replies.{kind-of, claim-ends, says-follows, says-denied, says-open}
+use Rattle.chain_writing.proofs.Replies.{says-follows, says-denied, says-open}
+use Rattle.records.proofs.Accepted.{kind-of, claim-ends}
 use native.Mathlib.Omega.{arith}
 use borrow.Author.Needs.{needs}
 use Rattle.chain_writing.proofs.write_found.Statement.{statement}

@@ -3,9 +3,9 @@ use borrow.Author.Needs.{needs}
 use native.Mathlib.Omega.{arith}
 use mathlib.Core.Path.{sym}
 use Rattle.records.proofs.Keeps.{picked-all}
-use Rattle.records.proofs.Accepted.{accepted, accepted-pieces}
+use Rattle.records.proofs.Accepted.{accepted, accepted-pieces, kind-of, claim-ends}
 use Rattle.contradiction.proofs.SettlingLaws.{settleable}
-use Rattle.chain_writing.proofs.Replies.{kind-of, claim-ends, by-marks, ground-of}
+use Rattle.chain_writing.proofs.Replies.{by-marks, ground-of}
 use Rattle.chain_writing.proofs.Singles.{single-follows, single-denied}
 use Rattle.chain_writing.proofs.write_whole.Statement.{statement}
 use Rattle.chain_writing.proofs.write_whole.Tie as tie
