@@ -1,5 +1,10 @@
 pub mod Fits
-pub mod Paths
+mod Gray
+mod Pushing
+mod Cutting
+mod Ending
+mod Walking
+mod Searching
 pub mod Steps
 pub mod Lying
 pub mod Grouping

@@ -19,7 +19,9 @@ use Rattle.lists.proofs.Searches.{Sought, sought-next}
 use Rattle.index.specs.Pairs.{self, step}
 use Rattle.index.proofs.Below.{within-trans}
 use Rattle.groups.specs.Search.{State, stateOf, partOf, WayOf, GoodOf, VisitedOf, Leading, Callable, Cut, Numbered, Pushed, Settled, Searchable, Searched}
-use Rattle.groups.proofs.Paths.{Walk, with, walk-begin, reaches, walk-skip, walk-cut, walk-call, walk-stay, walk-close, empty-good, search-done}
+use Rattle.groups.proofs.Gray.{with}
+use Rattle.groups.proofs.Walking.{Walk, walk-begin, reaches, walk-skip, walk-cut, walk-call, walk-stay, walk-close}
+use Rattle.groups.proofs.Searching.{empty-good, search-done}
 
 pub cut-more : (bounds : List ℕ) (top p t : ℕ) → ((k : ℕ) → t ≤ k → k < top → p < getD bounds k 0) → p < getD bounds (t - 1) 0 → (k : ℕ) → t - 1 ≤ k → k < top → p < getD bounds k 0
 cut-more bounds top p t h e k a b = go (ℕ-discrete k (t - 1))
@@ -129,7 +131,7 @@ module _ (n : ℕ) (small : n ≤ 2048) (e : List ℕ) where
       skip-more f a b = on-to S (suc w) (w + 1) w′ (sym (add-one w)) (omega arith) f
           (walk-skip n 2048 small (bitOf e) (WayOf n e) ws wj we S₀ gray (E .good) v (E .piece) S w w W (omega arith) idle wn edge a b)
 
-      pub call-more : (S′ : State) → w′ ≡ first (bitOf e v) (w + 1) (2048 - (w + 1)) → S .pos w ≡ 2048 → VisitedOf n e S S′ w (with n 2048 small (bitOf e) (WayOf n e) ws wj we gray v) → WalkOf S₀ S′ v w′ gray
+      pub call-more : (S′ : State) → w′ ≡ first (bitOf e v) (w + 1) (2048 - (w + 1)) → S .pos w ≡ 2048 → VisitedOf n e S S′ w (with gray v) → WalkOf S₀ S′ v w′ gray
       call-more S′ f a Y = on-to S′ (suc w) (w + 1) w′ (sym (add-one w)) (omega arith) f
           (walk-call n 2048 small (bitOf e) (WayOf n e) ws wj we S₀ gray (E .good) v (E .piece) S w w W (omega arith) idle wn edge S′ a Y)
 
@@ -202,7 +204,7 @@ module _ (n : ℕ) (e : List ℕ) (room : ℕ) (R : Searchable n e room) (done p
   first-state = stateOf (replicate 2048 2048) done path bounds 0 0 0
 
   pub first-good : (gray : ℕ → Bool) → GoodOf n e first-state gray
-  first-good gray = empty-good n 2048 (R .few) (bitOf e) (WayOf n e) (ws n (R .few) e) (wj n (R .few) e) (we n (R .few) e) first-state gray refl refl refl
+  first-good gray = empty-good n 2048 (R .few) (bitOf e) (WayOf n e) first-state gray refl refl refl
       (λ x l. getD-replicate 2048 x 2048 0 (omega (arith, R .few)))
       (λ x l. ap (λ (d : List ℕ). getD d x 0) blank ∙ getD-replicate room x 2048 0 (omega (arith, R .few, R .sized)))
 
@@ -222,4 +224,4 @@ module _ (n : ℕ) (e : List ℕ) (room : ℕ) (R : Searchable n e room) (done p
   }
 
   pub all-done : (S : State) → VisitedOf n e first-state S 0 (λ x. false) → Searched n 2048 (bitOf e) (WayOf n e) (S .done)
-  all-done S Y = search-done n 2048 (R .few) (bitOf e) (WayOf n e) (ws n (R .few) e) (wj n (R .few) e) (we n (R .few) e) first-state S (R .some) refl refl Y (R .crowned)
+  all-done S Y = search-done n 2048 (R .few) (bitOf e) (WayOf n e) first-state S (R .some) refl refl Y (R .crowned)

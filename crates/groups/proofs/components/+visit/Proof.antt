@@ -11,8 +11,8 @@ use Rattle.lists.specs.Tally.{tally}
 use Rattle.groups.specs.Search.{State, stateOf, GoodOf, Leading}
 use Rattle.lists.proofs.Bounds.{upto, nearer, next-in}
 use Rattle.groups.proofs.Fits.{below, under, less, fewer, low, positive, counted, falls-below, last-in, pred-is, in-room, fits-more, fits-twice, fits-count, set-room}
-use Rattle.groups.proofs.Paths.{with}
-use Rattle.groups.proofs.Steps.{ws, wj, we, WalkOf, Entered, pushed-from, begin, leads-on, skip-more, call-more, cut-on, stay, shut, tops-fit, len-below, met-small, ended-small}
+use Rattle.groups.proofs.Gray.{with}
+use Rattle.groups.proofs.Steps.{WalkOf, Entered, pushed-from, begin, leads-on, skip-more, call-more, cut-on, stay, shut, tops-fit, len-below, met-small, ended-small}
 use borrow.Fn.Kinds.{In}
 use borrow.Fn.PlainCycle.{Measures, is, falls, and}
 use Rattle.groups.proofs.components.visit.Reads as visit
@@ -147,7 +147,7 @@ visit-requires t c κs = let o = c .before .before .before .before .before .befo
         bounds-room = o .loop .inv .0 .3;
         piece = l;
         new = sym (c .before .before .before .before .before .wide .ensures .0) ∙ c .before .before .before .before .if1 .taken;
-        gray = with (s .args .n) 2048 (few t s) (bitOf (s .args .e .now)) _ (ws (s .args .n) (few t s) (s .args .e .now)) (wj (s .args .n) (few t s) (s .args .e .now)) (we (s .args .n) (few t s) (s .args .e .now)) (s .pre .1 .gray) (s .args .v);
+        gray = with (s .pre .1 .gray) (s .args .v);
         good = W .good;
         leading = leads-on (s .args .n) (few t s) (s .args .e .now) (S₀ t s) (s .pre .1 .gray) (s .args .v) _ (own t (o .before)) (S t o) (o .loop .w) 0 W l (o .loop .inv .1 .1 (below _ _ l (few t s)));
       },
