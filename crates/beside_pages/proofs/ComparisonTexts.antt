@@ -4,8 +4,7 @@ use mathlib.Core.Path.{_≡_, _∙_, ap, sym}
 use mathlib.Core.Bool.{Bool, true, false}
 use mathlib.Core.List.{List, _++_}
 use native.Mathlib.Omega.{arith}
-use lib.ListN.{length, take, getD, replicate, length-append, length-replicate}
-use lib.Seq.{length-take-le}
+use lib.ListN.{length, getD, replicate, length-append, length-replicate}
 use borrow.Author.Tests.{eq-eqb, ne-eqb}
 use Rattle.records.specs.declared.Record.{Record}
 use Rattle.records.specs.Record.{recordAt, records}
@@ -122,10 +121,6 @@ module _ (first other asked source second claims out : List ℕ) (r : Comparison
     compared-short small h =
         rw (sym compared)
         (omega (arith, length-append (togetherLine b) (pairLines asked out (records asked)), together-width b, pairs-width asked out small (records asked) (omega arith)))
-
--- at most 4,097 claims are read
-pub claims-fit : (out : List ℕ) (n : ℕ) → n ≤ length out → length out ≡ 24582 → length (take n out) ≤ 24582
-claims-fit out n h e = omega (arith, length-take-le n out h)
 
 -- three bytes a claim
 pub bytes-serve : (n m : ℕ) → n ≤ 24582 → m ≡ 12291 → 3 * (n / 6) ≤ m

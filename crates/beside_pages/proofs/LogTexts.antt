@@ -3,8 +3,7 @@ use Prim.Native.Nat.{ℕ, _+_, _*_, _/_, _≤_, _<_}
 use mathlib.Core.Path.{_≡_, _∙_, ap, sym, subst}
 use mathlib.Core.List.{List, _++_}
 use native.Mathlib.Omega.{arith}
-use lib.ListN.{length, take, getD, replicate, length-append, length-replicate}
-use lib.Seq.{length-take-le}
+use lib.ListN.{length, getD, replicate, length-append, length-replicate}
 use Rattle.records.specs.declared.Refusal.{Refusal}
 use Rattle.outcomes.specs.declared.Outcome.the-variants.{Accepted, Refused}
 use Rattle.replicates.specs.declared.Replicated.{Replicated}
@@ -86,10 +85,6 @@ module _ (book log source other out : List ℕ) (r : Replicated) (d : Determined
     accepted n nodes shadows is a =
         let same : entryLines log out (entryCount log) ≡ measuredText book log source other = rw (sym told, is) in
         subst (λ s. Put p 0 s q end × (length s ≤ 655380)) same a
-
--- at most 32,769 entries are read
-pub log-fits : (out : List ℕ) (n : ℕ) → n ≤ length out → length out ≡ 65538 → length (take n out) ≤ 65538
-log-fits out n h e = omega (arith, length-take-le n out h)
 
 -- two bytes an entry are as many as the log has
 pub bytes-serve : (n m : ℕ) → n ≤ 65538 → m ≡ 65538 → (2 * (n / 2) ≤ m) × (n ≤ 65538)

@@ -3,8 +3,7 @@ use Prim.Native.Nat.{ℕ, _+_, _*_, _/_, _≤_, _<_, _^_}
 use mathlib.Core.Path.{_≡_, sym}
 use mathlib.Core.List.{List, _++_}
 use native.Mathlib.Omega.{arith}
-use lib.ListN.{length, take, getD}
-use lib.Seq.{length-take-le}
+use lib.ListN.{length, getD}
 use Rattle.records.specs.Record.{records}
 use Rattle.records.specs.declared.Refusal.{Refusal}
 use Rattle.outcomes.specs.declared.Outcome.{Outcome}
@@ -38,8 +37,5 @@ module _ (book claims source other answers : List ℕ) (o : Outcome) (d : Answer
         rw (sym accepted) (omega (arith, page-width claims answers bytes n nodes shadows hn ho hs (omega arith)))
 
 -- at most 4,097 claims are read
-pub claims-fit : (out : List ℕ) (n : ℕ) → n ≤ length out → length out ≡ 24582 → length (take n out) ≤ 24582
-claims-fit out n h e = omega (arith, length-take-le n out h)
-
 pub room : (m n : ℕ) → m ≤ 142 + 33 * (n / 6) → n ≤ 24582 → m ≤ 135343
 room m n h k = omega arith

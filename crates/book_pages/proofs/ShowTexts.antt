@@ -3,8 +3,7 @@ use Prim.Native.Nat.{ℕ, _≤_, _<_}
 use mathlib.Core.Path.{_≡_, sym}
 use mathlib.Core.List.{List, []}
 use native.Mathlib.Omega.{arith}
-use lib.ListN.{length, take, getD}
-use lib.Seq.{length-take-le}
+use lib.ListN.{length, getD}
 use borrow.Author.Tests.{eq-eqb, ne-eqb}
 use Rattle.records.specs.Check.{bookCheck}
 use Rattle.records.specs.declared.Refusal.{Refusal}
@@ -36,10 +35,6 @@ module _ (book source : List ℕ) (c : BookCheck) (is : c ≡ bookCheck book) wh
 -- 28 bytes a record
 pub shown-short : (book : List ℕ) → ((k : ℕ) → getD book k 0 < 256) → length book ≤ 49158 → length (showBook book) ≤ 229404
 shown-short book bytes h = omega (arith, shown-length book bytes .0)
-
--- at most 8,193 records are read
-pub book-fits : (out : List ℕ) (n : ℕ) → n ≤ length out → length out ≡ 49158 → length (take n out) ≤ 49158
-book-fits out n h e = omega (arith, length-take-le n out h)
 
 -- no text is put from the start on
 pub put-none : {p : List ℕ} → Put p 0 [] p 0 × (length {A = ℕ} [] ≤ 95)

@@ -110,7 +110,7 @@ module _ (source : List ℕ) {page page′ : List ℕ} (x : laid.Written) where
       → Clash source page page′ x
   unfolding clashPage
   clash-read book end finished e o =
-      let told : Paged 852942 page (of source (o .chain) book) page′ x = put-page 852942 page _ page′ end x (o .put, o .short) finished in
+      let told : Paged 852942 page (of source (o .chain) book) page′ x = put-page (o .put, o .short) finished in
       let p : Paged 852942 page (clashPage source (o .chain)) page′ x = page-read 852942 page page′ x 0 Records source (of source (o .chain)) e told in
       record {
         chain = o .chain;

@@ -32,6 +32,6 @@ module _ (source chain : List ℕ) {page page′ : List ℕ} (x : Written) where
   pub verdict-read : (book : List ℕ) (v : Bool) (end : ℕ) → x ≡ writtenAt (length page′) end → readEither Records source ≡ Entries book → Verifies book chain v
       → Put page 0 (verdictLine v) page′ end → Verdict source chain page page′ x
   verdict-read book v end finished e h put =
-      let told : Paged 95 page (verdictLine v) page′ x = put-page 95 page _ page′ end x (put, line-short v) finished in
+      let told : Paged 95 page (verdictLine v) page′ x = put-page (put, line-short v) finished in
       let p : Paged 95 page (verdictPage source v) page′ x = page-read 95 page page′ x 0 Records source (λ (b : List ℕ). verdictLine v) e told in
       record { passes = v; verifies = λ b f. subst (λ (y : List ℕ). Verifies y chain v) (one-book _ book b e f) h; page-is = p .0; short = p .1 }

@@ -4,6 +4,7 @@ use mathlib.Core.Path.{_≡_, subst}
 use mathlib.Core.List.{List}
 use native.Mathlib.Omega.{arith}
 use lib.ListN.{length, take}
+use lib.Seq.{length-take-le}
 use Rattle.records.specs.declared.Record.{Record}
 use Rattle.text.specs.declared.Form.{Form}
 use Rattle.text.specs.Text.{Reading, Entries}
@@ -28,16 +29,20 @@ Paged most page text page′ r = Page page text page′ r × (length text ≤ mo
 
 -- ---- what a reading took, by its answer
 
-pub took-bytes : (x : Reading) (out : List ℕ) (r : Source) (n : ℕ) → r ≡ Bytes n → Took x out r → (n ≤ length out) × (x ≡ Entries (take n out))
-took-bytes x out r n e t = subst (Took x out) e t
+pub took-bytes : (x : Reading) (out : List ℕ) {r : Source} {n : ℕ} → r ≡ Bytes n → Took x out r → (n ≤ length out) × (x ≡ Entries (take n out))
+took-bytes x out e t = subst (Took x out) e t
 
-pub took-unread : (x : Reading) (out : List ℕ) (r : Source) (l number : ℕ) → r ≡ Unread l number → Took x out r → Breaks x l number
-took-unread x out r l number e t = subst (Took x out) e t
+pub took-unread : (x : Reading) (out : List ℕ) {r : Source} {l number : ℕ} → r ≡ Unread l number → Took x out r → Breaks x l number
+took-unread x out e t = subst (Took x out) e t
+
+-- no more was read than was lent
+pub took-short : (out : List ℕ) (n : ℕ) {lent : ℕ} → n ≤ length out → length out ≡ lent → length (take n out) ≤ lent
+took-short out n h e = omega (arith, length-take-le n out h)
 
 -- ---- texts by another name
 
-pub put-page : (most : ℕ) (p s q : List ℕ) (e : ℕ) (r : Written) → Put p 0 s q e × (length s ≤ most) → r ≡ writtenAt (length q) e → Paged most p s q r
-put-page most p s q e r a is = (write-page r (a .0) is, a .1)
+pub put-page : {most : ℕ} {p s q : List ℕ} {e : ℕ} {r : Written} → Put p 0 s q e × (length s ≤ most) → r ≡ writtenAt (length q) e → Paged most p s q r
+put-page {r = r} a is = (write-page r (a .0) is, a .1)
 
 module _ (most : ℕ) (p q : List ℕ) (r : Written) where
   pub page-as : (s t : List ℕ) → s ≡ t → Paged most p s q r → Paged most p t q r
@@ -51,6 +56,16 @@ module _ (most : ℕ) (p q : List ℕ) (r : Written) where
     pub page-unread : {l number : ℕ} → 95 ≤ most → Breaks (readEither form source) l number → Paged 95 p (unreadLine whom l number) q r
         → Paged most p (ofSource whom form source text) q r
     page-unread {l} {number} h b a = page-as (unreadLine whom l number) (ofSource whom form source text) (of-unread whom form source text l number b) (a .0, omega (arith, a .1))
+
+    -- by what a reading of the source answered
+    module _ (out : List ℕ) {took : Source} where
+      pub page-took : {n : ℕ} → took ≡ Bytes n → Took (readEither form source) out took → Paged most p (text (take n out)) q r
+          → Paged most p (ofSource whom form source text) q r
+      page-took e t a = page-read (took-bytes (readEither form source) out e t .1) a
+
+      pub page-untook : {l number : ℕ} → 95 ≤ most → took ≡ Unread l number → Took (readEither form source) out took → Paged 95 p (unreadLine whom l number) q r
+          → Paged most p (ofSource whom form source text) q r
+      page-untook h e t a = page-unread h (took-unread (readEither form source) out e t) a
 
   module _ (form : Form) (words : List ℕ) (text : Record → List ℕ) {w : Words} (is : w ≡ wordsOf form words) where
     pub page-entry : {said : Record} → w ≡ Entry said → Paged most p (text said) q r → Paged most p (ofWords form words text) q r

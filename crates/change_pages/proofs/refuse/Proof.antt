@@ -15,7 +15,7 @@ same-length : tie.Need-same-length
 same-length c = search needs
 
 returns : tie.Need-returns
-returns c = let w = put-page 142 _ _ _ _ _ (c .before .before .before .put-refused-book .ensures) (c .finish .ensures) in made-kept _ _ _ _ (w .0) (w .1)
+returns c = let w = put-page {most = 142} (c .before .before .before .put-refused-book .ensures) (c .finish .ensures) in made-kept _ _ _ _ (w .0) (w .1)
 
 pub refuse-spec : {M : Type 1} → statement M
 refuse-spec = tie.close (tie.spec put-refused-book-requires finish-requires same-length returns)

@@ -24,7 +24,7 @@ enum-known-read-2 : tie.Need-enum-known-read-2
 enum-known-read-2 c = search needs
 
 array-share-prefix-book : tie.Need-array-share-prefix-book
-array-share-prefix-book c = took-bytes _ _ _ _ (c .before .before .read2 .given .1) (c .before .before .before .before .before .read-source .ensures) .0
+array-share-prefix-book c = took-bytes _ _ (c .before .before .read2 .given .1) (c .before .before .before .before .before .read-source .ensures) .0
 
 slice-aggregate-convert-book : tie.Need-slice-aggregate-convert-book
 slice-aggregate-convert-book c = sym (length-take-le _ _ (array-share-prefix-book (c .before)))
@@ -36,13 +36,13 @@ same-length : tie.Need-same-length
 same-length c = search needs
 
 returns : tie.Need-returns
-returns c = made-none _ _ _ _ _ (made-as (convert-unread _ _ _ (took-unread _ _ _ _ _ (c .before .before .before .before .before .read .given .1) (c .before .before .before .before .before .before .before .before .read-source .ensures))) (c .before .before .tell .ensures))
+returns c = made-none _ _ _ _ _ (made-as (convert-unread _ _ _ (took-unread _ _ (c .before .before .before .before .before .read .given .1) (c .before .before .before .before .before .before .before .before .read-source .ensures))) (c .before .before .tell .ensures))
 
 same-length-2 : tie.Need-same-length-2
 same-length-2 c = search needs
 
 returns-2 : tie.Need-returns-2
-returns-2 c = made-as (convert-read _ _ (took-bytes _ _ _ _ (c .before .before .before .before .before .before .before .read2 .given .1) (c .before .before .before .before .before .before .before .before .before .before .read-source .ensures) .1)) (c .before .before .convert-book .ensures)
+returns-2 c = made-as (convert-read _ _ (took-bytes _ _ (c .before .before .before .before .before .before .before .read2 .given .1) (c .before .before .before .before .before .before .before .before .before .before .read-source .ensures) .1)) (c .before .before .convert-book .ensures)
 
 pub write-converted-spec : {M : Type 1} → statement M
 write-converted-spec =

@@ -35,7 +35,7 @@ same-length : tie.Need-same-length
 same-length c = search needs
 
 returns : tie.Need-returns
-returns c = put-page 142 _ _ _ _ _ (put-as (new-line _ _ (c .before .before .before .before .piece-count .ensures)) (chain (c .before .before .before .before .before .before .before .before .before .before .before .before .before .before .before .before .before .put .ensures) (chain (c .before .before .before .before .before .before .before .before .before .before .before .before .before .put-number .ensures) (chain (c .before .before .before .before .before .before .before .before .put2 .ensures) (c .before .before .before .put-number2 .ensures)))), new-width _ _ (c .before .before .before .before .piece-count .ensures) (omega arith) (omega (arith, c .before .before .before .before .piece-count .ok))) (c .finish .ensures)
+returns c = put-page {most = 142} (put-as (new-line _ _ (c .before .before .before .before .piece-count .ensures)) (chain (c .before .before .before .before .before .before .before .before .before .before .before .before .before .before .before .before .before .put .ensures) (chain (c .before .before .before .before .before .before .before .before .before .before .before .before .before .put-number .ensures) (chain (c .before .before .before .before .before .before .before .before .put2 .ensures) (c .before .before .before .put-number2 .ensures)))), new-width _ _ (c .before .before .before .before .piece-count .ensures) (omega arith) (omega (arith, c .before .before .before .before .piece-count .ok))) (c .finish .ensures)
 
 pub write-line-spec : {M : Type 1} → statement M
 write-line-spec =

@@ -19,19 +19,19 @@ enum-known-read-2 : tie.Need-enum-known-read-2
 enum-known-read-2 c = search needs
 
 settle-requires : tie.Need-settle-requires
-settle-requires c κs = took-bytes _ _ _ _ (c .before .before .before .before .read2 .given .1) (c .before .before .before .before .before .before .read-source .ensures) .0
+settle-requires c κs = took-bytes _ _ (c .before .before .before .before .read2 .given .1) (c .before .before .before .before .before .before .read-source .ensures) .0
 
 same-length : tie.Need-same-length
 same-length c = search needs
 
 returns : tie.Need-returns
-returns c = made-none _ _ _ _ _ (made-as (pack-unread _ _ _ (took-unread _ _ _ _ _ (c .before .before .before .before .before .read .given .1) (c .before .before .before .before .before .before .before .read-source .ensures))) (c .before .before .tell .ensures))
+returns c = made-none _ _ _ _ _ (made-as (pack-unread _ _ _ (took-unread _ _ (c .before .before .before .before .before .read .given .1) (c .before .before .before .before .before .before .before .read-source .ensures))) (c .before .before .tell .ensures))
 
 same-length-2 : tie.Need-same-length-2
 same-length-2 c = search needs
 
 returns-2 : tie.Need-returns-2
-returns-2 c = made-as (packed _ _ (took-bytes _ _ _ _ (c .before .before .before .before .before .before .before .read2 .given .1) (c .before .before .before .before .before .before .before .before .before .read-source .ensures) .1)) (c .before .before .settle .ensures)
+returns-2 c = made-as (packed _ _ (took-bytes _ _ (c .before .before .before .before .before .before .before .read2 .given .1) (c .before .before .before .before .before .before .before .before .before .read-source .ensures) .1)) (c .before .before .settle .ensures)
 
 pub write-packed-spec : {M : Type 1} → statement M
 write-packed-spec =

@@ -14,7 +14,7 @@ same-length : tie.Need-same-length
 same-length c = search needs
 
 returns : tie.Need-returns
-returns c = put-page _ _ _ _ _ _ (c .before .before .before .put-unread .ensures) (c .finish .ensures)
+returns c = put-page (c .before .before .before .put-unread .ensures) (c .finish .ensures)
 
 pub write-unread-spec : {M : Type 1} → statement M
 write-unread-spec = tie.close (tie.spec put-unread-requires finish-requires same-length returns)

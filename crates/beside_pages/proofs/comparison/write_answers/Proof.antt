@@ -5,8 +5,7 @@ use lib.ListN.{length-replicate}
 use lib.Dec.{lit≤}
 use mathlib.Core.Path.{sym, _∙_}
 use lib.Seq.{length-take-le}
-use Rattle.sentences.proofs.Tellings.{took-bytes, took-unread, page-read, page-unread, put-page}
-use Rattle.beside_pages.proofs.ComparisonTexts.{claims-fit}
+use Rattle.sentences.proofs.Tellings.{took-bytes, took-short, page-took, page-untook, put-page}
 use Rattle.beside_pages.proofs.comparison.write_answers.Statement.{statement}
 use Rattle.beside_pages.proofs.comparison.write_answers.Tie as tie
 
@@ -26,13 +25,13 @@ enum-known-read-2 : tie.Need-enum-known-read-2
 enum-known-read-2 c = c .match .keys2
 
 array-share-prefix-asked : tie.Need-array-share-prefix-asked
-array-share-prefix-asked c = took-bytes _ _ _ _ (c .before .read2 .given .1) (c .before .before .before .before .read-source .ensures) .0
+array-share-prefix-asked c = took-bytes _ _ (c .before .read2 .given .1) (c .before .before .before .before .read-source .ensures) .0
 
 slice-aggregate-put-comparison : tie.Need-slice-aggregate-put-comparison
-slice-aggregate-put-comparison c = sym (length-take-le _ _ (took-bytes _ _ _ _ (c .before .before .read2 .given .1) (c .before .before .before .before .before .read-source .ensures) .0))
+slice-aggregate-put-comparison c = sym (length-take-le _ _ (array-share-prefix-asked (c .before)))
 
 put-comparison-requires : tie.Need-put-comparison-requires
-put-comparison-requires c κs = claims-fit _ _ (took-bytes _ _ _ _ (c .before .before .before .read2 .given .1) (c .before .before .before .before .before .before .read-source .ensures) .0) (c .before .before .before .before .before .before .read-source .kept .1 .1 .0 ∙ length-replicate {A = ℕ} 24582 0)
+put-comparison-requires c κs = took-short _ _ (array-share-prefix-asked (c .before .before)) (c .before .before .before .before .before .before .read-source .kept .1 .1 .0 ∙ length-replicate {A = ℕ} 24582 0)
 
 finish-requires : tie.Need-finish-requires
 finish-requires c κs = tt
@@ -41,13 +40,13 @@ same-length : tie.Need-same-length
 same-length c = c .before .before .write-unread .kept .0
 
 returns : tie.Need-returns
-returns c = page-unread _ _ _ (c .before .before .write-unread .result) _ _ _ _ (lit≤ tt) (took-unread _ _ _ _ _ (c .before .before .before .before .before .read .given .1) (c .before .before .before .before .before .before .before .before .read-source .ensures)) (c .before .before .write-unread .ensures)
+returns c = page-untook _ _ _ (c .before .before .write-unread .result) _ _ _ _ _ (lit≤ tt) (c .before .before .before .before .before .read .given .1) (c .before .before .before .before .before .before .before .before .read-source .ensures) (c .before .before .write-unread .ensures)
 
 same-length-2 : tie.Need-same-length-2
 same-length-2 c = c .before .before .before .put-comparison .kept .1 .1 .1 .1 .1 .1 .0
 
 returns-2 : tie.Need-returns-2
-returns-2 c = page-read _ _ _ (c .finish .result) _ _ _ _ (took-bytes _ _ _ _ (c .before .before .before .before .before .before .before .read2 .given .1) (c .before .before .before .before .before .before .before .before .before .before .read-source .ensures) .1) (put-page _ _ _ _ _ _ (c .before .before .before .put-comparison .ensures) (c .finish .ensures))
+returns-2 c = page-took _ _ _ (c .finish .result) _ _ _ _ _ (c .before .before .before .before .before .before .before .read2 .given .1) (c .before .before .before .before .before .before .before .before .before .before .read-source .ensures) (put-page (c .before .before .before .put-comparison .ensures) (c .finish .ensures))
 
 pub write-answers-spec : {M : Type 1} → statement M
 write-answers-spec =

@@ -5,7 +5,7 @@ use lib.ListN.{length-replicate}
 use lib.Dec.{lit≤}
 use mathlib.Core.Path.{sym}
 use lib.Seq.{length-take-le}
-use Rattle.sentences.proofs.Tellings.{took-bytes, took-unread, page-read, page-unread}
+use Rattle.sentences.proofs.Tellings.{took-bytes, page-took, page-untook}
 use Rattle.beside_pages.specs.ComparisonText.{comparisonText}
 use Rattle.beside_pages.proofs.comparison.write_comparison.Statement.{statement}
 use Rattle.beside_pages.proofs.comparison.write_comparison.Tie as tie
@@ -26,10 +26,10 @@ enum-known-read-2 : tie.Need-enum-known-read-2
 enum-known-read-2 c = c .match .keys2
 
 array-share-prefix-first : tie.Need-array-share-prefix-first
-array-share-prefix-first c = took-bytes _ _ _ _ (c .before .read2 .given .1) (c .before .before .before .before .read-source .ensures) .0
+array-share-prefix-first c = took-bytes _ _ (c .before .read2 .given .1) (c .before .before .before .before .read-source .ensures) .0
 
 slice-aggregate-write-second : tie.Need-slice-aggregate-write-second
-slice-aggregate-write-second c = sym (length-take-le _ _ (took-bytes _ _ _ _ (c .before .before .read2 .given .1) (c .before .before .before .before .before .read-source .ensures) .0))
+slice-aggregate-write-second c = sym (length-take-le _ _ (array-share-prefix-first (c .before)))
 
 write-second-requires : tie.Need-write-second-requires
 write-second-requires c κs = tt
@@ -39,14 +39,14 @@ same-length c = c .before .before .write-unread .kept .0
 
 returns : tie.Need-returns
 unfolding comparisonText
-returns c = page-unread _ _ _ (c .before .before .write-unread .result) _ _ _ _ (lit≤ tt) (took-unread _ _ _ _ _ (c .before .before .before .before .before .read .given .1) (c .before .before .before .before .before .before .before .before .read-source .ensures)) (c .before .before .write-unread .ensures)
+returns c = page-untook _ _ _ (c .before .before .write-unread .result) _ _ _ _ _ (lit≤ tt) (c .before .before .before .before .before .read .given .1) (c .before .before .before .before .before .before .before .before .read-source .ensures) (c .before .before .write-unread .ensures)
 
 same-length-2 : tie.Need-same-length-2
 same-length-2 c = c .before .before .write-second .kept .1 .1 .1 .1 .0
 
 returns-2 : tie.Need-returns-2
 unfolding comparisonText
-returns-2 c = page-read _ _ _ (c .before .before .write-second .result) _ _ _ _ (took-bytes _ _ _ _ (c .before .before .before .before .before .before .read2 .given .1) (c .before .before .before .before .before .before .before .before .before .read-source .ensures) .1) (c .before .before .write-second .ensures)
+returns-2 c = page-took _ _ _ (c .before .before .write-second .result) _ _ _ _ _ (c .before .before .before .before .before .before .read2 .given .1) (c .before .before .before .before .before .before .before .before .before .read-source .ensures) (c .before .before .write-second .ensures)
 
 pub write-comparison-spec : {M : Type 1} → statement M
 write-comparison-spec =

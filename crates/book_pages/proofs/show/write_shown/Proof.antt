@@ -34,7 +34,7 @@ same-length : tie.Need-same-length
 same-length c = search needs
 
 returns : tie.Need-returns
-returns c = page-as _ _ _ (c .finish2 .result) _ _ (empty _ _ _ (c .before .before .before .before .before .before .before .before .before .check-book .ensures) _ (c .before .before .before .before .before .before .before .enum-told .given .1) (c .before .before .before .before .before .before .if1 .taken)) (put-page 229404 _ _ _ _ _ (c .before .before .before .put .ensures, omega arith) (c .finish2 .ensures))
+returns c = page-as _ _ _ (c .finish2 .result) _ _ (empty _ _ _ (c .before .before .before .before .before .before .before .before .before .check-book .ensures) _ (c .before .before .before .before .before .before .before .enum-told .given .1) (c .before .before .before .before .before .before .if1 .taken)) (put-page {most = 229404} (c .before .before .before .put .ensures, omega arith) (c .finish2 .ensures))
 
 show-book-requires : tie.Need-show-book-requires
 show-book-requires c κs = search needs
@@ -43,7 +43,7 @@ same-length-2 : tie.Need-same-length-2
 same-length-2 c = search needs
 
 returns-2 : tie.Need-returns-2
-returns-2 c = page-as _ _ _ (c .finish .result) _ _ (refused _ _ _ (c .before .before .before .before .before .before .before .before .check-book .ensures) _ _ (c .before .before .before .before .before .before .checked .given .1)) (put-page 229404 _ _ _ _ _ (c .before .before .before .put-refused-book .ensures .0, omega (arith, c .before .before .before .put-refused-book .ensures .1)) (c .finish .ensures))
+returns-2 c = page-as _ _ _ (c .finish .result) _ _ (refused _ _ _ (c .before .before .before .before .before .before .before .before .check-book .ensures) _ _ (c .before .before .before .before .before .before .checked .given .1)) (put-page {most = 229404} (c .before .before .before .put-refused-book .ensures .0, omega (arith, c .before .before .before .put-refused-book .ensures .1)) (c .finish .ensures))
 
 same-length-3 : tie.Need-same-length-3
 same-length-3 c = search needs

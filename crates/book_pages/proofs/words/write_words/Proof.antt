@@ -34,7 +34,7 @@ returns c = page-wrong _ _ _ (c .before .before .write-unread .result) _ _ _ (c 
 
 returns-2 : tie.Need-returns-2
 unfolding wordsText
-returns-2 c = page-entry _ _ _ (c .finish .result) _ _ _ (c .before .before .before .read-words .ensures) (c .before .enum-told .given .1) (put-page _ _ _ _ _ _ put-none (c .finish .ensures))
+returns-2 c = page-entry _ _ _ (c .finish .result) _ _ _ (c .before .before .before .read-words .ensures) (c .before .enum-told .given .1) (put-page put-none (c .finish .ensures))
 
 pub write-words-spec : {M : Type 1} → statement M
 write-words-spec =

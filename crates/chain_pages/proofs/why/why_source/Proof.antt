@@ -26,7 +26,7 @@ six-bytes-requires : tie.Need-six-bytes-requires
 six-bytes-requires c κs = search needs
 
 array-share-prefix-book : tie.Need-array-share-prefix-book
-array-share-prefix-book c = took-bytes _ _ _ _ (c .before .before .before .read2 .given .1) (c .before .before .before .before .before .before .read-source .ensures) .0
+array-share-prefix-book c = took-bytes _ _ (c .before .before .before .read2 .given .1) (c .before .before .before .before .before .before .read-source .ensures) .0
 
 slice-aggregate-why-book : tie.Need-slice-aggregate-why-book
 slice-aggregate-why-book c = sym (length-take-le _ _ (array-share-prefix-book (c .before)))
@@ -41,13 +41,13 @@ same-length : tie.Need-same-length
 same-length c = search needs
 
 returns : tie.Need-returns
-returns c = source-unread _ _ _ _ _ (took-unread _ _ _ _ _ (c .before .before .before .before .before .read .given .1) (c .before .before .before .before .before .before .before .before .read-source .ensures)) (c .before .before .write-unread .ensures)
+returns c = source-unread _ _ _ _ _ (took-unread _ _ (c .before .before .before .before .before .read .given .1) (c .before .before .before .before .before .before .before .before .read-source .ensures)) (c .before .before .write-unread .ensures)
 
 same-length-2 : tie.Need-same-length-2
 same-length-2 c = search needs
 
 returns-2 : tie.Need-returns-2
-returns-2 c = source-read _ _ _ _ _ (c .before .before .before .before .before .before .six-bytes .ensures) (took-bytes _ _ _ _ (c .before .before .before .before .before .before .before .before .read2 .given .1) (c .before .before .before .before .before .before .before .before .before .before .before .read-source .ensures) .1) (c .before .before .why-book .ensures)
+returns-2 c = source-read _ _ _ _ _ (c .before .before .before .before .before .before .six-bytes .ensures) (took-bytes _ _ (c .before .before .before .before .before .before .before .before .read2 .given .1) (c .before .before .before .before .before .before .before .before .before .before .before .read-source .ensures) .1) (c .before .before .why-book .ensures)
 
 pub why-source-spec : {M : Type 1} → statement M
 why-source-spec =
