@@ -17,7 +17,7 @@ fn first_row(area: &[u16], count: usize, row: TreeId) -> usize
     let mut high = count;
     while low < high {
         let middle = low + (high - low) / 2;
-        if shorts::wide(area[2 * middle]) < row.0 {
+        if shorts::wide(area[crate::PAIR * middle]) < row.0 {
             low = middle + 1;
         } else {
             high = middle;
@@ -63,11 +63,11 @@ fn in_rows(
 {
     let mut i = first_row(area, count, row_from);
     while i < count {
-        let row = TreeId(shorts::wide(area[2 * i]));
+        let row = TreeId(shorts::wide(area[crate::PAIR * i]));
         if row_to.0 < row.0 {
             return false;
         }
-        let column = TreeId(shorts::wide(area[2 * i + 1]));
+        let column = TreeId(shorts::wide(area[crate::PAIR * i + 1]));
         if lies_inside(row_from, row_to, column_from, column_to, row, column) {
             return true;
         }
@@ -88,7 +88,7 @@ pub fn fact_between(
 ) -> bool
     ensures { λ t. ⌜ Answers (now (area .entry)) count unordered («row_from» .0) («row_to» .0) («column_from» .0) («column_to» .0) t ⌝ }
 {
-    if area.len() / 2 < count {
+    if area.len() / crate::PAIR < count {
         return false;
     }
     if in_rows(area, count, row_from, row_to, column_from, column_to) {

@@ -12,13 +12,16 @@ use chain_format::Step;
 use records::Record;
 use verdicts::Answer;
 
+// What a step can rest on: a record, or one of the rules.
+const GROUNDS: usize = 12;
+
 // How many numbers a step's line has behind its words.
 pub fn count(rule: u8) -> u8
     ensures { λ r. ⌜ r ≡ on.count rule ⌝ }
 {
     let counts = [1u8, 2, 2, 0, 0, 2, 2, 2, 2, 0, 1, 1];
     let i = rule as usize;
-    if i < 12 {
+    if i < GROUNDS {
         return counts[i];
     }
     0

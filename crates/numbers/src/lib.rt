@@ -10,6 +10,9 @@ pub mod shorts;
 // How many values a byte has.
 pub const BYTE_VALUES: usize = 256;
 
+// The same, for words of 64 bits.
+pub const BYTE: u64 = 256;
+
 // A byte as a number that sums are made of.
 pub fn wide(x: u8) -> usize
     ensures { λ r. ⌜ (r ≡ x) × (r < BYTE-VALUES) ⌝ }

@@ -9,6 +9,7 @@ ghost use Rattle.parentheses.specs.Rank.{rank};
 ghost use Rattle.parentheses.specs.Tables.{lowestOf};
 ghost use Rattle.parentheses.specs.Words.{wordAt, folded, onesIn};
 ghost use Rattle.numbers.specs.Sizes.{BYTE-VALUES};
+use numbers::BYTE;
 
 // How many bytes a word has.
 const WORD_BYTES: usize = 8;
@@ -24,10 +25,10 @@ fn word_at(bytes: &[u8], i: usize) -> u64
     requires { ⌜ (i + 8 ≤ length (now bytes)) × (i + 8 < 2 ^ 64) ⌝ }
     ensures { λ r. ⌜ r ≡ wordAt (now (bytes .entry)) i ⌝ }
 {
-    let high = ((wide(bytes[i + 7]) * 256 + wide(bytes[i + 6])) * 256 + wide(bytes[i + 5])) * 256
+    let high = ((wide(bytes[i + 7]) * BYTE + wide(bytes[i + 6])) * BYTE + wide(bytes[i + 5])) * BYTE
         + wide(bytes[i + 4]);
-    (((high * 256 + wide(bytes[i + 3])) * 256 + wide(bytes[i + 2])) * 256 + wide(bytes[i + 1]))
-        * 256
+    (((high * BYTE + wide(bytes[i + 3])) * BYTE + wide(bytes[i + 2])) * BYTE + wide(bytes[i + 1]))
+        * BYTE
         + wide(bytes[i])
 }
 

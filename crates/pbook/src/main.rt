@@ -17,8 +17,11 @@ fn help() {
     files::write_page(text, text.len());
 }
 
+// The longest word that names a command is shorter.
+const WORD_ROOM: usize = 16;
+
 fn named() -> Command {
-    let mut word = [0u8; 16];
+    let mut word = [0u8; WORD_ROOM];
     let n = os::arg(1, &mut word);
     commands::command_of(&word[..n], os::arg_count())
 }

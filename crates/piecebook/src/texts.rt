@@ -7,6 +7,11 @@ use pages::Written;
 use text::Form;
 use text::reading::Read;
 
+// The numbers behind those of the reasons: a page that is too short, a form that is none.
+const SHORT_PAGE: usize = 6;
+
+const NO_FORM: usize = 7;
+
 // What a reading comes to, as include/piecebook.h has it.
 #[repr(C)]
 pub struct PiecebookReading {
@@ -30,7 +35,7 @@ pub fn reading_of(read: Read) -> PiecebookReading
             length: 0,
         },
         Read::Short => PiecebookReading {
-            number: 6,
+            number: SHORT_PAGE,
             line: 0,
             length: 0,
         },
@@ -53,7 +58,7 @@ pub extern "C" fn piecebook_read_text(form: usize, text: &[u8], out: &mut [u8]) 
         1 => read_as(Form::Claims, text, out),
         2 => read_as(Form::Log, text, out),
         _ => PiecebookReading {
-            number: 7,
+            number: NO_FORM,
             line: 0,
             length: 0,
         },

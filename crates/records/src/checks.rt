@@ -18,9 +18,7 @@ use crate::Edition;
 use crate::Finding;
 use crate::Record;
 use crate::Refusal;
-
-// How many values a byte has.
-const BYTE: u64 = 256;
+use numbers::BYTE;
 
 // Two primes below the length of the filter, so that two keys rarely fall together in both.
 const FIRST_PRIME: u64 = 257731;

@@ -16,8 +16,19 @@ use records::Refusal;
 
 pub mod sources;
 
-// The reason that a text is too long.
+// The reasons by their numbers: what stands where a kind, a number or one of two words should, a text that is too long, words that are.
+const NOT_KIND: usize = 1;
+
+const NOT_NUMBER: usize = 2;
+
+const NOT_CHOICE: usize = 3;
+
 pub const TOO_LONG: usize = 6;
+
+const WORDS_TOO_LONG: usize = 7;
+
+// The sentence of NOT_CHOICE for claims, which choose among facts.
+const NOT_FACTS: usize = 8;
 
 // Of whom a line of what cannot be read speaks, and the line of a refusal in a second book.
 pub const BOOK: usize = 0;
@@ -157,14 +168,14 @@ pub fn put_prefix(page: &mut [u8], at: usize, source: usize) -> usize
 fn wording(source: usize, reason: usize) -> usize
     ensures { λ r. ⌜ r ≡ unread.wording source reason ⌝ }
 {
-    if reason != 3 {
+    if reason != NOT_CHOICE {
         return reason;
     }
     if source == CLAIMS {
-        return 8;
+        return NOT_FACTS;
     }
     if source == CLAIM_WORDS {
-        return 8;
+        return NOT_FACTS;
     }
     reason
 }

@@ -46,9 +46,9 @@ fn absent(form: Form) -> usize
     ensures { λ r. ⌜ r ≡ args.absent form ⌝ }
 {
     match form {
-        Form::Records => 1,
-        Form::Claims => 1,
-        Form::Log => 2,
+        Form::Records => crate::NOT_KIND,
+        Form::Claims => crate::NOT_KIND,
+        Form::Log => crate::NOT_NUMBER,
     }
 }
 
@@ -57,7 +57,7 @@ pub fn read_words(form: Form, words: &[u8]) -> Words
     ensures { λ r. ⌜ r ≡ wordsOf form (now (words .entry)) ⌝ }
 {
     if WORDS_BYTES < words.len() {
-        return Words::Wrong(7);
+        return Words::Wrong(crate::WORDS_TOO_LONG);
     }
     let line = text::lines::read_line(form, words);
     match line {

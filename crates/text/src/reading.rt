@@ -21,6 +21,12 @@ const TEXT_BYTES: usize = 524288;
 // The bytes of the mark that may begin a text.
 const MARK_BYTES: usize = 3;
 
+const FIRST_MARK: u8 = 239;
+
+const SECOND_MARK: u8 = 187;
+
+const THIRD_MARK: u8 = 191;
+
 // How many bytes are written after a line, or why it cannot be read.
 pub enum Step {
     Go(usize),
@@ -52,13 +58,13 @@ fn mark_length(text: &[u8]) -> usize
     if text.len() < MARK_BYTES {
         return 0;
     }
-    if text[0] != 239 {
+    if text[0] != FIRST_MARK {
         return 0;
     }
-    if text[1] != 187 {
+    if text[1] != SECOND_MARK {
         return 0;
     }
-    if text[2] != 191 {
+    if text[2] != THIRD_MARK {
         return 0;
     }
     MARK_BYTES
