@@ -1,4 +1,6 @@
 // The two calls of the piece book: rows 1 to 14 from top to bottom, the index, the answers.
+#![tactic(auto)]
+
 ghost use Rattle.std.specs.Prelude.{◌≡◌, [], length, ltb, ◌||◌};
 ghost use Rattle.outcomes.specs.Lent.{lent};
 ghost use Rattle.outcomes.specs.Call.{Determined};

@@ -1,4 +1,5 @@
 // The pages of the calls about a book: its answers, its lists, its grids, its text; and words that cannot be read.
+#![tactic(auto)]
 
 pub mod grid;
 pub mod listing;

@@ -1,5 +1,7 @@
 // The catalog of a piece: all pieces that certainly are PART of it, or MEET it, or are APART from it; and beside the index the stored facts, sorted
 // by places.
+#![tactic(auto)]
+
 ghost use Rattle.std.specs.Prelude.{◌≡◌, ◌||◌, ◌<◌, ltb, length};
 ghost use Rattle.records.specs.Check.{book_check};
 ghost use Rattle.catalog.specs.Lent.{lent};

@@ -1,5 +1,7 @@
 // The check of a chain: whether steps, whoever wrote them, are one behind the answer to a claim about a book. What it is for a chain to pass is in
 // specs/, what that means in proofs/.
+#![tactic(auto)]
+
 ghost use Rattle.std.specs.Prelude.{◌≡◌, length};
 ghost use Rattle.records.specs.Check.{book_check};
 ghost use Rattle.records.specs.declared.BookCheck.TheVariants as is;

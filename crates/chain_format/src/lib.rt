@@ -1,4 +1,6 @@
 // A chain's steps as bytes, and whether each follows from the records and the steps before it.
+#![tactic(auto)]
+
 pub use chain_steps::check_steps;
 pub use steps::{Step, cites, lets, put_step, shows, step_at};
 

@@ -1,4 +1,6 @@
 // The chain behind an answer, written: the call for one claim.
+#![tactic(auto)]
+
 ghost use Rattle.std.specs.Prelude.{◌≡◌, ◌<◌, ◌≤◌, length, true, false};
 ghost use Rattle.records.specs.Pieces.{stated};
 ghost use Rattle.rules.specs.Fact.{Within};

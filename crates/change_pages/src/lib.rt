@@ -1,4 +1,6 @@
 // The pages of the commands that write a file, and the new book that they write.
+#![tactic(auto)]
+
 ghost use Rattle.std.specs.Prelude.{◌≡◌, [], ◌++◌, ◌≤◌, length, take};
 ghost use Rattle.outcomes.specs.Fresh.{fresh_call, uncounted};
 ghost use Rattle.convert.specs.Conversion.{conversion, Determined};

@@ -1,4 +1,6 @@
 // The answers to a list of claims about a book that is not contradictory.
+#![tactic(auto)]
+
 ghost use Rattle.std.specs.Prelude.{◌≡◌, length};
 ghost use Rattle.records.specs.Facts.{facts};
 ghost use Rattle.records.specs.Kept.{sheets};

@@ -1,4 +1,6 @@
 // The chain behind a contradiction: from the facts of the records before the place of 14, and all marks, to the opposite of what the record there states.
+#![tactic(auto)]
+
 ghost use Rattle.std.specs.Prelude.{◌≡◌, ◌+◌, ◌*◌, ◌<◌, ◌≤◌, length, get_or, take};
 ghost use Rattle.records.specs.Record.{record_at};
 ghost use Rattle.records.specs.Check.{book_check};

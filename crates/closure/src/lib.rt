@@ -1,4 +1,6 @@
 // The closure of a run: the stored facts joined along containment, as bit matrices from which every claim is answered.
+#![tactic(auto)]
+
 ghost use Rattle.std.specs.Prelude.{true, List, ◌≤◌};
 ghost use Rattle.rules.specs.Fact.{Fact};
 ghost use Rattle.rules.specs.Follows.{storing};

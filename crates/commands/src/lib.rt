@@ -1,5 +1,7 @@
 // Which command the arguments name: by the first word, and by how many arguments there are, the program's own name among them.
 // Commands that read and write alike are one family: the program has a function for each family.
+#![tactic(auto)]
+
 ghost use Rattle.std.specs.Prelude.{◌≡◌, ◌++◌};
 ghost use Rattle.text.specs.Tests.{if_true};
 ghost use Rattle.commands.specs.Named.{same, named, of_book, of_words, of_files, command_of};

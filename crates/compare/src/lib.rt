@@ -1,4 +1,6 @@
 // Two books of one core under the same numbers: both answers to each claim, and whether their records can be laid in ice together.
+#![tactic(auto)]
+
 ghost use Rattle.std.specs.Prelude.{◌≡◌, not, [], ◌++◌, ◌*◌, ◌≤◌, length};
 ghost use Rattle.rules.specs.Follows.{clash};
 ghost use Rattle.records.specs.Record.{records};

@@ -1,4 +1,6 @@
 // Whether a book is contradictory, and the place of refusal 14.
+#![tactic(auto)]
+
 pub use first_matrices::contradicts;
 pub use row_14::{Row14, Settled, settle, settle_alone, settle_book, settle_counted, settle_run};
 

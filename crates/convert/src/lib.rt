@@ -1,4 +1,6 @@
 // The converter: a book of the former edition written without its TRAY records.
+#![tactic(auto)]
+
 ghost use Rattle.std.specs.Prelude.{◌≡◌, ◌<◌, ◌≤◌, length};
 ghost use Rattle.lists.specs.Front.{front};
 ghost use Rattle.convert.specs.Converted.{no_trays, converted};

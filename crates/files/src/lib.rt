@@ -1,4 +1,6 @@
 // Files by name, read whole and written whole. What fails is told on standard error in the system's words, with the name.
+#![tactic(auto)]
+
 ghost use Rattle.io.specs.Counts.{IsPrefixLen};
 
 use libc::{STDERR_FILENO, STDIN_FILENO, STDOUT_FILENO};

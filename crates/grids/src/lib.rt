@@ -1,4 +1,6 @@
 // The grids of a book of at most 64 pieces, one for each kind of claim: its facts as bits, closed under the rules by rounds.
+#![tactic(auto)]
+
 ghost use Rattle.std.specs.Prelude.{◌≡◌, not, ◌&&◌, [], ℕ, ◌<◌, ◌≤◌, eqb, ltb};
 ghost use Rattle.matrices.specs.Matrix.{bit};
 ghost use Rattle.rules.specs.Fact.{fact_of};

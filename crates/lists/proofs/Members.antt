@@ -10,6 +10,6 @@ at-member [] d s h = absurd (omega arith)
 at-member (x ∷ xs) d zero h = Memᴰ.head refl
 at-member (x ∷ xs) d (suc s) h = Memᴰ.tail (at-member xs d s (omega arith))
 
-pub member-at : {A : Type 0} {l : List A} (d : A) {x : A} → Memᴰ x l → (s : ℕ) × (s < length l) × (get_or l s d ≡ x)
+pub member-at : {A : Type 0} {x : A} {l : List A} (d : A) → Memᴰ x l → (s : ℕ) × (s < length l) × (get_or l s d ≡ x)
 member-at d (Memᴰ.head {xs = xs} q) = (0, omega arith, sym q)
 member-at d (Memᴰ.tail m) = let r = member-at d m in (suc r.0, omega arith, r.2)

@@ -1,1 +1,2 @@
 // Lists, tests and searches: definitions in specs/, laws in proofs/. There is no code here.
+#![tactic(auto)]

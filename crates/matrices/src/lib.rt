@@ -1,4 +1,6 @@
 // Square matrices of bits: rows and bits, products, and rows joined along edges.
+#![tactic(auto)]
+
 pub use joins::{join_against, join_along, pool_rows, product, share_rows};
 pub use relation::{
     clear, clear_rows, has, insert, meet, next_bit, put, test, union_row, union_within,

@@ -1,4 +1,6 @@
 // Bytes and the numbers made of them: small steps that many crates take. Sixteen bits are in `shorts`.
+#![tactic(auto)]
+
 ghost use Rattle.std.specs.Prelude.{◌≡◌, min, max, ◌+◌, ◌*◌, ◌%◌, ◌≤◌, ◌<◌, length, get_or, replicate};
 ghost use Rattle.lists.specs.Front.{placed};
 ghost use Rattle.numbers.specs.Sizes.{BYTE-VALUES, SHORT-VALUES};

@@ -1,4 +1,6 @@
 // Texts put on a page of bytes that the caller lends, one behind the other. Where one does not fit, the end lies behind the page from there on.
+#![tactic(auto)]
+
 ghost use Rattle.std.specs.Prelude.{[], ◌∷◌, ◌≡◌};
 ghost use Rattle.pages.specs.Text.{field};
 ghost use Rattle.pages.specs.Decimal.{decimal};

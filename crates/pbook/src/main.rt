@@ -1,4 +1,5 @@
 // The laboratory's program: a command, a book, and words in the arguments; a page out. The texts and pages stand here, and each family of commands is lent what it uses.
+#![tactic(auto)]
 
 mod arguments;
 mod buffers;

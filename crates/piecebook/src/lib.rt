@@ -1,4 +1,6 @@
 // The calls of include/piecebook.h: those of `answers`, `grids`, `working`, `convert`, `catalog`, `replicates`, `compare`, `chain_check`, `chain_writing`, `clash` and `text`, with document 01's numbers for an outcome.
+#![tactic(auto)]
+
 ghost use Rattle.std.specs.Prelude.{◌≡◌, []};
 ghost use Rattle.outcomes.specs.Lent.{lent};
 ghost use Rattle.outcomes.specs.Demands.{Demand2, Demand3, Contradicted};

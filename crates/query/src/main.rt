@@ -1,4 +1,6 @@
 // The question program: reads a book from the file book.rec and claims from standard input, and writes the page that `report` lays out. Where the page cannot be written whole, that is told on standard error in the system's words.
+#![tactic(auto)]
+
 ghost use Rattle.std.specs.Prelude.{◌≡◌, length};
 ghost use Rattle.io.specs.Counts.{IsPrefixLen};
 

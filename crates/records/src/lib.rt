@@ -1,4 +1,6 @@
 // The six-byte format: records read from bytes, what rows 3 to 13 can say of them, and the run of the cutting sheets.
+#![tactic(auto)]
+
 ghost use Rattle.std.specs.Prelude.{◌≡◌, ◌+◌, ◌*◌, ◌≤◌, ◌<◌, length};
 ghost use Rattle.lists.specs.Front.{front, placed};
 ghost use Rattle.records.specs.Record.{record_at};

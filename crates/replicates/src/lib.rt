@@ -1,4 +1,6 @@
 // Replicates in the measurement log: for each entry how many of the up to 31 before it are certainly APART from it, and whether every two of these are.
+#![tactic(auto)]
+
 ghost use Rattle.std.specs.Prelude.{◌≡◌, length, ◌+◌, ◌*◌, ◌-◌, ◌<◌, ◌≤◌};
 ghost use Rattle.lists.specs.Front.{front};
 ghost use Rattle.lists.specs.Tally.{num};

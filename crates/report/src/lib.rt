@@ -1,4 +1,6 @@
 // Document 01's session, written on a page of bytes that the caller lends.
+#![tactic(auto)]
+
 ghost use Rattle.std.specs.Prelude.{◌≤◌, ◌≡◌, length, get_or, replicate};
 ghost use Rattle.records.specs.Record.{records};
 ghost use Rattle.pages.specs.Put.{Put};

@@ -1,4 +1,6 @@
 // Words and sentences on a page, by their numbers: each is a line of a table.
+#![tactic(auto)]
+
 ghost use Rattle.std.specs.Prelude.{◌≡◌, [], ◌≤◌, length};
 ghost use Rattle.pages.specs.Text.{field};
 ghost use Rattle.pages.specs.Put.{Put};

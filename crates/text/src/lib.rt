@@ -1,4 +1,6 @@
 // Text read into records, claims or the numbers of a log, and a book shown as text.
+#![tactic(auto)]
+
 ghost use Rattle.std.specs.Prelude.{◌≡◌};
 ghost use Rattle.text.specs.Reason.{reason_number};
 ghost use Rattle.text.specs.Either.{is_text};

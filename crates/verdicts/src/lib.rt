@@ -1,4 +1,6 @@
 // What the closure and the marks say of records and claims: whether a run is contradictory, and the answer to a claim.
+#![tactic(auto)]
+
 ghost use Rattle.std.specs.Prelude.{◌≡◌, true, not, ◌&&◌, ◌||◌, List, ℕ, ◌<◌, ◌≤◌, length};
 ghost use Rattle.rules.specs.Fact.{fact_of, AllWithin};
 ghost use Rattle.records.specs.Facts.{facts};

@@ -1,5 +1,7 @@
 // A working book: records are added and withdrawn one at a time, and claims are answered, each as a fresh call on the
 // records then standing would have it. The records stand in an area of bytes that the caller lends beside the counts.
+#![tactic(auto)]
+
 ghost use Rattle.std.specs.Prelude.{◌≡◌, ◌≤◌, length};
 ghost use Rattle.outcomes.specs.Fresh.{fresh_call};
 ghost use Rattle.working.specs.Rows.{answer_of};

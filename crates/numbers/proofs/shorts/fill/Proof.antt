@@ -26,7 +26,7 @@ mul-list c = search rules
 slice-write-list : tie.Need-slice-write-list invariant-loop decreases-loop
 slice-write-list c = search rules
 
-add_done : tie.Need-overflow-add-done invariant-loop decreases-loop
+add_done : tie.Need-overflow_add-done invariant-loop decreases-loop
 add_done c = search rules
 
 loop-less : tie.Need-loop-smaller invariant-loop decreases-loop
