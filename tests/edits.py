@@ -29,8 +29,8 @@ from kit import CRATES, kit, listed, words  # noqa: E402
 RESTING = "was not admitted"
 # and where a changed program asks for other facts than its proof has: its shape is not kept, and nothing is said of its meaning
 MISFIT = re.compile(r"needs a function \(or path\) type to bind|has no `|has no field|is not in scope|can be named from here")
-# a check takes so many bytes of memory
-MEMORY = 2_500_000_000
+# KiB of memory that a check takes
+MEMORY = 2_500_000
 
 
 def functions(source):
@@ -241,7 +241,7 @@ def main():
         words(crate)
     # the longest first
     size = {crate: len(crates[crate]) * sum(path.stat().st_size for path in (CRATES / crate).glob("proofs/**/*.antt")) for crate in crates}
-    room = os.sysconf("SC_AVPHYS_PAGES") * os.sysconf("SC_PAGE_SIZE") // MEMORY
+    room = int(re.search(r"MemAvailable: *(\d+)", pathlib.Path("/proc/meminfo").read_text())[1]) // MEMORY
     passed = failed = 0
     with concurrent.futures.ThreadPoolExecutor(max(min(len(os.sched_getaffinity(0)), room), 1)) as pool:
         runs = [pool.submit(tried, crate, crates[crate]) for crate in sorted(crates, key=lambda crate: -size[crate])]
