@@ -5,7 +5,8 @@ A file crates/NAME/must-fail/*.edit holds wrong programs, one to a paragraph: a 
 rt applies the whole file and asks only that the crate is refused. Here the file is applied to a copy of the crate, and rattle checks the functions that its wrong
 programs change: of each one the proof must be refused at a fact of its own, and not because something below it is not proved. Where the change
 is outside a function, as in a table, a line `in: FUNCTION` names the function whose proof must be refused. Two wrong programs of
-one function stand in one edit only if they break different facts: a line `at: FACT` of each names its own, by the goal's name in the prover's word.
+one function stand in one edit only if they break different facts: a line `at: FACT` of each names its own, a goal of the changed function by its name in the
+prover's word; a goal that is proved clause by clause may be named without its clause.
 
     tests/edits.py [CRATE..]           over the libraries that rt ci left in crates/*/out/, or that rt check built there
     tests/edits.py --facts [CRATE..]   prints for each edit the functions and facts that are refused, and below them each wrong program with its functions and its fact
@@ -145,6 +146,11 @@ def checked(crate, edit, kept):
     return ran.returncode, ran.stdout
 
 
+def is_at(fact, facts):
+    """Whether a fact, or one clause of it, is among these."""
+    return any(other == fact or other.startswith(f"{fact}-clause-") for other in facts)
+
+
 def judged(crate, edit, status, log):
     """What each wrong program of an edit comes to: pairs of its title and a reason, which is empty where it is refused."""
     programs = [Program(crate, text) for text in edit.read_text().strip().split("\n\n")]
@@ -167,7 +173,7 @@ def judged(crate, edit, status, log):
             reason = "it changes no function, and names none"
         elif not any(target in refused for target in program.targets):
             reason = "no fact of " + " or ".join("::".join(target) for target in program.targets) + " is refused"
-        elif program.fact and not any(program.fact in refused.get(target, ()) for target in program.targets):
+        elif program.fact and not any(is_at(program.fact, refused.get(target, ())) for target in program.targets):
             reason = f"{program.fact} is not refused, but " + ", ".join(sorted(fact for target in program.targets for fact in refused.get(target, ())))
         results.append((program.title, reason))
     for target in {target for program in programs for target in program.targets}:
