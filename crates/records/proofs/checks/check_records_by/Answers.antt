@@ -1,41 +1,27 @@
 -- `checks::check_records_by` meets its contract: the outer loop keeps what is left of the scan, the keys of the records passed, that the bit of each
 -- is set, and their piece count; the inner loop keeps that no earlier key passed is the key at hand. Assumes nothing.
-use Rattle.records.specs.Pieces.{pieces_up_to, largest}
+use Rattle.records.specs.Pieces.{largest}
 use mathlib.Core.Path.{◌≡◌, refl, sym, ap, ap₂, ◌∙◌}
-use Prim.Native.Nat.{ℕ, max, ◌≤◌, ◌<◌, ◌-◌, ◌+◌, ◌*◌}
+use Prim.Native.Nat.{ℕ, max, ◌<◌, ◌-◌, ◌+◌, ◌*◌}
 use Rattle.records.specs.declared.Finding.TheVariants.{Fit}
 use Rattle.records.specs.Check.{form_finding}
 use Rattle.records.proofs.Rows.{formed}
 use borrow.Author.Count.{below_more, below_none}
-use lib.ListN.{length, get_or, set, length-set}
+use lib.ListN.{get_or, set, length-set}
 use Rattle.lists.proofs.Bounds.{closer, inside}
 use Rattle.records.proofs.Fits.{low, next, later, six-in, in-keys, under-keys, below, under, fits-eight, fits_more, fits-named}
 use Rattle.records.specs.Record.{record_at}
 use Rattle.records.specs.Key.{key_at}
-use Rattle.records.proofs.Books.{Left, at_first, accepts, refuses, goes_on, form-unfit, form-repeats, form-new, pieces_none, pieces_more}
+use Rattle.records.proofs.Books.{at_first, accepts, refuses, goes_on, form-unfit, form-repeats, form-new, pieces_none, pieces_more}
 use Rattle.records.proofs.Keys.{repeated, new, keyed-more}
-use Rattle.records.proofs.Filters.{AllMet, met-more, spared}
+use Rattle.records.proofs.Filters.{met-more, spared}
 use Rattle.records.proofs.checks.check_records_by.Goals as goal
-
-abbrev invariant-records : tie.invariant-records
-invariant-records edition book n mask keys₀ seen₀ pieces₀ i₀ keys seen pieces i =
-    (i ≤ n) × (length keys ≡ length keys₀) × (length seen ≡ length seen₀) × (pieces ≡ pieces_up_to book i) × ((p : ℕ) → p < i → get_or keys p 0 ≡ key_at book (6 * p))
-    × AllMet mask book seen i × Left edition book n i
-
-abbrev decreases-records : tie.decreases-records
-decreases-records edition book n mask keys₀ seen₀ pieces₀ i₀ keys seen pieces i = n - i
 
 pub records-init : goal.records-init
 records-init c = (low _, refl, refl, pieces_none _, below_none _, below_none _, at_first _ _ _)
 
 pub record_at-record-requires : goal.record_at-record-requires
 record_at-record-requires c = six-in _ _ _ c.if-n-i.false c.requires.1
-
-pub enum_known-form : goal.enum_known-form
-enum_known-form c = c.in-Unfit.keys1
-
-pub enum_told-1 : goal.enum_told-1
-enum_told-1 c = c.in_default.keys2
 
 pub key_at-key-requires : goal.key_at-key-requires
 key_at-key-requires c = six-in _ _ _ c.if-n-i.false c.requires.1
@@ -74,11 +60,10 @@ loop-j-preserved c = (next _ _ c.loop-j-test.true, below_more _ _ c.loop-j.invar
 
 pub overflow_add-largest_named : goal.overflow_add-largest_named
 overflow_add-largest_named c =
-    let keyed-at : tie.After-key-at invariant-loop decreases-loop invariant-records decreases-records = c in
     let fit : form_finding c.args.edition (record_at c.args.book.now c.records.i) ≡ Fit = sym (ap (form_finding _) c.record_at-record.ensures) ∙ sym c.check_form-form.ensures ∙ c.in_default.is in
     let named : c.largest_named.result
-    ≡ largest (record_at keyed-at.before.before.before.before.before.before.before.before.before.before.args.book.now keyed-at.before.before.before.before.before.before.records.i) = c.largest_named.ensures ∙ ap largest keyed-at.before.before.before.before.record-at.ensures in
-    fits-named _ _ named (formed _ _ (fit keyed-at)).named
+    ≡ largest (record_at c.args.book.now c.records.i) = c.largest_named.ensures ∙ ap largest c.record_at-record.ensures in
+    fits-named _ _ named (formed _ _ fit).named
 
 pub overflow_add-i : goal.overflow_add-i
 overflow_add-i c = fits_more _ (below _ _ c.if-n-i.false c.requires.0)
@@ -88,24 +73,21 @@ records-smaller c = closer _ _ c.if-n-i.false
 
 pub records-preserved : goal.records-preserved
 records-preserved c =
-    let keyed-at : tie.After-key-at invariant-loop decreases-loop invariant-records decreases-records = c in
     let fit : form_finding c.args.edition (record_at c.args.book.now c.records.i) ≡ Fit = sym (ap (form_finding _) c.record_at-record.ensures) ∙ sym c.check_form-form.ensures ∙ c.in_default.is in
     let keyed : (p : ℕ) → p < c.records.i + 1
     → get_or (set c.records.keys c.records.i c.key_at-key.result) p 0
     ≡ key_at c.args.book.now (6 * p) = keyed-more c.args.book.now c.records.keys c.records.i _ (in-keys _ _ _ _ c.if-n-i.false c.requires.2 c.records.invariant.1) c.key_at-key.ensures c.records.invariant.4 in
     let named : c.largest_named.result
-    ≡ largest (record_at keyed-at.before.before.before.before.before.before.before.before.before.before.args.book.now keyed-at.before.before.before.before.before.before.records.i) = c.largest_named.ensures ∙ ap largest keyed-at.before.before.before.before.record-at.ensures in
-    let k = keyed-at in
-    let o = k.before.before.before.before.before.before in
-    let h = k.before.before.before.before.before.if1.left in (
+    ≡ largest (record_at c.args.book.now c.records.i) = c.largest_named.ensures ∙ ap largest c.record_at-record.ensures in
+    let h = c.if-n-i.false in (
       next _ _ h,
-      length-set o.records.keys o.records.i k.key-at.result ∙ o.records.inv.1,
-      c.note.auto.seen ∙ o.records.inv.2,
-      c.larger_of-pieces.ensures ∙ ap₂ (λ (x y : ℕ). max x (y + 1)) o.records.inv.3 named ∙ sym (pieces_more _ _),
-      keyed k,
-      met-more _ o.before.before.before.before.args.book.now _ _ _ _ _ k.key-at.ensures c.note.ensures o.records.inv.5,
-      goes_on _ _ _ _ o.records.inv.6 h
-          (form-new _ _ _ (fit k) (new _ _ (λ j g e. c.loop-j.invariant.1 j (inside j o.records.i _ g c.loop-j-test.false) (keyed k j (later j o.records.i g) ∙ e ∙ sym k.key-at.ensures)))),
+      length-set c.records.keys c.records.i c.key_at-key.result ∙ c.records.invariant.1,
+      c.note.auto.seen ∙ c.records.invariant.2,
+      c.larger_of-pieces.ensures ∙ ap₂ (λ (x y : ℕ). max x (y + 1)) c.records.invariant.3 named ∙ sym (pieces_more _ _),
+      keyed,
+      met-more _ c.args.book.now _ _ _ _ _ c.key_at-key.ensures c.note.ensures c.records.invariant.5,
+      goes_on _ _ _ _ c.records.invariant.6 h
+          (form-new _ _ _ fit (new _ _ (λ j g e. c.loop-j.invariant.1 j (inside j c.records.i _ g c.loop-j-test.false) (keyed j (later j c.records.i g) ∙ e ∙ sym c.key_at-key.ensures)))),
     )
 
 pub returns-then-n-i : goal.returns-then-n-i
@@ -118,14 +100,11 @@ returns-in-Unfit c =
 
 pub returns-then-keys-j : goal.returns-then-keys-j
 returns-then-keys-j c =
-    let keyed-at : tie.After-key-at invariant-loop decreases-loop invariant-records decreases-records = c in
     let fit : form_finding c.args.edition (record_at c.args.book.now c.records.i) ≡ Fit = sym (ap (form_finding _) c.record_at-record.ensures) ∙ sym c.check_form-form.ensures ∙ c.in_default.is in
     let keyed : (p : ℕ) → p < c.records.i + 1
     → get_or (set c.records.keys c.records.i c.key_at-key.result) p 0
     ≡ key_at c.args.book.now (6 * p) = keyed-more c.args.book.now c.records.keys c.records.i _ (in-keys _ _ _ _ c.if-n-i.false c.requires.2 c.records.invariant.1) c.key_at-key.ensures c.records.invariant.4 in
-    let k = keyed-at in
-    let o = k.before.before.before.before.before.before in
-    refuses _ _ _ o.records.i o.records.inv.6 k.before.before.before.before.before.if1.left
-    (form-repeats _ _ _ (fit k)
-    (repeated _ _ (λ p. (o.before.before.before.shared-slice-known.given p).fits) c.loop-j.j c.loop-j-test.true
-    (sym k.key-at.ensures ∙ sym c.if-keys-j.true ∙ keyed k c.loop-j.j (later c.loop-j.j o.records.i c.loop-j-test.true))))
+    refuses _ _ _ c.records.i c.records.invariant.6 c.if-n-i.false
+    (form-repeats _ _ _ fit
+    (repeated _ _ (λ p. (c.shared_slice_known-1.given p).fits) c.loop-j.j c.loop-j-test.true
+    (sym c.key_at-key.ensures ∙ sym c.if-keys-j.true ∙ keyed c.loop-j.j (later c.loop-j.j c.records.i c.loop-j-test.true))))
