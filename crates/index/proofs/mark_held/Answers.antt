@@ -1,7 +1,6 @@
 -- `index::mark_held` meets its contract: the parts of the pieces below `c` are marked.
 -- Assumes nothing.
 use mathlib.Core.Path.{◌≡◌, refl, ◌∙◌}
-use Prim.Native.Nat.{◌-◌}
 use native.Mathlib.Omega.{arith}
 use Rattle.index.proofs.Joins.{held_start, held_more}
 use Rattle.index.proofs.mark_held.Goals as goal

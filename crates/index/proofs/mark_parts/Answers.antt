@@ -1,7 +1,7 @@
 -- `index::mark_parts` meets its contract: the parts below `p` are marked, and `p` is the next one.
 -- Assumes nothing.
 use mathlib.Core.Path.{refl, ◌∙◌}
-use Prim.Native.Nat.{◌+◌, ◌-◌}
+use Prim.Native.Nat.{◌+◌}
 use native.Mathlib.Omega.{arith}
 use lib.ListN.{set, length-set}
 use Rattle.index.proofs.Joins.{mark-start, mark-next, mark-more, mark-done}

@@ -2,7 +2,7 @@
 use borrow.Author.Rules.{rules}
 use borrow.Author.Count.{below_more, below_none}
 use mathlib.Core.Path.{◌≡◌, refl, sym, ap, ◌∙◌}
-use Prim.Native.Nat.{ℕ, ◌-◌}
+use Prim.Native.Nat.{ℕ}
 use native.Mathlib.Omega.{arith}
 use native.Mathlib.Decide.{dec_lt}
 use lib.ListN.{length, get_or, set, get_or-eq_default}
@@ -25,8 +25,7 @@ narrow-requires c = c.place_of_group-t.ensures.1
 
 pub loop-g-preserved : goal.loop-g-preserved
 loop-g-preserved c =
-    let L = c.loop-g in
-    (
+    let L = c.loop-g in (
       search rules,
       search rules,
       below_more (λ k. get_or (set L.places L.g _) k 0 ≡ get_or c.args.groups.now (get_or c.args.number.now k 0) 0) L.g
@@ -38,7 +37,7 @@ loop-g-preserved c =
 pub returns : goal.returns
 returns c =
     let L = c.loop-g in
-        let f : ℕ → ℕ = λ g. get_or c.args.groups.now (get_or c.args.number.now g 0) 0 in
+    let f : ℕ → ℕ = λ g. get_or c.args.groups.now (get_or c.args.number.now g 0) 0 in
     let same : length L.places ≡ length c.args.places.now = search rules in
     rw same at (by-places 0 L.places (tab f 0 c.args.n) (omega (arith, tab-length f 0 c.args.n))
     (λ k l. elim (dec_lt k c.args.n) [ yes h ↦ L.invariant.2 k (omega arith) ∙ sym (tab-at f c.args.n k 0 h) | no h ↦ L.invariant.3 k (omega arith) ∙ sym (get_or-eq_default (tab f 0 c.args.n) 0 {n = k} (omega (arith, tab-length f 0 c.args.n))) ]))

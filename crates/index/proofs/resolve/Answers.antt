@@ -1,7 +1,6 @@
 -- `index::resolve` meets its contract: the shadows before `j` have their places.
 -- Assumes nothing.
 use mathlib.Core.Path.{◌≡◌}
-use Prim.Native.Nat.{◌-◌}
 use native.Mathlib.Omega.{arith}
 use Rattle.index.proofs.Resolution.{resolve-start, resolve-more}
 use Rattle.index.proofs.resolve.Goals as goal

@@ -1,7 +1,6 @@
 -- `index::search_from` meets its contract: the rounds of the search, one for each piece of the queue.
 -- Assumes nothing.
 use mathlib.Core.Path.{sym, ◌∙◌}
-use Prim.Native.Nat.{◌-◌}
 use native.Mathlib.Omega.{arith}
 use lib.ListN.{length-set}
 use Rattle.index.proofs.Rounds.{round-start, round-next, round-end, head-met}
@@ -30,32 +29,32 @@ loop-head-init c =
 pub offset_bounds-order-head : goal.offset_bounds-order-head
 offset_bounds-order-head c =
     let L = c.loop-head in
-        omega (arith, c.loop-head-test.true, L.invariant.2.count, c.requires.1)
+    omega (arith, c.loop-head-test.true, L.invariant.2.count, c.requires.1)
 
 pub bounds-order-head : goal.bounds-order-head
 bounds-order-head c =
     let L = c.loop-head in
-        omega (arith, c.loop-head-test.true, L.invariant.2.count, L.invariant.1, c.requires.1)
+    omega (arith, c.loop-head-test.true, L.invariant.2.count, L.invariant.1, c.requires.1)
 
 pub spread-tail-requires : goal.spread-tail-requires
 spread-tail-requires c =
     let L = c.loop-head in
-        (c.requires.0, c.requires.1, rw c.wide-c.ensures.0 (head-met _ _ _ L.parent L.order L.head L.tail L.invariant.2 c.loop-head-test.true).0, L.invariant.0, L.invariant.1, omega (arith, L.invariant.2.count, c.requires.1))
+    (c.requires.0, c.requires.1, rw c.wide-c.ensures.0 (head-met _ _ _ L.parent L.order L.head L.tail L.invariant.2 c.loop-head-test.true).0, L.invariant.0, L.invariant.1, omega (arith, L.invariant.2.count, c.requires.1))
 
 pub overflow_add-head : goal.overflow_add-head
 overflow_add-head c =
     let L = c.loop-head in
-        omega (arith, c.loop-head-test.true, L.invariant.2.count, c.requires.1)
+    omega (arith, c.loop-head-test.true, L.invariant.2.count, c.requires.1)
 
 pub loop-head-smaller : goal.loop-head-smaller
 loop-head-smaller c =
     let L = c.loop-head in
-        omega (arith, c.loop-head-test.true, L.invariant.2.count, c.requires.1)
+    omega (arith, c.loop-head-test.true, L.invariant.2.count, c.requires.1)
 
 pub loop-head-preserved : goal.loop-head-preserved
 loop-head-preserved c =
     let L = c.loop-head in
-        let S = rw c.wide-c.ensures.0 at c.spread-tail.ensures in
+    let S = rw c.wide-c.ensures.0 at c.spread-tail.ensures in
     (S.par_length ∙ L.invariant.0, S.ord_length ∙ L.invariant.1, round-next _ _ _ L.parent L.order L.head L.tail L.invariant.2 c.loop-head-test.true _ _ _ S c.requires.2)
 
 pub shape_of-parent : goal.shape_of-parent

@@ -14,7 +14,7 @@ complete-parent-requires c = joinable c.requires
 pub walk-counts-requires : goal.walk-counts-requires
 walk-counts-requires c =
     let d = c.complete-parent in
-    let W = walkable c.requires d.ensures.0 d.auto.1.0 d.ensures.1 in (
+    let W = walkable c.requires d.ensures.0 d.auto.edges d.ensures.1 in (
       resized W c.clear.auto.bytes c.clear-2.auto.bytes c.fill.auto.list c.fill-2.auto.list,
       cleared (length c.args.parens.now) c.clear.ensures,
       cleared (length c.args.marks.now) c.clear-2.ensures,
@@ -25,9 +25,8 @@ walk-counts-requires c =
 pub resolve-requires : goal.resolve-requires
 resolve-requires c =
     let d = c.complete-parent in
-    let W = walkable c.requires d.ensures.0 d.auto.1.0 d.ensures.1 in
-    let w = c.walk-counts.auto.1.1.1 in
-    let R = resized W (w.0 ∙ c.clear.auto.bytes) (w.1.0 ∙ c.clear-2.auto.bytes) (w.1.1.0 ∙ c.fill.auto.list) (w.1.1.1.0 ∙ c.fill-2.auto.list) in
+    let W = walkable c.requires d.ensures.0 d.auto.edges d.ensures.1 in
+    let R = resized W (c.walk-counts.auto.parens ∙ c.clear.auto.bytes) (c.walk-counts.auto.marks ∙ c.clear-2.auto.bytes) (c.walk-counts.auto.shadows ∙ c.fill.auto.list) (c.walk-counts.auto.places ∙ c.fill-2.auto.list) in
     resolvable _ _ R.book _ _ _ _ _ _ c.walk-counts.ensures R.room.shadows R.room.places
 
 pub shape_of-edges : goal.shape_of-edges
@@ -48,8 +47,7 @@ shape_of-places c = c.walk-counts.auto.places ∙ c.fill-2.auto.list
 pub returns : goal.returns
 returns c =
     let d = c.complete-parent in
-    let W = walkable c.requires d.ensures.0 d.auto.1.0 d.ensures.1 in
-    let w = c.walk-counts.auto.1.1.1 in
-    let R = resized W (w.0 ∙ c.clear.auto.bytes) (w.1.0 ∙ c.clear-2.auto.bytes) (w.1.1.0 ∙ c.fill.auto.list) (w.1.1.1.0 ∙ c.fill-2.auto.list) in
+    let W = walkable c.requires d.ensures.0 d.auto.edges d.ensures.1 in
+    let R = resized W (c.walk-counts.auto.parens ∙ c.clear.auto.bytes) (c.walk-counts.auto.marks ∙ c.clear-2.auto.bytes) (c.walk-counts.auto.shadows ∙ c.fill.auto.list) (c.walk-counts.auto.places ∙ c.fill-2.auto.list) in
     let I = index_is _ _ R.book _ _ _ _ _ _ c.walk-counts.ensures R.room _ c.resolve.ensures (λ i. byte _ (c.slice_known-11-1.given i)) (λ i. byte _ (c.slice_known-12-1.given i)) in
-    (indexed c.requires d.ensures.0 d.auto.1.0 I, d.ensures.0)
+    record { index = indexed c.requires d.ensures.0 d.auto.edges I; joins = d.ensures.0 }

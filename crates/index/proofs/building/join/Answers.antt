@@ -1,7 +1,6 @@
 -- `building::join` meets its contract: the joins of the pieces below `p` are made.
 -- Assumes nothing.
 use mathlib.Core.Path.{refl, ◌∙◌}
-use Prim.Native.Nat.{◌-◌}
 use native.Mathlib.Omega.{arith}
 use Rattle.index.proofs.Joins.{join-start, join-pass, join_more, join-done}
 use Rattle.index.proofs.building.join.Goals as goal
@@ -14,8 +13,7 @@ insert-requires c = (omega arith, omega arith, omega arith)
 
 pub loop-p-preserved-then-held-p-eq0 : goal.loop-p-preserved-then-held-p-eq0
 loop-p-preserved-then-held-p-eq0 c =
-    let L = c.loop-p in
-    (
+    let L = c.loop-p in (
       omega arith,
       omega arith,
       c.insert.auto.m ∙ L.invariant.2,
@@ -25,7 +23,7 @@ loop-p-preserved-then-held-p-eq0 c =
 pub loop-p-preserved : goal.loop-p-preserved
 loop-p-preserved c =
     let L = c.loop-p in
-        (omega arith, omega arith, L.invariant.2, join-pass _ _ L.edges c.args.held.now L.p L.invariant.3 c.requires.3 (omega arith) c.if-held-p-eq0.false)
+    (omega arith, omega arith, L.invariant.2, join-pass _ _ L.edges c.args.held.now L.p L.invariant.3 c.requires.3 (omega arith) c.if-held-p-eq0.false)
 
 pub shape_of-edges : goal.shape_of-edges
 shape_of-edges c = c.loop-p.invariant.2
