@@ -1,7 +1,6 @@
 -- `pages::put` meets its contract: the loop keeps that the first i bytes of the text are put. Assumes nothing.
 use borrow.Author.Rules.{rules}
 use native.Mathlib.Omega.{arith}
-use Prim.Native.Nat.{◌-◌}
 use Rattle.pages.proofs.Puts.{nothing, more, whole}
 use Rattle.pages.proofs.put.Goals as goal
 

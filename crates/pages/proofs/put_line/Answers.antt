@@ -1,7 +1,6 @@
 -- `pages::put_line` meets its contract: the loop keeps what is left to put of the rest of the table. Assumes nothing.
 use borrow.Author.Rules.{rules}
 use native.Mathlib.Omega.{arith}
-use Prim.Native.Nat.{◌-◌}
 use Rattle.pages.proofs.Entries.{start, done, ended, passed, more, skipped}
 use Rattle.pages.proofs.put_line.Goals as goal
 

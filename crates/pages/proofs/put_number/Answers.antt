@@ -6,4 +6,4 @@ use Rattle.pages.proofs.put_number.Goals as goal
 
 pub returns : goal.returns
 returns c =
-    chain (put_as (sym (spelled_out _ _ _ c.decimal-k.ensures.1.0 c.decimal-k.ensures.1.1)) c.put-end.ensures) c.put_byte.ensures
+    chain (put_as (sym (spelled_out _ _ _ c.decimal-k.ensures.len c.decimal-k.ensures.digits)) c.put-end.ensures) c.put_byte.ensures
