@@ -1,4 +1,5 @@
 -- `row_14::settle` meets its contract: one field for each call. Assumes nothing.
+use borrow.Author.Rules.{rules}
 use mathlib.Core.Path.{sym, ◌∙◌}
 use Rattle.closure.proofs.Holding.{below-2048}
 use Rattle.contradiction.specs.Settled.{row}
@@ -23,20 +24,18 @@ contents-requires c =
     let R = roomy-same c.index_of-counts.auto.parens c.index_of-counts.auto.marks c.index_of-counts.auto.shadows c.index_of-counts.auto.places (facts-roomy _ _ _ _ _ _ S.roomy) in
     let I = c.index_of-counts.ensures in
     let G = c.grouped-count.ensures in
-    let L = c.contents-arg6.given.0 in
-    (S.bounded.fits, few-nodes _ _ S.bounded _ _ _ _ G L _ _ _ _ _ _ R I, c.contents-arg7.given.0.1, index-stored _ _ S.bounded _ _ _ _ G L _ _ _ _ _ _ R I)
+    (S.bounded.fits, few-nodes _ _ S.bounded _ _ _ _ G (search rules) _ _ _ _ _ _ R I, (search rules), index-stored _ _ S.bounded _ _ _ _ G (search rules) _ _ _ _ _ _ R I)
 
 pub steps-requires : goal.steps-requires
 steps-requires c =
-    (c.requires.0.bounded, led _ _ c.requires.0.bounded _ _ _ _ c.grouped-count.ensures c.steps-arg-2-1.given.0, c.steps-arg-3-1.given.0.1)
+    (c.requires.0.bounded, led _ _ c.requires.0.bounded _ _ _ _ c.grouped-count.ensures (search rules), (search rules))
 
 pub meeting-requires : goal.meeting-requires
 meeting-requires c =
-    (c.requires.0.bounded, c.mark_voids.ensures.0, steps-hold _ _ c.requires.0.bounded _ _ _ _ c.grouped-count.ensures c.meeting-arg-7-1.given.0 _ c.steps.ensures, c.meeting-arg8.given.0.1)
+    (c.requires.0.bounded, c.mark_voids.ensures.0, steps-hold _ _ c.requires.0.bounded _ _ _ _ c.grouped-count.ensures (search rules) _ c.steps.ensures, (search rules))
 
 pub clashes-requires : goal.clashes-requires
-clashes-requires c =
-    (c.mark_voids.ensures.0.sized, c.clashes-arg-3-1.given.0, c.clashes-arg5.given.0, below-2048 c.requires.0.bounded)
+clashes-requires c = (c.mark_voids.ensures.0.sized, (search rules), (search rules), below-2048 c.requires.0.bounded)
 
 pub contradiction-requires : goal.contradiction-requires
 contradiction-requires c =
@@ -44,8 +43,7 @@ contradiction-requires c =
     let R = roomy-same c.index_of-counts.auto.parens c.index_of-counts.auto.marks c.index_of-counts.auto.shadows c.index_of-counts.auto.places (facts-roomy _ _ _ _ _ _ S.roomy) in
     let I = c.index_of-counts.ensures in
     let G = c.grouped-count.ensures in
-    let L = c.contents-arg6.given.0 in
-    let D = parts-hold _ _ S.bounded _ _ _ _ G L _ _ _ _ _ _ R I _ c.clashes-arg-3-1.given.0 c.contents.ensures in
+    let D = parts-hold _ _ S.bounded _ _ _ _ G (search rules) _ _ _ _ _ _ R I _ (search rules) c.contents.ensures in
     let T = c.meeting.ensures in
     let W = c.mark_voids.ensures in
     let is = c.clashes.ensures.is _ S.bounded W.0.whole D T in
@@ -73,8 +71,7 @@ returns-then-clashes c =
     let R = roomy-same c.index_of-counts.auto.parens c.index_of-counts.auto.marks c.index_of-counts.auto.shadows c.index_of-counts.auto.places (facts-roomy _ _ _ _ _ _ S.roomy) in
     let I = c.index_of-counts.ensures in
     let G = c.grouped-count.ensures in
-    let L = c.contents-arg6.given.0 in
-    let D = parts-hold _ _ S.bounded _ _ _ _ G L _ _ _ _ _ _ R I _ c.clashes-arg-3-1.given.0 c.contents.ensures in
+    let D = parts-hold _ _ S.bounded _ _ _ _ G (search rules) _ _ _ _ _ _ R I _ (search rules) c.contents.ensures in
     let T = c.meeting.ensures in
     let W = c.mark_voids.ensures in
     let is = c.clashes.ensures.is _ S.bounded W.0.whole D T in
@@ -102,9 +99,8 @@ returns c =
     let R = roomy-same c.index_of-counts.auto.parens c.index_of-counts.auto.marks c.index_of-counts.auto.shadows c.index_of-counts.auto.places (facts-roomy _ _ _ _ _ _ S.roomy) in
     let I = c.index_of-counts.ensures in
     let G = c.grouped-count.ensures in
-    let L = c.contents-arg6.given.0 in
-    let D = parts-hold _ _ S.bounded _ _ _ _ G L _ _ _ _ _ _ R I _ c.clashes-arg-3-1.given.0 c.contents.ensures in
+    let D = parts-hold _ _ S.bounded _ _ _ _ G (search rules) _ _ _ _ _ _ R I _ (search rules) c.contents.ensures in
     let T = c.meeting.ensures in
     let W = c.mark_voids.ensures in
     let is = c.clashes.ensures.is _ S.bounded W.0.whole D T in
-    (W, settles-free (record { parts = D; toward = T; is = sym c.if-clashes.false ∙ is }), steps-free _ (steps-hold _ _ S.bounded _ _ _ _ G L _ c.steps.ensures), indexes-free I)
+    (W, settles-free (record { parts = D; toward = T; is = sym c.if-clashes.false ∙ is }), steps-free _ (steps-hold _ _ S.bounded _ _ _ _ G (search rules) _ c.steps.ensures), indexes-free I)
