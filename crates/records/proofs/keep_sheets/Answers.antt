@@ -1,5 +1,4 @@
 -- `records::keep_sheets` meets its contract: the front of the buffer is what the records passed leave. Assumes nothing.
-use Prim.Native.Nat.{◌-◌}
 use mathlib.Core.Path.{refl, ◌∙◌}
 use native.Mathlib.Omega.{arith}
 use Rattle.records.specs.Kept.{on_sheet}

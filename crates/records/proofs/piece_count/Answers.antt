@@ -1,5 +1,5 @@
 -- `records::piece_count` meets its contract: the loop keeps the count of the records passed. Assumes nothing.
-use Prim.Native.Nat.{ℕ, max, ◌+◌, ◌-◌}
+use Prim.Native.Nat.{ℕ, max, ◌+◌}
 use mathlib.Core.Path.{sym, ap, ap₂, ◌∙◌}
 use native.Mathlib.Omega.{arith}
 use Rattle.records.specs.Pieces.{largest, pieces_up_to}
@@ -23,8 +23,7 @@ pub loop-i-smaller : goal.loop-i-smaller
 loop-i-smaller c = omega arith
 
 pub loop-i-preserved : goal.loop-i-preserved
-loop-i-preserved c =
-    (
+loop-i-preserved c = (
   omega arith,
   c.larger_of-pieces.ensures
       ∙ ap₂ (λ (x y : ℕ). max x (y + 1)) c.loop-i.invariant.1 (c.largest_named.ensures ∙ ap largest c.record_at.ensures)

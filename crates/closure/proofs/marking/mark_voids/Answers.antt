@@ -1,7 +1,6 @@
 -- `marking::mark_voids` meets its contract: the invariant is that the row has the marks of the records passed. Assumes nothing.
 use native.Mathlib.Omega.{arith}
 use borrow.Author.Rules.{rules}
-use Prim.Native.Nat.{◌-◌}
 use mathlib.Core.Path.{refl}
 use lib.ListN.{length}
 use Rattle.closure.proofs.VoidRows.{marking-none, marking-more, marking-asks, marking-all, marking-fits}
@@ -19,7 +18,7 @@ mark_record-requires c =
 pub loop-i-preserved : goal.loop-i-preserved
 loop-i-preserved c =
     let L = c.loop-i in
-        (search rules, search rules, search rules, marking-more _ _ _ _ _ c.record_at.ensures L.invariant.3 c.mark_record.ensures)
+    (search rules, search rules, search rules, marking-more _ _ _ _ _ c.record_at.ensures L.invariant.3 c.mark_record.ensures)
 
 pub returns : goal.returns
 returns c =

@@ -1,7 +1,6 @@
 -- `storing::crown` meets its contract: the invariant is the part of row 0 passed. Assumes nothing.
 use native.Mathlib.Omega.{arith}
 use borrow.Author.Rules.{rules}
-use Prim.Native.Nat.{◌-◌}
 use mathlib.Core.Path.{◌≡◌, refl}
 use Rattle.closure.proofs.Grows.{grown-none, grown-same, grown-two, grown-insert, crown-none, crown-more}
 use Rattle.closure.proofs.storing.crown.Goals as goal

@@ -1,7 +1,6 @@
 -- `storing::step_stored` meets its contract: the invariant is that the matrix has the steps of the records passed. Assumes nothing.
 use native.Mathlib.Omega.{arith}
 use borrow.Author.Rules.{rules}
-use Prim.Native.Nat.{◌-◌}
 use mathlib.Core.Path.{refl}
 use Rattle.closure.proofs.StoringLaws.{storing-none, storing-more, storing-asks, storing-all}
 use Rattle.closure.proofs.storing.step_stored.Goals as goal
@@ -10,8 +9,7 @@ pub loop-i-init : goal.loop-i-init
 loop-i-init c = (refl, search rules, search rules, storing-none _ _ _ _ _ c.clear_rows.ensures)
 
 pub step_record-requires : goal.step_record-requires
-step_record-requires c =
-    (
+step_record-requires c = (
   search rules,
   λ k.
       let P = c.requires in

@@ -1,7 +1,6 @@
 -- `storing::store` meets its contract: the invariant is that the matrix has the bits of the records passed. Assumes nothing.
 use native.Mathlib.Omega.{arith}
 use borrow.Author.Rules.{rules}
-use Prim.Native.Nat.{◌-◌}
 use mathlib.Core.Path.{refl}
 use Rattle.closure.specs.Stored.{stored_bit}
 use Rattle.closure.proofs.Holding.{below-2048}
@@ -20,7 +19,7 @@ store_record-requires c =
 pub loop-i-preserved : goal.loop-i-preserved
 loop-i-preserved c =
     let L = c.loop-i in
-        (search rules, search rules, search rules, storing-more _ _ _ _ _ _ _ _ (omega arith) c.record_at-r.ensures L.invariant.3 c.store_record.ensures)
+    (search rules, search rules, search rules, storing-more _ _ _ _ _ _ _ _ (omega arith) c.record_at-r.ensures L.invariant.3 c.store_record.ensures)
 
 pub returns : goal.returns
 unfolding stored_bit

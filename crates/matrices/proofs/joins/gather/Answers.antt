@@ -1,7 +1,6 @@
 use borrow.Author.Rules.{rules}
 use native.Mathlib.Omega.{arith}
 use mathlib.Core.Path.{refl}
-use Prim.Native.Nat.{◌-◌}
 use Rattle.matrices.specs.Matrix.{bit_of}
 use Rattle.lists.proofs.Searches.{Sought, sought-next}
 use Rattle.matrices.proofs.Products.{gather_none, gather-more, gather-done, gather-all}

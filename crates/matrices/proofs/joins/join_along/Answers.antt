@@ -1,5 +1,5 @@
 use mathlib.Core.Path.{refl, ◌∙◌}
-use Prim.Native.Nat.{◌-◌, ◌<◌}
+use Prim.Native.Nat.{◌<◌}
 use native.Mathlib.Omega.{arith}
 use Rattle.matrices.proofs.Flows.{along-none, along-more, along-all, irreflexive}
 use Rattle.matrices.proofs.joins.join_along.Goals as goal

@@ -1,7 +1,6 @@
 use borrow.Author.Rules.{rules}
 use native.Mathlib.Omega.{arith}
 use mathlib.Core.Path.{◌≡◌, refl}
-use Prim.Native.Nat.{◌-◌}
 use Rattle.matrices.proofs.Products.{product-none, product-more}
 use Rattle.matrices.proofs.joins.product.Goals as goal
 

@@ -1,6 +1,6 @@
 use borrow.Author.Rules.{rules}
 use native.Mathlib.Omega.{arith}
-use Prim.Native.Nat.{◌-◌, ◌+◌, ◌*◌}
+use Prim.Native.Nat.{◌+◌, ◌*◌}
 use borrow.Author.Count.{below_more, below_none}
 use Rattle.matrices.proofs.Words.{common-here, common-nowhere}
 use Rattle.matrices.proofs.relation.meet.Goals as goal

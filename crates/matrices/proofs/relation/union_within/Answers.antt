@@ -1,6 +1,6 @@
 use borrow.Author.Rules.{rules}
 use native.Mathlib.Omega.{arith}
-use Prim.Native.Nat.{◌<◌, ◌-◌, ◌*◌, ◌+◌}
+use Prim.Native.Nat.{◌<◌, ◌*◌, ◌+◌}
 use mathlib.Core.Path.{◌≡◌, refl}
 use native.Mathlib.Decide.{dec_lt}
 use lib.ListN.{length-set, get_or}
@@ -18,8 +18,7 @@ loop-i-preserved c =
     let L = c.loop-i in
     let A = c.args in
     let same : Dec (A.s < A.d) → get_or L.m (A.s * 32 + L.i) 0 ≡ get_or A.m.now (A.s * 32 + L.i) 0 =
-      λ d. elim d [ yes h ↦ L.invariant.2.below _ (omega arith) | no h ↦ L.invariant.2.above _ (omega arith) ] in
-    (
+    λ d. elim d [ yes h ↦ L.invariant.2.below _ (omega arith) | no h ↦ L.invariant.2.above _ (omega arith) ] in (
       omega arith,
       simp length-set (omega arith),
       joined-more _ _ _ _ _ _ _ _ (omega arith) (L.invariant.2.above (A.d * 32 + L.i) (omega arith)) (same (dec_lt A.s A.d)) L.invariant.2,

@@ -2,7 +2,6 @@
 use borrow.Author.Rules.{rules}
 use native.Mathlib.Omega.{arith}
 use mathlib.Core.Path.{sym, ◌∙◌}
-use Prim.Native.Nat.{◌-◌}
 use Rattle.records.proofs.Claims.{uneven-claims, too-many-claims, first-claim, accepts-claims, refuses-form, refuses-piece, next-claim}
 use Rattle.records.proofs.checks.check_claims.Goals as goal
 
@@ -27,12 +26,11 @@ pub loop-i-smaller : goal.loop-i-smaller
 loop-i-smaller c = omega arith
 
 pub loop-i-preserved : goal.loop-i-preserved
-loop-i-preserved c =
-    (
-      search rules,
-      next-claim _ _ _ c.loop-i.invariant.1 (omega arith) (sym c.in-Sound.is ∙ c.claim_at.ensures)
-          (omega (arith, c.largest_named.ensures)),
-    )
+loop-i-preserved c = (
+  search rules,
+  next-claim _ _ _ c.loop-i.invariant.1 (omega arith) (sym c.in-Sound.is ∙ c.claim_at.ensures)
+      (omega (arith, c.largest_named.ensures)),
+)
 
 pub returns : goal.returns
 returns c = accepts-claims _ _ _ c.loop-i.invariant.1 (omega arith)

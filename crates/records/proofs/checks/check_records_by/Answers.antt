@@ -2,7 +2,7 @@
 -- is set, and their piece count; the inner loop keeps that no earlier key passed is the key at hand. Assumes nothing.
 use Rattle.records.specs.Pieces.{largest}
 use mathlib.Core.Path.{◌≡◌, refl, sym, ap, ap₂, ◌∙◌}
-use Prim.Native.Nat.{ℕ, max, ◌<◌, ◌-◌, ◌+◌, ◌*◌}
+use Prim.Native.Nat.{ℕ, max, ◌<◌, ◌+◌, ◌*◌}
 use Rattle.records.specs.declared.Finding.TheVariants.{Fit}
 use Rattle.records.specs.Check.{form_finding}
 use Rattle.records.proofs.Rows.{formed}
