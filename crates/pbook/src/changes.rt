@@ -7,7 +7,7 @@ use files::changing;
 use files::changing::Standing;
 
 // A book that was read under a lock: the lock's descriptor, how many bytes were read, the file's mode. Where that failed it was told, and nothing is left.
-#[derive(Drop)]
+#[derive(Clone, Copy)]
 struct Open {
     file: i32,
     n: usize,
