@@ -3,7 +3,8 @@
 
 A file crates/NAME/must-fail/*.edit holds wrong programs, one to a paragraph: a comment, then its `file:`, `old:` and `new:` lines.
 rt applies the whole file and asks only that the crate is refused. Here the file is applied to a copy of the crate, and rattle checks the functions that its wrong
-programs change: of each one the proof must be refused at a fact of its own, and not because something below it is not proved. Where the change
+programs change: of each one the proof must be refused at a fact of its own, and not because something below it is not proved. What does not show so in the whole file is
+tried alone. A goal has its name from a condition: where a wrong program changes that, the answers of the copy follow the name. Where the change
 is outside a function, as in a table, a line `in: FUNCTION` names the function whose proof must be refused. Two wrong programs of
 one function stand in one edit only if they break different facts: a line `at: FACT` of each names its own, a goal of the changed function by its name in the
 prover's word; a goal that is proved clause by clause may be named without its clause.
@@ -80,9 +81,9 @@ class Program:
 
 
 def applied(crate, edit):
-    """The texts that the edit makes, by their files, and the texts that do not stand once where they are to be replaced."""
+    """The texts that the lines of an edit make, by their files, and the texts that do not stand once where they are to be replaced."""
     texts, lost, file, old = {}, [], None, ""
-    for line in edit.read_text().split("\n"):
+    for line in edit.split("\n"):
         if line.startswith("file: "):
             file = line[6:].strip()
         elif line.startswith("old: "):
@@ -128,22 +129,62 @@ def own_errors(crate, log):
     return found
 
 
-def checked(crate, edit, kept):
-    """What rattle says of the functions that an edit changes, or of the whole crate where it changes a definition, and whether all is proved."""
-    texts, _ = applied(crate, edit)
-    programs = [Program(crate, text) for text in edit.read_text().strip().split("\n\n")]
-    targets = sorted({"::".join(target) for program in programs for target in program.targets})
-    only = [] if any(program.definitions for program in programs) else [word for target in targets for word in ("--only", target)]
+def checked(crate, texts, targets, kept, more=()):
+    """What rattle says of the functions, or of the whole crate where none is named, with these texts in the place of the crate's: the status and the log."""
+    only = [word for target in sorted(targets) for word in ("--only", "::".join(target))]
     with tempfile.TemporaryDirectory(prefix="edit-") as name:
         room = pathlib.Path(name)
         for part in ("src", "specs", "proofs"):
             if (CRATES / crate / part).is_dir():
                 shutil.copytree(CRATES / crate / part, room / part)
         for file, text in texts.items():
+            (room / file).parent.mkdir(parents=True, exist_ok=True)
             (room / file).write_text(text)
-        check = [f"{kit()}/bin/rattle", "check", *words(crate), "--incremental", kept, *only]
+        check = [f"{kit()}/bin/rattle", "check", *words(crate), "--incremental", kept, *only, *more]
         ran = subprocess.run(check, cwd=room, stdin=subprocess.DEVNULL, stdout=subprocess.PIPE, stderr=subprocess.STDOUT, errors="replace", check=False)
     return ran.returncode, ran.stdout
+
+
+def answers(crate, target):
+    """The files of a function's answers and invariants."""
+    folder = CRATES / crate / "proofs" / pathlib.Path(*target)
+    return [path for path in (folder / "Answers.antt", folder / "Invariants.antt") if path.is_file()]
+
+
+def asked(crate, texts, target, kept):
+    """The goals of a function with these texts, in their order."""
+    with tempfile.TemporaryDirectory(prefix="goals-") as name:
+        checked(crate, texts, [], kept, ["--start", "::".join(target), "--generated", name])
+        offered = pathlib.Path(name, f"Rattle-{crate}-proofs", *target, "AnswersOffered.antt")
+        return re.findall(r"^pub (\S+) :", offered.read_text(), re.M) if offered.is_file() else []
+
+
+def fitted(crate, texts, target, kept):
+    """The texts of a function's answers in which each goal that is named by a changed condition has its new name; none where its goals are others."""
+    was, now = asked(crate, {}, target, kept), asked(crate, texts, target, kept)
+    if len(was) != len(now):
+        return {}
+    names = {old: new for old, new in zip(was, now) if old != new}
+    for old, new in list(names.items()):
+        branches = [re.search(r"-(?:then|else)-(.*)", name) for name in (old, new)]
+        if all(branches):
+            names["if-" + branches[0][1]] = "if-" + branches[1][1]
+    if not names:
+        return {}
+    word = re.compile(r"(?<![\w-])(?:" + "|".join(map(re.escape, sorted(names, key=len, reverse=True))) + r")(?![\w-])")
+    paths = {path.relative_to(CRATES / crate).as_posix(): path.read_text() for path in answers(crate, target)}
+    return {file: word.sub(lambda name: names[name[0]], text) for file, text in paths.items()}
+
+
+def alone(crate, text, program, kept):
+    """The functions and facts that are refused where a wrong program stands alone; its functions' answers follow the names of their goals."""
+    texts = applied(crate, text)[0]
+    refused = own_errors(crate, checked(crate, texts, program.targets, kept)[1])
+    for target in program.targets:
+        if not refused.get(target):
+            fit = fitted(crate, texts, target, kept)
+            refused.update({k: v for k, v in own_errors(crate, checked(crate, {**texts, **fit}, [target], kept)[1]).items() if fit and k == target})
+    return refused
 
 
 def is_at(fact, facts):
@@ -151,36 +192,53 @@ def is_at(fact, facts):
     return any(other == fact or other.startswith(f"{fact}-clause-") for other in facts)
 
 
-def judged(crate, edit, status, log):
-    """What each wrong program of an edit comes to: pairs of its title and a reason, which is empty where it is refused."""
-    programs = [Program(crate, text) for text in edit.read_text().strip().split("\n\n")]
-    lost = applied(crate, edit)[1]
+def reason_of(program, refused):
+    """Why a wrong program does not count as refused; nothing where it does."""
+    names = " or ".join("::".join(target) for target in program.targets)
+    if not any(target in refused for target in program.targets):
+        return f"no fact of {names} is refused"
+    facts = {fact for target in program.targets for fact in refused.get(target, ())}
+    if program.fact and not is_at(program.fact, facts):
+        return f"{program.fact} is not refused, but {', '.join(sorted(facts))}"
+    return ""
+
+
+def judged(crate, edit, kept):
+    """What each wrong program of an edit comes to: pairs of its title and a reason, which is empty where it is refused; and the refused functions and facts."""
+    whole = edit.read_text()
+    texts, lost = applied(crate, whole)
     if lost:
-        return [(old, "the text to be replaced does not stand there once") for old in lost]
+        return [(old, "the text to be replaced does not stand there once") for old in lost], {}
+    paragraphs = whole.strip().split("\n\n")
+    programs = [Program(crate, text) for text in paragraphs]
+    definitions = any(program.definitions for program in programs)
+    status, log = checked(crate, texts, [] if definitions else {target for program in programs for target in program.targets}, kept)
     # the last line of a check that came to its end
     last = log.strip().rsplit("\n", 1)[-1]
     if status != 1 or not last.startswith(("only=", "logic=not-proved")):
-        return [(program.title, f"the check has status {status} and ends in {last[:200]!r}") for program in programs]
+        return [(program.title, f"the check has status {status} and ends in {last[:200]!r}") for program in programs], {}
     refused = own_errors(crate, log)
     results = []
-    for program in programs:
-        reason = ""
+    for text, program in zip(paragraphs, programs):
         if not program.title:
             reason = "it has no title"
         elif program.definitions:
             reason = "" if len(programs) == 1 and last.startswith("logic=not-proved") else "a changed definition stands alone, and is refused"
         elif not program.targets:
             reason = "it changes no function, and names none"
-        elif not any(target in refused for target in program.targets):
-            reason = "no fact of " + " or ".join("::".join(target) for target in program.targets) + " is refused"
-        elif program.fact and not any(is_at(program.fact, refused.get(target, ())) for target in program.targets):
-            reason = f"{program.fact} is not refused, but " + ", ".join(sorted(fact for target in program.targets for fact in refused.get(target, ())))
+        else:
+            reason = reason_of(program, refused)
+            if reason:
+                # what it calls is refused, too, or its goals have other names
+                by_itself = alone(crate, text, program, kept)
+                refused.update({target: refused.get(target, set()) | by_itself[target] for target in program.targets if target in by_itself})
+                reason = reason_of(program, by_itself)
         results.append((program.title, reason))
     for target in {target for program in programs for target in program.targets}:
         facts = [program.fact for program in programs if target in program.targets]
         if len(facts) > 1 and ("" in facts or len(set(facts)) < len(facts)):
             results.append(("::".join(target), "two wrong programs of it in one edit name no facts of their own"))
-    return results
+    return results, refused
 
 
 def missing():
@@ -207,7 +265,7 @@ def stand(edits):
     """Whether each text that an edit replaces stands once."""
     passed = failed = 0
     for crate, edit in edits:
-        lost = applied(crate, edit)[1]
+        lost = applied(crate, edit.read_text())[1]
         for old in lost:
             print(f"{crate}/{edit.stem}: {old}")
         passed, failed = passed + edit.read_text().count("\nold: ") - len(lost), failed + len(lost)
@@ -215,10 +273,10 @@ def stand(edits):
     return 1 if failed or not passed else 0
 
 
-def facts(crate, edit, log):
-    """The refused functions and facts of an edit, and its wrong programs."""
+def facts(crate, edit, refused):
+    """Prints the refused functions and facts of an edit, and its wrong programs."""
     print(f"== {crate}/{edit.stem}")
-    for target, names in sorted(own_errors(crate, log).items()):
+    for target, names in sorted(refused.items()):
         print(f"{'::'.join(target)}: {' '.join(sorted(names))}")
     for text in edit.read_text().strip().split("\n\n"):
         program = Program(crate, text)
@@ -226,9 +284,9 @@ def facts(crate, edit, log):
 
 
 def tried(crate, edits):
-    """What is said of a crate's edits, one after the other: what the check of one proves serves the next."""
+    """What a crate's edits come to, one after the other: what the check of one proves serves the next."""
     with tempfile.TemporaryDirectory(prefix="edits-") as kept:
-        return [(crate, edit, *checked(crate, edit, kept)) for edit in edits]
+        return [(edit, *judged(crate, edit, kept)) for edit in edits]
 
 
 def main():
@@ -250,12 +308,13 @@ def main():
     room = int(re.search(r"MemAvailable: *(\d+)", pathlib.Path("/proc/meminfo").read_text())[1]) // MEMORY
     passed = failed = 0
     with concurrent.futures.ThreadPoolExecutor(max(min(len(os.sched_getaffinity(0)), room), 1)) as pool:
-        runs = [pool.submit(tried, crate, crates[crate]) for crate in sorted(crates, key=lambda crate: -size[crate])]
+        runs = {pool.submit(tried, crate, crates[crate]): crate for crate in sorted(crates, key=lambda crate: -size[crate])}
         for run in concurrent.futures.as_completed(runs):
-            for crate, edit, status, log in run.result():
+            crate = runs[run]
+            for edit, results, refused in run.result():
                 if "--facts" in flags:
-                    facts(crate, edit, log)
-                for title, reason in judged(crate, edit, status, log):
+                    facts(crate, edit, refused)
+                for title, reason in results:
                     if reason:
                         print(f"{crate}/{edit.stem}: {title}: {reason}", flush=True)
                     passed, failed = passed + (not reason), failed + bool(reason)
