@@ -19,9 +19,9 @@ returns-then-in_rows c =
 pub returns-then-not-unordered : goal.returns-then-not-unordered
 returns-then-not-unordered c =
     let A = c.args in
-    λ p old e k. sym (left-between p 104857600 old A.area.now A.count e k A.unordered A.row_from.0 A.row_to.0 A.column_from.0 A.column_to.0 ∙ neither _ (sym (c.in_rows.ensures (left-rises p 104857600 old A.area.now A.count e k)) ∙ c.if-in_rows.false) (not-true A.unordered c.if-not-unordered.true))
+    λ p old e k. sym (left-between p 104857600 old A.area.now A.count e k A.unordered A.row_from.0 A.row_to.0 A.column_from.0 A.column_to.0 ∙ neither _ (sym (c.in_rows.ensures (left-rises p 104857600 old A.area.now A.count e k)) ∙ c.if-in_rows.false) (c.if-not-unordered.true))
 
 pub returns : goal.returns
 returns c =
     let A = c.args in
-    λ p old e k. let R = left-rises p 104857600 old A.area.now A.count e k in sym (left-between p 104857600 old A.area.now A.count e k A.unordered A.row_from.0 A.row_to.0 A.column_from.0 A.column_to.0 ∙ other (sym (c.in_rows.ensures R) ∙ c.if-in_rows.false) (not-false A.unordered c.if-not-unordered.false) (c.in_rows-2.ensures R))
+    λ p old e k. let R = left-rises p 104857600 old A.area.now A.count e k in sym (left-between p 104857600 old A.area.now A.count e k A.unordered A.row_from.0 A.row_to.0 A.column_from.0 A.column_to.0 ∙ other (sym (c.in_rows.ensures R) ∙ c.if-in_rows.false) (c.if-not-unordered.false) (c.in_rows-2.ensures R))
