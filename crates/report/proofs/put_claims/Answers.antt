@@ -1,7 +1,6 @@
 -- `report::put_claims` meets its contract: the loop keeps that the first i lines are put. Assumes nothing.
 use borrow.Author.Rules.{rules}
 use native.Mathlib.Omega.{arith}
-use Prim.Native.Nat.{◌-◌}
 use mathlib.Core.Path.{ap}
 use Rattle.pages.proofs.Puts.{put_as}
 use Rattle.report.specs.Session.{claim_lines}
