@@ -4,14 +4,12 @@ use mathlib.Core.Path.{◌≡◌, refl, ap, ap₂, ◌∙◌}
 use mathlib.Core.Bool.{Bool, true, false, ◌&&◌}
 use mathlib.Core.List.{List}
 use Prim.Native.Nat.{ℕ, ◌≤◌, ◌<◌}
-use borrow.Author.Rules.{rules}
 use borrow.Author.Tests.{le-leb, lt-leb}
 use native.Mathlib.Omega.{arith}
 use lib.Dec.{leb}
 use lib.ListN.{length}
 use Rattle.report.specs.Asked.{roomy}
-use Rattle.report.proofs.ask.Statement.{statement}
-use Rattle.report.proofs.ask.Tie as tie
+use Rattle.report.proofs.ask.Goals as goal
 
 and_no : (b : Bool) → (b && false) ≡ false
 and_no true = refl
@@ -29,20 +27,11 @@ enough : (claims page : List ℕ) → length claims ≤ 24582 → 135285 ≤ len
 unfolding roomy
 enough claims page h k = ap₂ ◌&&◌ (le-leb (length claims) 24582 h) (le-leb 135285 (length page) k)
 
-returns : tie.Need-returns
-returns c = (long-claims _ _ (omega arith), refl)
+pub returns-then-claims-gt-CLAIMS_READ : goal.returns-then-claims-gt-CLAIMS_READ
+returns-then-claims-gt-CLAIMS_READ c = (long-claims _ _ (omega arith), refl)
 
-returns-2 : tie.Need-returns-2
-returns-2 c = (short-page _ _ (omega arith), refl)
+pub returns-then-page-lt-PAGE_BYTES : goal.returns-then-page-lt-PAGE_BYTES
+returns-then-page-lt-PAGE_BYTES c = (short-page _ _ (omega arith), refl)
 
-write-session-requires : tie.Need-write-session-requires
-write-session-requires c κs = search rules
-
-same_length : tie.Need-same-length
-same_length c = search rules
-
-returns-3 : tie.Need-returns-3
-returns-3 c = (enough _ _ (omega arith) (omega arith), c.before.before.write-session.ensures)
-
-pub ask-spec : {M : Type 1} → statement M
-ask-spec = tie.close (tie.spec returns returns-2 write-session-requires same_length returns-3)
+pub returns : goal.returns
+returns c = (enough _ _ (omega arith) (omega arith), c.write_session-end.ensures)
