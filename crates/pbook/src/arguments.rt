@@ -54,9 +54,6 @@ fn words(rt: &HostRuntime, first: usize, line: &mut [u8]) -> usize
 {
     let mut at: usize = 0;
     for i in first..usize::MAX {
-        if line.len() <= at {
-            return line.len();
-        }
         let n = match rt.arg(i, &mut line[at..]) {
             Ok(n) => n,
             Err(FillError::NotPresent) => break,
