@@ -5,7 +5,7 @@ ghost use Rattle.areas.specs.Subtree.{end_of, range_from, range_to};
 use index::{DatasetId, TreeId};
 
 // A range of places, ends included.
-#[derive(Drop)]
+#[derive(Clone, Copy)]
 pub struct Range {
     pub from: TreeId,
     pub to: TreeId,

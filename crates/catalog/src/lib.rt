@@ -23,7 +23,7 @@ use records::{BookCheck, Refusal};
 pub mod certain;
 
 // The counts of pieces, nodes, shadows and listed pieces, and of the pairs of each area.
-#[derive(Drop)]
+#[derive(Clone, Copy)]
 pub struct Counts {
     pub pieces: usize,
     pub nodes: usize,
@@ -35,7 +35,7 @@ pub struct Counts {
 }
 
 // The counts of listed pieces, and of the pairs of each area.
-#[derive(Drop)]
+#[derive(Clone, Copy)]
 pub struct Lengths {
     pub listed: usize,
     pub meets: usize,
@@ -44,7 +44,7 @@ pub struct Lengths {
 }
 
 // What a catalog comes to: the counts of what was written, or the refusal and its place.
-#[derive(Drop)]
+#[derive(Clone, Copy)]
 pub enum Listing {
     Written(Counts),
     Refused(Refusal, usize),

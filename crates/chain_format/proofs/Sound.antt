@@ -15,7 +15,7 @@ use Rattle.rules.specs.Derives.{Derives}
 use Rattle.chain_format.specs.declared.steps.Step.{Step}
 use Rattle.chain_format.specs.Step.{step_at, shows}
 use Rattle.chain_format.specs.Citing.{Cited, fact, mark, none, marks_piece, marks_some}
-use Rattle.chain_format.specs.Rule.{Form, unknown, stored, freely, unmarked, marked, from, rule}
+use Rattle.chain_format.specs.Rule.{Form, unknown, stored, freely, unmarked, marked, from}
 use Rattle.chain_format.specs.Justified.{cites, premised, keeps, named, justified, step_ok}
 use Rattle.chain_format.specs.Chain.{all_ok, fact_in, cited_by}
 use Rattle.chain_format.proofs.Somes.{some-find}

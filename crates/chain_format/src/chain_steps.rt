@@ -84,11 +84,11 @@ fn other(x: usize, y: usize, z: usize) -> usize
 }
 
 // A fact: its kind and its pieces.
-#[derive(Drop)]
+#[derive(Clone, Copy)]
 struct Fact(u8, usize, usize);
 
 // Two premises, and what they show.
-#[derive(Drop)]
+#[derive(Clone, Copy)]
 struct Form(Fact, Fact, Fact);
 
 // Whether p and q show the premises x and y, and s shows f.

@@ -12,7 +12,7 @@ ghost use Rattle.chain_format.specs.Sizes.{STEP-BYTES};
 use records::Record;
 
 // A step: its rule, the kind and the pieces of the fact that it shows, and its premises, or the record that it cites.
-#[derive(Drop)]
+#[derive(Clone, Copy)]
 pub struct Step {
     pub rule: u8,
     pub kind: u8,

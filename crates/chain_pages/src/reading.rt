@@ -11,20 +11,20 @@ use text::words::{Number, Sort};
 use verdicts::Answer;
 
 // The next number, if there is one, and the place behind it.
-#[derive(Drop)]
+#[derive(Clone, Copy)]
 pub struct Found {
     pub some: bool,
     pub value: usize,
     pub next: usize,
 }
 
-#[derive(Drop)]
+#[derive(Clone, Copy)]
 pub struct StepFound {
     pub step: Step,
     pub next: usize,
 }
 
-#[derive(Drop)]
+#[derive(Clone, Copy)]
 pub struct Head {
     pub claim: Record,
     pub answer: Answer,

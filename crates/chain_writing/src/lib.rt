@@ -24,14 +24,14 @@ use records::{BookCheck, ClaimsCheck, Record, Refusal};
 use verdicts::Answer;
 
 // What the call says: the answer, or the refusal and its place.
-#[derive(Drop)]
+#[derive(Clone, Copy)]
 pub enum Reply {
     Answered(Answer),
     Refused(Refusal, usize),
 }
 
 // And how many steps it wrote.
-#[derive(Drop)]
+#[derive(Clone, Copy)]
 pub struct Chain {
     pub reply: Reply,
     pub steps: usize,

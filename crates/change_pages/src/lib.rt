@@ -25,7 +25,7 @@ use text::Form;
 pub const OUT_BYTES: usize = 49164;
 
 // The page, how many bytes of the lent ones are the new book, and whether there is one.
-#[derive(Drop)]
+#[derive(Clone, Copy)]
 pub struct Changed {
     pub written: Written,
     pub bytes: usize,
@@ -33,7 +33,7 @@ pub struct Changed {
 }
 
 // What the words order: the record or the number in them, and how many bytes of the source are the book. Or whom to tell a reason.
-#[derive(Drop)]
+#[derive(Clone, Copy)]
 pub enum Order {
     Edit(Record, usize),
     Unread(usize, usize),

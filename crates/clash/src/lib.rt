@@ -17,14 +17,14 @@ use matrices::Matrix;
 use records::{BookCheck, Record, Refusal};
 
 // What the call says: the book has no contradiction, or the refusal and its place.
-#[derive(Drop)]
+#[derive(Clone, Copy)]
 pub enum Reply {
     Free,
     Refused(Refusal, usize),
 }
 
 // And how many steps it wrote.
-#[derive(Drop)]
+#[derive(Clone, Copy)]
 pub struct Clash {
     pub reply: Reply,
     pub steps: usize,

@@ -7,7 +7,7 @@ ghost use Rattle.text.specs.Tests.{if_true};
 ghost use Rattle.commands.specs.Named.{same, named, of_book, of_words, of_files, command_of};
 
 // A session with a book: its counts, the answer to the claim in the words, or the answers to the claims of standard input.
-#[derive(Drop)]
+#[derive(Clone, Copy)]
 pub enum Session {
     Check,
     AskWords,
@@ -15,7 +15,7 @@ pub enum Session {
 }
 
 // A page of a book alone.
-#[derive(Drop)]
+#[derive(Clone, Copy)]
 pub enum BookPage {
     Why,
     Grid,
@@ -23,7 +23,7 @@ pub enum BookPage {
 }
 
 // A page of a book and the words behind it.
-#[derive(Drop)]
+#[derive(Clone, Copy)]
 pub enum WordsPage {
     Why,
     Inside,
@@ -32,21 +32,21 @@ pub enum WordsPage {
 }
 
 // A book is written anew by the words behind it.
-#[derive(Drop)]
+#[derive(Clone, Copy)]
 pub enum Change {
     Add,
     Withdraw,
 }
 
 // A book is written to another file.
-#[derive(Drop)]
+#[derive(Clone, Copy)]
 pub enum Export {
     Pack,
     Convert,
 }
 
 // What is no session.
-#[derive(Drop)]
+#[derive(Clone, Copy)]
 pub enum Task {
     Book(BookPage),
     Words(WordsPage),
@@ -59,7 +59,7 @@ pub enum Task {
     Help,
 }
 
-#[derive(Drop)]
+#[derive(Clone, Copy)]
 pub enum Command {
     Session(Session),
     Task(Task),

@@ -22,7 +22,7 @@ pub mod joint;
 pub const SECOND: usize = 2;
 
 // What a comparison comes to: whether both books can be laid together, or the refusal of a book, 1 or 2, or of buffers and claims, 0, and its place.
-#[derive(Drop)]
+#[derive(Clone, Copy)]
 pub enum Comparison {
     Compared(bool),
     Refused(usize, Refusal, usize),

@@ -43,14 +43,14 @@ fn contradiction(
 }
 
 // What row 14 says of a run: free; or contradictory, with the place.
-#[derive(Drop)]
+#[derive(Clone, Copy)]
 pub enum Row14 {
     Free,
     Clash(usize),
 }
 
 // The same with an index: its counts of nodes and shadows, where the run is free.
-#[derive(Drop)]
+#[derive(Clone, Copy)]
 pub enum Settled {
     Free(usize, usize),
     Clash(usize),

@@ -13,7 +13,7 @@ use matrices::Matrix;
 use records::{BookCheck, Refusal};
 
 // What a conversion comes to: how many bytes were written, or the refusal and its place.
-#[derive(Drop)]
+#[derive(Clone, Copy)]
 pub enum Conversion {
     Written(usize),
     Refused(Refusal, usize),

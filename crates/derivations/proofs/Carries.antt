@@ -8,7 +8,7 @@ use native.Mathlib.Omega.{arith}
 use lib.ListN.{get_or}
 use borrow.Author.Tests.{eq-eqb, ne_eqb}
 use Rattle.lists.proofs.Bools.{both-and, left_or, right_or, not-true}
-use Rattle.rules.specs.Fact.{APART, MEETS, NOTPART, kind, left, right, fact_of}
+use Rattle.rules.specs.Fact.{APART, MEETS, NOTPART, fact_of}
 use Rattle.records.specs.declared.Record.{Record}
 use Rattle.chain_format.specs.Citing.{Cited, none, citing, marks_piece, marks_some}
 use Rattle.chain_format.specs.declared.steps.Step.{Step}

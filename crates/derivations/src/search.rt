@@ -16,7 +16,7 @@ use chain_format::Step;
 use records::Record;
 
 // What a record is searched for: the three kinds of stored facts, and an APART that shows NOTPART by rule (d').
-#[derive(Drop)]
+#[derive(Clone, Copy)]
 pub enum Aim {
     Apart,
     Meets,
@@ -25,7 +25,7 @@ pub enum Aim {
 }
 
 // A step that needs no earlier one, and the pieces of which it shows its kind, in the order that the fact asks for.
-#[derive(Drop)]
+#[derive(Clone, Copy)]
 pub struct Witness {
     pub step: Step,
     pub x: usize,
@@ -33,14 +33,14 @@ pub struct Witness {
 }
 
 // Whether two pieces meet, and if so a step that shows it of a part of each.
-#[derive(Drop)]
+#[derive(Clone, Copy)]
 pub struct Meeting {
     pub found: bool,
     pub witness: Witness,
 }
 
 // A step that needs no earlier one, if there is one.
-#[derive(Drop)]
+#[derive(Clone, Copy)]
 pub struct Single {
     pub found: bool,
     pub step: Step,

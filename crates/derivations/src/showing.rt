@@ -17,7 +17,7 @@ use chain_format::Step;
 use records::Record;
 
 // A fact: its kind and its two pieces.
-#[derive(Drop)]
+#[derive(Clone, Copy)]
 pub struct Fact {
     pub kind: u8,
     pub a: usize,
@@ -25,7 +25,7 @@ pub struct Fact {
 }
 
 // A fact carried along g PART k to what the step shows, by the step's rule, the PART as its first premise or its second.
-#[derive(Drop)]
+#[derive(Clone, Copy)]
 pub struct Lift {
     pub g: usize,
     pub k: usize,
@@ -34,7 +34,7 @@ pub struct Lift {
 }
 
 // From one fact to another of its kind.
-#[derive(Drop)]
+#[derive(Clone, Copy)]
 pub struct Route {
     pub once: Lift,
     pub twice: Lift,

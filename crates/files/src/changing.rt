@@ -21,7 +21,7 @@ const LOCK_SUFFIX: usize = 5;
 const LOCK_BYTES: usize = 4101;
 
 // What a file may be that is written anew.
-#[derive(Drop)]
+#[derive(Clone, Copy)]
 pub enum Standing {
     Missing,
     Plain(u32),

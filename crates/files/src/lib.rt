@@ -15,7 +15,7 @@ mod saying;
 pub const CONTENT_BYTES: usize = 49164;
 
 // What was read: how many bytes at the front of the buffer. Where that failed, and was told, there are none.
-#[derive(Drop)]
+#[derive(Clone, Copy)]
 pub struct Got {
     pub n: usize,
     pub failed: bool,

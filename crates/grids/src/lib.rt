@@ -158,7 +158,7 @@ fn load(book: &[u8], n: usize, marks: u64) -> Grids
 }
 
 // What the call comes to, and the grids: without a bit where it is refused.
-#[derive(Drop)]
+#[derive(Clone, Copy)]
 pub struct GridAnswer {
     pub outcome: Outcome,
     pub grids: Grids,

@@ -11,7 +11,7 @@ pub const SIDE: usize = 64;
 pub type Grid = [u64; SIDE];
 
 // Bit b of row a of a grid is the claim of its kind about pieces a and b.
-#[derive(Drop)]
+#[derive(Clone, Copy)]
 pub struct Grids {
     pub part: Grid,
     pub apart: Grid,

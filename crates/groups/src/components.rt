@@ -9,7 +9,7 @@ use matrices::RowNumbers;
 use numbers::shorts;
 
 // How long the path is, how many groups it has, and how many have ended.
-#[derive(Drop)]
+#[derive(Clone, Copy)]
 struct Path {
     len: usize,
     top: usize,

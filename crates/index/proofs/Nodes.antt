@@ -53,7 +53,7 @@ count-keep p k (suc m) f a b = go (which (f k)) (eq-or-lt_of_le a) (λ (h : k < 
   where
     go : (f k ≡ true) ⊎ (f k ≡ false) → (k ≡ p) ⊎ (k < p) → (k < p → count p (keep f (range (suc k) m)) ≡ num (f p))
         → count p (keep f (k ∷ range (suc k) m)) ≡ num (f p)
-    go (inl e) (inl q) r = rw (keep-yes f k (range (suc k) m) e, ← q, eq-eqb k k refl, e, count-above k (suc k) m f (omega arith))
+    go (inl e) (inl q) r = rw (keep-yes f k (range (suc k) m) e, ← q, eq-eqb k k refl, e) (ap (λ (x : ℕ). 1 + x) (count-above p (suc k) m f (omega (arith, q))))
     go (inr e) (inl q) r = rw (keep-no f k (range (suc k) m) e, ← q, e) (count-above k (suc k) m f (omega arith))
     go (inl e) (inr h) r = rw (keep-yes f k (range (suc k) m) e, ne_eqb p k (λ q. omega arith)) (omega (arith, r h))
     go (inr e) (inr h) r = rw (keep-no f k (range (suc k) m) e) (r h)

@@ -11,7 +11,7 @@ use crate::{GroupId, TreeId};
 use matrices::RowNumbers;
 use numbers::shorts;
 
-#[derive(Drop)]
+#[derive(Clone, Copy)]
 pub struct Counts {
     pub nodes: usize,
     pub shadows: usize,

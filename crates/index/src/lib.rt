@@ -32,15 +32,15 @@ pub const NODES: usize = 10240;
 pub const NONE: u16 = 2048;
 
 // A piece's number.
-#[derive(Drop)]
+#[derive(Clone, Copy)]
 pub struct DatasetId(pub usize);
 
 // The number of a group of pieces that are one, in the order of the groups' lowest members.
-#[derive(Drop)]
+#[derive(Clone, Copy)]
 pub struct GroupId(pub usize);
 
 // A node's place in the tree, counted depth first.
-#[derive(Drop)]
+#[derive(Clone, Copy)]
 pub struct TreeId(pub usize);
 
 // The place list converts a piece's number to its place, and nothing else does.

@@ -4,7 +4,7 @@
 use records::Refusal;
 
 // What a call comes to: the counts of pieces, nodes and shadows, or the refusal and its place.
-#[derive(Drop)]
+#[derive(Clone, Copy)]
 pub enum Outcome {
     Accepted(usize, usize, usize),
     Refused(Refusal, usize),

@@ -12,7 +12,7 @@ ghost use Rattle.pages.specs.Entry.{entry};
 const DIGITS: usize = 20;
 
 // How many bytes of the page are text; or the text is longer than the page.
-#[derive(Drop)]
+#[derive(Clone, Copy)]
 pub enum Written {
     Text(usize),
     NoRoom,

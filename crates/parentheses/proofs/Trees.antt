@@ -12,7 +12,6 @@ use borrow.Author.Tests.{eq-eqb, ne_eqb, ltb-true, ltb-false}
 use lib.Dec.{ltb}
 use lib.ListN.{get_or, length, length-append, get_or-append}
 use lib.Seq.{get_or-append-add, get_or-append_seam}
-use Rattle.lists.specs.First.{first}
 use Rattle.lists.proofs.Bools.{Known, is_true, is_false, known}
 use Rattle.lists.proofs.Firsts.{first-is}
 use Rattle.lists.specs.Tally.{num}

@@ -10,7 +10,7 @@ use matrices::Matrix;
 
 // A catalog's outcome as include/piecebook.h has it.
 #[repr(C)]
-#[derive(Drop)]
+#[derive(Clone, Copy)]
 pub struct PiecebookCatalogResult {
     pub number: usize,
     pub place: usize,
@@ -54,7 +54,7 @@ pub fn counted_of(listing: Listing) -> PiecebookCatalogResult
 
 // A range of places, ends included.
 #[repr(C)]
-#[derive(Drop)]
+#[derive(Clone, Copy)]
 pub struct PiecebookRange {
     pub from: usize,
     pub to: usize,

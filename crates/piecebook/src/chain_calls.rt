@@ -12,7 +12,7 @@ use matrices::Matrix;
 
 // What the writer comes to, as include/piecebook.h has it.
 #[repr(C)]
-#[derive(Drop)]
+#[derive(Clone, Copy)]
 pub struct PiecebookChainResult {
     pub number: usize,
     pub place: usize,
@@ -41,7 +41,7 @@ pub fn chained(reply: Reply, steps: usize) -> PiecebookChainResult
 
 // What the writer of the chain behind a contradiction comes to, as include/piecebook.h has it.
 #[repr(C)]
-#[derive(Drop)]
+#[derive(Clone, Copy)]
 pub struct PiecebookClashResult {
     pub number: usize,
     pub place: usize,

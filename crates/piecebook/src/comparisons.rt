@@ -9,7 +9,7 @@ use matrices::Matrix;
 
 // A comparison's outcome as include/piecebook.h has it.
 #[repr(C)]
-#[derive(Drop)]
+#[derive(Clone, Copy)]
 pub struct PiecebookComparison {
     pub number: usize,
     pub place: usize,

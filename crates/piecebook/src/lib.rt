@@ -80,7 +80,7 @@ pub extern "C" fn piecebook_index_with(
 
 // The grids as include/piecebook.h has them.
 #[repr(C)]
-#[derive(Drop)]
+#[derive(Clone, Copy)]
 pub struct PiecebookGrids {
     pub number: usize,
     pub place: usize,
@@ -119,7 +119,7 @@ pub extern "C" fn piecebook_grid_with(
 
 // The counts of a working book, which the caller keeps beside its record area.
 #[repr(C)]
-#[derive(Drop)]
+#[derive(Clone, Copy)]
 pub struct PiecebookWorking {
     pub records: usize,
     pub pieces: usize,
@@ -127,7 +127,7 @@ pub struct PiecebookWorking {
 
 // What a call on a working book comes to; the answer is 0 but for an answered claim.
 #[repr(C)]
-#[derive(Drop)]
+#[derive(Clone, Copy)]
 pub struct PiecebookWorkingResult {
     pub number: usize,
     pub place: usize,
@@ -136,7 +136,7 @@ pub struct PiecebookWorkingResult {
 
 // The counts after a call, and its result.
 #[repr(C)]
-#[derive(Drop)]
+#[derive(Clone, Copy)]
 pub struct PiecebookWorked {
     pub working: PiecebookWorking,
     pub result: PiecebookWorkingResult,
@@ -318,7 +318,7 @@ pub extern "C" fn piecebook_convert_with(
 
 // What a part of the measurement log comes to, as include/piecebook.h has it, and the window to hand to the next.
 #[repr(C)]
-#[derive(Drop)]
+#[derive(Clone, Copy)]
 pub struct PiecebookReplicatesResult {
     pub number: usize,
     pub place: usize,

@@ -7,7 +7,7 @@ use outcomes::Outcome;
 
 // The outcome as include/piecebook.h has it.
 #[repr(C)]
-#[derive(Drop)]
+#[derive(Clone, Copy)]
 pub struct PiecebookResult {
     pub number: usize,
     pub place: usize,
@@ -39,7 +39,7 @@ pub fn result_of(outcome: Outcome) -> PiecebookResult
 
 // A conversion as include/piecebook.h has it.
 #[repr(C)]
-#[derive(Drop)]
+#[derive(Clone, Copy)]
 pub struct PiecebookConverted {
     pub number: usize,
     pub place: usize,

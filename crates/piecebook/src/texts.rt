@@ -15,7 +15,7 @@ const NO_FORM: usize = 7;
 
 // What a reading comes to, as include/piecebook.h has it.
 #[repr(C)]
-#[derive(Drop)]
+#[derive(Clone, Copy)]
 pub struct PiecebookReading {
     pub number: usize,
     pub line: usize,
@@ -77,7 +77,7 @@ pub extern "C" fn piecebook_text_line(text: &[u8], entry: usize) -> usize
 
 // What a shown page comes to, as include/piecebook.h has it.
 #[repr(C)]
-#[derive(Drop)]
+#[derive(Clone, Copy)]
 pub struct PiecebookShown {
     pub number: usize,
     pub length: usize,

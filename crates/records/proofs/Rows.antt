@@ -15,7 +15,7 @@ use Rattle.records.specs.declared.Finding.{Finding}
 use Rattle.records.specs.Refusal.{refusal_number, row}
 use Rattle.records.specs.declared.Refusal.TheVariants.{ShortBuffer, BookLength, TooManyRecords, Kind, Origin, PieceNumber, Order, Repeat, ClaimsLength, TooManyClaims, ClaimFormat, ClaimPiece, Contradiction, ShortSteps, TooManyPieces, ShortCatalog, NotStanding, VoidForm, LogLength, ReplicatePiece}
 use Rattle.records.specs.declared.Finding.TheVariants.{Fit, Unfit}
-use Rattle.records.specs.Pieces.{stated, marking, larger, largest}
+use Rattle.records.specs.Pieces.{stated, larger, largest}
 use Rattle.records.specs.Rows.{admitted, kind_row, origin_row, piece_row, bad_mark, void_row, rising, order_row}
 use Rattle.records.specs.Check.{form_finding}
 

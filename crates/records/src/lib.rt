@@ -46,7 +46,7 @@ pub const VOID: u8 = 6;
 
 // A record, or a claim: its kind, its origin, and two 16-bit numbers. The origin is 0 for a cutting sheet and 1 for the scanner; that of a claim
 // picks the facts, 0 for all and 1 for those of cutting sheets.
-#[derive(Drop)]
+#[derive(Clone, Copy)]
 pub struct Record {
     pub kind: u8,
     pub origin: u8,
@@ -56,7 +56,7 @@ pub struct Record {
 
 // The rows of document 01's table, in order, then those that came later. Row 2 is gone: a book without records is piece 0 alone. Row 8, Order, is the
 // former edition's.
-#[derive(Drop)]
+#[derive(Clone, Copy)]
 pub enum Refusal {
     ShortBuffer,
     BookLength,
@@ -81,34 +81,34 @@ pub enum Refusal {
 }
 
 // An edition of the format. The former one is what the converter takes: it has TRAY records, and later changes leave it alone.
-#[derive(Drop)]
+#[derive(Clone, Copy)]
 pub enum Edition {
     Former,
     Current,
 }
 
 // What some rows say of one thing.
-#[derive(Drop)]
+#[derive(Clone, Copy)]
 pub enum Finding {
     Fit,
     Unfit(Refusal),
 }
 
 // A book: accepted with its piece count, or the first refusal and its place.
-#[derive(Drop)]
+#[derive(Clone, Copy)]
 pub enum BookCheck {
     Accepted(usize),
     Refused(Refusal, usize),
 }
 
 // A claim that is read: of a kind and an origin that a claim may have, or not.
-#[derive(Drop)]
+#[derive(Clone, Copy)]
 pub enum Claim {
     Sound(Record),
     Unsound,
 }
 
-#[derive(Drop)]
+#[derive(Clone, Copy)]
 pub enum ClaimsCheck {
     Accepted,
     Refused(Refusal, usize),

@@ -34,14 +34,14 @@ pub const LOG_ENTRIES: usize = 32768;
 
 // The up to 31 entries before a part of the log, oldest first, and how many they are; laid out as C does.
 #[repr(C)]
-#[derive(Drop)]
+#[derive(Clone, Copy)]
 pub struct Window {
     pub pieces: [u16; windows::WINDOW],
     pub count: usize,
 }
 
 // What a part of the log comes to, and the window to hand to the next.
-#[derive(Drop)]
+#[derive(Clone, Copy)]
 pub struct Replicated {
     pub outcome: Outcome,
     pub window: Window,

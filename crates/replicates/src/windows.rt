@@ -9,7 +9,7 @@ ghost use Rattle.replicates.specs.Sizes.{SEQUENCE};
 pub const WINDOW: usize = 31;
 
 // How many of the entries looked at are apart, and the number from which on all are.
-#[derive(Drop)]
+#[derive(Clone, Copy)]
 pub struct Seen {
     pub apart: u8,
     pub from: usize,

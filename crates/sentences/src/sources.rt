@@ -16,14 +16,14 @@ use text::reading::Read;
 const WORDS_BYTES: usize = 4095;
 
 // How many bytes of records, claims or a log were read; or the first bad line and the number of the reason.
-#[derive(Drop)]
+#[derive(Clone, Copy)]
 pub enum Source {
     Bytes(usize),
     Unread(usize, usize),
 }
 
 // What the words say; or the number of the reason why they cannot be read.
-#[derive(Drop)]
+#[derive(Clone, Copy)]
 pub enum Words {
     Entry(Record),
     Wrong(usize),

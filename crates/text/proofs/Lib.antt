@@ -3,7 +3,6 @@ pub mod Runs
 pub mod Numbers
 pub mod Names
 pub mod Said
-pub mod Forms
 pub mod Cuts
 pub mod Marks
 pub mod Loops

@@ -19,7 +19,7 @@ pub const CLAIMS_ROOM: usize = 24582;
 pub const LOG_ROOM: usize = 65538;
 
 // What the lines of a text are.
-#[derive(Drop)]
+#[derive(Clone, Copy)]
 pub enum Form {
     Records,
     Claims,
@@ -27,7 +27,7 @@ pub enum Form {
 }
 
 // Why a text cannot be read.
-#[derive(Drop)]
+#[derive(Clone, Copy)]
 pub enum Reason {
     NotKind,
     NotNumber,

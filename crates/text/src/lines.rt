@@ -9,7 +9,7 @@ use crate::{Form, Reason};
 use records::Record;
 
 // What a line says.
-#[derive(Drop)]
+#[derive(Clone, Copy)]
 pub enum Line {
     Nothing,
     Entry(Record),
@@ -17,7 +17,7 @@ pub enum Line {
 }
 
 // A number and the place behind its word.
-#[derive(Drop)]
+#[derive(Clone, Copy)]
 pub struct Numbered {
     pub number: Number,
     pub next: usize,

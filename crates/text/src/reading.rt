@@ -26,14 +26,14 @@ const SECOND_MARK: u8 = 187;
 const THIRD_MARK: u8 = 191;
 
 // How many bytes are written after a line, or why it cannot be read.
-#[derive(Drop)]
+#[derive(Clone, Copy)]
 pub enum Step {
     Go(usize),
     Stop(Reason),
 }
 
 // A text that is read, with the count of its bytes; its first bad line, counted from 1, and the reason; or too few bytes were lent.
-#[derive(Drop)]
+#[derive(Clone, Copy)]
 pub enum Read {
     Whole(usize),
     Unread(usize, Reason),

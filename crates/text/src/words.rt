@@ -14,7 +14,7 @@ const LARGEST: usize = 65535;
 const CASE: u8 = 32;
 
 // A sort of bytes: between words, in a word, in a line; in a number, outside numbers.
-#[derive(Drop)]
+#[derive(Clone, Copy)]
 pub enum Sort {
     Blank,
     Letter,
@@ -23,14 +23,14 @@ pub enum Sort {
     Gap,
 }
 
-#[derive(Drop)]
+#[derive(Clone, Copy)]
 pub enum Number {
     Value(usize),
     NoNumber,
 }
 
 // The place of a word.
-#[derive(Drop)]
+#[derive(Clone, Copy)]
 pub struct Word {
     pub from: usize,
     pub to: usize,

@@ -16,7 +16,7 @@ ghost use Rattle.records.specs.Sizes.{NOTPART, PART, PIECES};
 use records::Record;
 
 // What a book says of a claim.
-#[derive(Drop)]
+#[derive(Clone, Copy)]
 pub enum Answer {
     Follows,
     Denied,

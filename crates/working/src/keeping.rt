@@ -10,21 +10,21 @@ use outcomes::Outcome;
 use records::{BookCheck, Refusal};
 
 // The counts of the records that stand and of the pieces that they name.
-#[derive(Drop)]
+#[derive(Clone, Copy)]
 pub struct Working {
     pub records: usize,
     pub pieces: usize,
 }
 
 // The counts after a call, and what it came to.
-#[derive(Drop)]
+#[derive(Clone, Copy)]
 pub struct Settled {
     pub working: Working,
     pub outcome: Outcome,
 }
 
 // What a claim came to, and its answer byte: 0 with a refusal.
-#[derive(Drop)]
+#[derive(Clone, Copy)]
 pub struct Asked {
     pub outcome: Outcome,
     pub answer: u8,

@@ -1,0 +1,191 @@
+-- `building::walk` meets its contract: each turn enters a part of c or leaves c, and writes what that asks.
+-- Assumes nothing.
+use mathlib.Core.Path.{refl, sym, ◌∙◌}
+use native.Mathlib.Omega.{arith}
+use Rattle.lists.proofs.Bounds.{inside, upto}
+use Rattle.index.proofs.Fits.{part_small, count_small, small_count, fits_one, fits-twice}
+use Rattle.index.proofs.Walking.{given, resized, stepping, start-room, walk_start, walk-room, walk-less, place-room, walk-node, mark-room, shadow-less, walk-shadow, leave_room, leave-less, walk-leave, walk_end}
+use Rattle.index.proofs.building.walk.Goals as goal
+
+pub put-requires : goal.put-requires
+put-requires c = let s = c.requires in start-room (given s.0) refl refl refl refl s.1 s.2 s.3 s.4
+
+pub loop-from-init : goal.loop-from-init
+loop-from-init c =
+    let s = c.requires in
+    let d = c.put.auto.bytes in
+    let W = resized s.0 d refl refl refl in
+    (W, walk_start (given W) (sym d) refl refl refl s.1 s.2 s.3 s.4 (record { same = d; bit = c.put.ensures }))
+
+pub next_bit-p-requires : goal.next_bit-p-requires
+next_bit-p-requires c =
+    let L = c.loop-from in (L.invariant.0.matrix, inside _ _ _ L.invariant.1.inner L.invariant.0.small, upto _ _ _ L.invariant.1.upto L.invariant.0.small)
+
+pub put-requires-then-p-n : goal.put-requires-then-p-n
+put-requires-then-p-n c =
+    let L = c.loop-from in
+    let R = given L.invariant.0 in
+    let N = stepping L.invariant.0 L.invariant.1 c.next_bit-p.ensures in
+    (walk-room R L.invariant.1 N c.if-p-n.true).1
+
+pub offset_bounds-parent-p : goal.offset_bounds-parent-p
+offset_bounds-parent-p c = fits-twice _ (part_small _ _ c.if-p-n.true c.loop-from.invariant.0.small)
+
+pub bounds-parent-p : goal.bounds-parent-p
+bounds-parent-p c = inside _ _ _ c.if-p-n.true c.loop-from.invariant.0.small
+
+pub narrow-requires : goal.narrow-requires
+narrow-requires c =
+    let L = c.loop-from in
+    let R = given L.invariant.0 in
+    let N = stepping L.invariant.0 L.invariant.1 c.next_bit-p.ensures in
+    (walk-room R L.invariant.1 N c.if-p-n.true).2
+
+pub offset_bounds-places-p : goal.offset_bounds-places-p
+offset_bounds-places-p c = fits-twice _ (part_small _ _ c.if-p-n.true c.loop-from.invariant.0.small)
+
+pub bounds-places-p : goal.bounds-places-p
+bounds-places-p c =
+    let L = c.loop-from in
+    let R = given L.invariant.0 in
+    let N = stepping L.invariant.0 L.invariant.1 c.next_bit-p.ensures in
+    place-room R L.invariant.1 N c.if-p-n.true
+
+pub overflow_add-at : goal.overflow_add-at
+overflow_add-at c =
+    let L = c.loop-from in
+    let R = given L.invariant.0 in
+    let N = stepping L.invariant.0 L.invariant.1 c.next_bit-p.ensures in
+    fits_one _ (walk-room R L.invariant.1 N c.if-p-n.true).0
+
+pub overflow_add-k : goal.overflow_add-k
+overflow_add-k c =
+    let L = c.loop-from in
+    let R = given L.invariant.0 in
+    let N = stepping L.invariant.0 L.invariant.1 c.next_bit-p.ensures in
+    fits_one _ (count_small _ (walk-room R L.invariant.1 N c.if-p-n.true).2)
+
+pub loop-from-smaller-then-wide-c : goal.loop-from-smaller-then-wide-c
+loop-from-smaller-then-wide-c c =
+    let L = c.loop-from in
+    let R = given L.invariant.0 in
+    let N = stepping L.invariant.0 L.invariant.1 c.next_bit-p.ensures in
+    walk-less R L.invariant.1 N c.if-p-n.true (sym c.wide.ensures.0 ∙ c.if-wide-c.true)
+
+pub loop-from-preserved-then-wide-c : goal.loop-from-preserved-then-wide-c
+loop-from-preserved-then-wide-c c =
+    let L = c.loop-from in
+    let R = given L.invariant.0 in
+    let N = stepping L.invariant.0 L.invariant.1 c.next_bit-p.ensures in
+    (L.invariant.0, rw c.narrow.ensures (walk-node R L.invariant.1 N c.if-p-n.true (sym c.wide.ensures.0 ∙ c.if-wide-c.true) (record { same = c.put-then-p-n.auto.bytes; bit = c.put-then-p-n.ensures })))
+
+pub put-requires-else-wide-c : goal.put-requires-else-wide-c
+put-requires-else-wide-c c =
+    let L = c.loop-from in
+    let R = given L.invariant.0 in
+    let N = stepping L.invariant.0 L.invariant.1 c.next_bit-p.ensures in
+    (mark-room R L.invariant.1 N c.if-p-n.true (λ x. c.if-wide-c.false (c.wide.ensures.0 ∙ x))).0
+
+pub narrow-requires-else-wide-c : goal.narrow-requires-else-wide-c
+narrow-requires-else-wide-c c = inside _ _ 65536 c.if-p-n.true (small_count _ c.loop-from.invariant.0.small)
+
+pub offset_bounds-shadows-m : goal.offset_bounds-shadows-m
+offset_bounds-shadows-m c =
+    let L = c.loop-from in
+    let R = given L.invariant.0 in
+    let N = stepping L.invariant.0 L.invariant.1 c.next_bit-p.ensures in
+    fits-twice _ (count_small _ (mark-room R L.invariant.1 N c.if-p-n.true (λ x. c.if-wide-c.false (c.wide.ensures.0 ∙ x))).2)
+
+pub bounds-shadows-m : goal.bounds-shadows-m
+bounds-shadows-m c =
+    let L = c.loop-from in
+    let R = given L.invariant.0 in
+    let N = stepping L.invariant.0 L.invariant.1 c.next_bit-p.ensures in
+    (mark-room R L.invariant.1 N c.if-p-n.true (λ x. c.if-wide-c.false (c.wide.ensures.0 ∙ x))).1
+
+pub overflow_add-at-else-wide-c : goal.overflow_add-at-else-wide-c
+overflow_add-at-else-wide-c c =
+    let L = c.loop-from in
+    let R = given L.invariant.0 in
+    let N = stepping L.invariant.0 L.invariant.1 c.next_bit-p.ensures in
+    omega (arith, (walk-room R L.invariant.1 N c.if-p-n.true).0)
+
+pub overflow_add-k-else-wide-c : goal.overflow_add-k-else-wide-c
+overflow_add-k-else-wide-c c =
+    let L = c.loop-from in
+    let R = given L.invariant.0 in
+    let N = stepping L.invariant.0 L.invariant.1 c.next_bit-p.ensures in
+    fits_one _ (count_small _ (walk-room R L.invariant.1 N c.if-p-n.true).2)
+
+pub overflow_add-m : goal.overflow_add-m
+overflow_add-m c =
+    let L = c.loop-from in
+    let R = given L.invariant.0 in
+    let N = stepping L.invariant.0 L.invariant.1 c.next_bit-p.ensures in
+    fits_one _ (count_small _ (mark-room R L.invariant.1 N c.if-p-n.true (λ x. c.if-wide-c.false (c.wide.ensures.0 ∙ x))).2)
+
+pub overflow_add-from : goal.overflow_add-from
+overflow_add-from c = fits_one _ (part_small _ _ c.if-p-n.true c.loop-from.invariant.0.small)
+
+pub loop-from-smaller-else-wide-c : goal.loop-from-smaller-else-wide-c
+loop-from-smaller-else-wide-c c =
+    let L = c.loop-from in
+    let R = given L.invariant.0 in
+    let N = stepping L.invariant.0 L.invariant.1 c.next_bit-p.ensures in
+    shadow-less R L.invariant.1 N c.if-p-n.true (λ x. c.if-wide-c.false (c.wide.ensures.0 ∙ x))
+
+pub loop-from-preserved-else-wide-c : goal.loop-from-preserved-else-wide-c
+loop-from-preserved-else-wide-c c =
+    let L = c.loop-from in
+    let R = given L.invariant.0 in
+    let N = stepping L.invariant.0 L.invariant.1 c.next_bit-p.ensures in
+    (L.invariant.0, rw c.narrow-else-wide-c.ensures (walk-shadow R L.invariant.1 N c.if-p-n.true (λ x. c.if-wide-c.false (c.wide.ensures.0 ∙ x)) (record { same = c.put-then-p-n.auto.bytes; bit = c.put-then-p-n.ensures }) (record { same = c.put-else-wide-c.auto.bytes; bit = c.put-else-wide-c.ensures })))
+
+pub shape_of-parens-then-c-eq0 : goal.shape_of-parens-then-c-eq0
+shape_of-parens-then-c-eq0 c = c.loop-from.invariant.1.len_parens ∙ c.put.auto.bytes
+
+pub shape_of-marks-then-c-eq0 : goal.shape_of-marks-then-c-eq0
+shape_of-marks-then-c-eq0 c = c.loop-from.invariant.1.len_marks
+
+pub shape_of-shadows-then-c-eq0 : goal.shape_of-shadows-then-c-eq0
+shape_of-shadows-then-c-eq0 c = c.loop-from.invariant.1.len_shadows
+
+pub shape_of-places-then-c-eq0 : goal.shape_of-places-then-c-eq0
+shape_of-places-then-c-eq0 c = c.loop-from.invariant.1.len_places
+
+pub returns-then-c-eq0 : goal.returns-then-c-eq0
+returns-then-c-eq0 c =
+    let L = c.loop-from in
+    let R = given L.invariant.0 in
+    let N = stepping L.invariant.0 L.invariant.1 c.next_bit-p.ensures in
+    walk_end R L.invariant.1 N c.if-p-n.false c.if-c-eq0.true
+
+pub overflow_add-at-else-p-n : goal.overflow_add-at-else-p-n
+overflow_add-at-else-p-n c =
+    let L = c.loop-from in
+    let R = given L.invariant.0 in
+    let N = stepping L.invariant.0 L.invariant.1 c.next_bit-p.ensures in
+    fits_one _ (leave_room R L.invariant.1 N c.if-p-n.false c.if-c-eq0.false)
+
+pub overflow_add-from-else-p-n : goal.overflow_add-from-else-p-n
+overflow_add-from-else-p-n c = fits_one _ (part_small _ _ c.loop-from.invariant.1.inner c.loop-from.invariant.0.small)
+
+pub offset_bounds-parent-done : goal.offset_bounds-parent-done
+offset_bounds-parent-done c = fits-twice _ (part_small _ _ c.loop-from.invariant.1.inner c.loop-from.invariant.0.small)
+
+pub bounds-parent-done : goal.bounds-parent-done
+bounds-parent-done c = inside _ _ _ c.loop-from.invariant.1.inner c.loop-from.invariant.0.small
+
+pub loop-from-smaller : goal.loop-from-smaller
+loop-from-smaller c =
+    let L = c.loop-from in
+    let R = given L.invariant.0 in
+    let N = stepping L.invariant.0 L.invariant.1 c.next_bit-p.ensures in
+    rw c.wide-else-p-n.ensures.0 (leave-less R L.invariant.1 N c.if-p-n.false c.if-c-eq0.false)
+
+pub loop-from-preserved : goal.loop-from-preserved
+loop-from-preserved c =
+    let L = c.loop-from in
+    let R = given L.invariant.0 in
+    let N = stepping L.invariant.0 L.invariant.1 c.next_bit-p.ensures in
+    (L.invariant.0, rw c.wide-else-p-n.ensures.0 (walk-leave R L.invariant.1 N c.if-p-n.false c.if-c-eq0.false))

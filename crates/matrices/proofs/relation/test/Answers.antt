@@ -1,0 +1,7 @@
+use Rattle.matrices.specs.Matrix.{bit_of}
+use Rattle.matrices.proofs.Laws.{and_one}
+use Rattle.matrices.proofs.relation.test.Goals as goal
+
+pub returns : goal.returns
+unfolding bit_of
+returns c = and_one _ _

@@ -1,0 +1,14 @@
+-- `parentheses::select_in` meets its contract: `left` ones are to pass of those from `at` on.
+-- Assumes nothing.
+use mathlib.Core.Path.{◌≡◌}
+use mathlib.Core.List.{[], ◌∷◌}
+use Prim.Native.Nat.{◌+◌, ◌-◌, ◌≤◌}
+use Rattle.parentheses.specs.Bits.{bits}
+use Rattle.parentheses.specs.Rank.{rank}
+use Rattle.parentheses.proofs.select_in.Given as goal
+
+abbrev pub invariant-loop-at : goal.invariant-loop-at
+invariant-loop-at l = (l.at ≤ 8) × (l.left + rank (bits (l.b ∷ [])) l.at ≡ l.j)
+
+abbrev pub decreases-loop-at : goal.decreases-loop-at
+decreases-loop-at l = 8 - l.at

@@ -1,0 +1,14 @@
+-- `sentences::put_refusal` meets its contract: four or six texts, one behind the other. Assumes nothing.
+use borrow.Author.Rules.{rules}
+use Rattle.pages.proofs.Puts.{chain, put_as}
+use Rattle.sentences.proofs.Refusals.{plain, located}
+use Rattle.sentences.proofs.put_refusal.Goals as goal
+
+pub returns-then-l-eq0 : goal.returns-then-l-eq0
+returns-then-l-eq0 c = put_as (plain _ _ _ c.if-l-eq0.true) (search (rules, chain))
+
+pub returns : goal.returns
+returns c =
+    put_as
+    (located _ _ _ c.if-l-eq0.false)
+    (chain c.put-at.ensures (chain c.put_number-at.ensures (chain c.put_number-at-2.ensures (chain c.put-at-2.ensures (chain c.put_number-at-3.ensures c.put_sentence-2.ensures)))))
