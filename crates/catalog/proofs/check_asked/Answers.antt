@@ -18,7 +18,7 @@ returns-then-n-g c =
 
 pub returns-in-Refused : goal.returns-in-Refused
 unfolding asked
-returns-in-Refused c = ap (asked _ _) (sym c.in-Refused.is ∙ c.check_book-checked.ensures)
+returns-in-Refused c = ap (asked c.args.kind c.args.g) (sym c.in-Refused.is ∙ c.check_book-checked.ensures)
 
 pub returns-else-n-g : goal.returns-else-n-g
 returns-else-n-g c =

@@ -6,4 +6,4 @@ use Rattle.grids.proofs.insert.Goals as goal
 
 pub returns : goal.returns
 returns c =
-    rw (one_shl c.args.b (omega arith)) (record { bits = λ x y l m. insert-bits c.args.t1 c.args.a c.args.b x y (search rules) })
+    rw (one_shl c.args.b (omega arith)) (record { bits = λ x y l m. insert-bits c.args.l c.args.a c.args.b x y (search rules) })

@@ -11,7 +11,7 @@ pub loop-i-preserved-then-not-states_fact : goal.loop-i-preserved-then-not-state
 loop-i-preserved-then-not-states_fact c =
     let e = c.record_at-r.ensures in
     let t = sym c.states_fact.ensures ∙ c.if-not-states_fact.true in
-    (omega arith, one_out c.requires _ c.loop-i.i _ (omega arith) (rw e c t) c.loop-i.invariant.1)
+    (omega arith, one_out c.requires _ c.loop-i.i _ (omega arith) (rw e at t) c.loop-i.invariant.1)
 
 pub put-g-requires : goal.put-g-requires
 put-g-requires c =
@@ -22,7 +22,7 @@ pub loop-i-preserved : goal.loop-i-preserved
 loop-i-preserved c =
     let e = c.record_at-r.ensures in
     let t = sym c.states_fact.ensures ∙ c.if-not-states_fact.false in
-    (omega arith, one_in c.requires _ c.loop-i.i _ _ (omega arith) (rw e c t) c.loop-i.invariant.1 (rw e c c.put-g.ensures))
+    (omega arith, one_in c.requires _ c.loop-i.i _ _ (omega arith) (rw e at t) c.loop-i.invariant.1 (rw e at c.put-g.ensures))
 
 pub returns : goal.returns
 returns c = all_in c.requires _ c.loop-i.i _ (omega arith) c.loop-i.invariant.1

@@ -26,7 +26,7 @@ loop-a-preserved c =
       (
         search rules,
         rows_more (λ x v. (k : ℕ) → bit v k ≡ basic (bit marks) n (PART x k)) c.loop-a.part a _ (search rules) c.loop-a.invariant.1.1
-            (λ k. part-row marks n all every a k _ _ (c.chosen-whole.ensures k) (rw (one_shl a (omega arith)) c (c.chosen.ensures k))),
+            (λ k. part-row marks n all every a k _ _ (c.chosen-whole.ensures k) (rw (one_shl a (omega arith)) at (c.chosen.ensures k))),
       ),
       (
         search rules,

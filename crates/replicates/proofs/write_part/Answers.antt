@@ -35,21 +35,21 @@ pub slice_bounds-put_entries-end : goal.slice_bounds-put_entries-end
 slice_bounds-put_entries-end c = sym (c.put_window.auto.xs ∙ length-replicate {A = ℕ} 32799 0)
 
 pub put_entries-requires : goal.put_entries-requires
-put_entries-requires c = let P = c.requires in (all_fit P.fits.short P.fits.few (sym (slice-aggregate-put-entries c)), P.fits.short)
+put_entries-requires c = let P = c.requires in (all_fit P.fits.short P.fits.few (c.put_window.auto.xs ∙ length-replicate {A = ℕ} 32799 0), P.fits.short)
 
 pub overflow_add-end : goal.overflow_add-end
 overflow_add-end c = let P = c.requires in end_fits P.fits.short P.fits.few
 
 pub slice_bounds-xs-end : goal.slice_bounds-xs-end
 slice_bounds-xs-end c =
-    let P = c.requires in all_fit P.fits.short P.fits.few (c.put_entries.auto.xs ∙ sym (slice-aggregate-put-entries c))
+    let P = c.requires in all_fit P.fits.short P.fits.few (c.put_entries.auto.xs ∙ c.put_window.auto.xs ∙ length-replicate {A = ℕ} 32799 0)
 
 pub slice_bounds-seq-end : goal.slice_bounds-seq-end
 slice_bounds-seq-end c =
     let P = c.requires in
     let A = c.args in
     let xs = c.put_entries.new.xs in
-    let long : length xs ≡ 32799 = c.put_entries.auto.xs ∙ sym (slice-aggregate-put-entries c) in
+    let long : length xs ≡ 32799 = c.put_entries.auto.xs ∙ c.put_window.auto.xs ∙ length-replicate {A = ℕ} 32799 0 in
     sym (length-take-le (A.window.count + entry_count A.log.now) xs (all_fit P.fits.short P.fits.few long))
 
 pub write_bytes-requires : goal.write_bytes-requires
@@ -57,7 +57,7 @@ write_bytes-requires c =
     let P = c.requires in
     let A = c.args in
     let xs = c.put_entries.new.xs in
-    let long : length xs ≡ 32799 = c.put_entries.auto.xs ∙ sym (slice-aggregate-put-entries c) in
+    let long : length xs ≡ 32799 = c.put_entries.auto.xs ∙ c.put_window.auto.xs ∙ length-replicate {A = ℕ} 32799 0 in
     let few : A.window.count ≤ length A.window.pieces = all_there c.put_window.ensures.all P.fits.short in
     asks A.book.now A.n A.window A.log.now few (settleable _ _ P.sound).bounded.fits P.fits
     (take (A.window.count + entry_count A.log.now) xs) _ _
@@ -72,7 +72,7 @@ returns c =
     let P = c.requires in
     let A = c.args in
     let xs = c.put_entries.new.xs in
-    let long : length xs ≡ 32799 = c.put_entries.auto.xs ∙ sym (slice-aggregate-put-entries c) in
+    let long : length xs ≡ 32799 = c.put_entries.auto.xs ∙ c.put_window.auto.xs ∙ length-replicate {A = ℕ} 32799 0 in
     let few : A.window.count ≤ length A.window.pieces = all_there c.put_window.ensures.all P.fits.short in
     let e : take (A.window.count + entry_count A.log.now) xs ≡ sequence A.window A.log.now
     = filled A.window A.log.now few _ xs (all_fit P.fits.short P.fits.few long) c.put_window.ensures c.put_entries.ensures in (

@@ -14,7 +14,7 @@ loop-g-init c = (search rules, search rules, λ a l. absurd (omega arith))
 pub loop-g-preserved : goal.loop-g-preserved
 unfolding bit_at
 loop-g-preserved c =
-    (search rules, search rules, rows_more (λ a v. (k : ℕ) → k < 64 → bit v k ≡ (bit_at c.args.t1 a k || bit_at c.args.t1 k a)) c.loop-g.r c.loop-g.g _ (search rules) c.loop-g.invariant.2 (λ k l. mirror-row c.args.t1 _ k _ (c.column.ensures k l)))
+    (search rules, search rules, rows_more (λ a v. (k : ℕ) → k < 64 → bit v k ≡ (bit_at c.args.x a k || bit_at c.args.x k a)) c.loop-g.r c.loop-g.g _ (search rules) c.loop-g.invariant.2 (λ k l. mirror-row c.args.x _ k _ (c.column.ensures k l)))
 
 pub returns : goal.returns
 unfolding bit_at

@@ -12,7 +12,7 @@ loop-g-init c = (search rules, search rules, λ a l. absurd (omega arith))
 pub loop-g-preserved : goal.loop-g-preserved
 unfolding bit_at
 loop-g-preserved c =
-    (search rules, search rules, rows_more (λ a v. Gathered (get_or c.args.t1 a 0) (get_or c.args.t2 a 0) c.args.t3 v) c.loop-g.r c.loop-g.g _ (search rules) c.loop-g.invariant.2 c.gather.ensures)
+    (search rules, search rules, rows_more (λ a v. Gathered (get_or c.args.y a 0) (get_or c.args.x a 0) c.args.z v) c.loop-g.r c.loop-g.g _ (search rules) c.loop-g.invariant.2 c.gather.ensures)
 
 pub returns : goal.returns
 unfolding bit_at
