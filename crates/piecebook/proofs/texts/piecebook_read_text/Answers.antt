@@ -1,4 +1,5 @@
 -- `piecebook::texts::piecebook_read_text` meets its contract. Assumes nothing.
+use native.Mathlib.Omega.{arith}
 use Rattle.piecebook.proofs.Texting.{reads-records, reads-claims, reads-log, reads_none}
 use Rattle.piecebook.proofs.texts.piecebook_read_text.Goals as goal
 
@@ -12,4 +13,4 @@ pub returns-in-2 : goal.returns-in-2
 returns-in-2 c = reads-log _ c.in-2.is c.read_as-in-2.ensures
 
 pub returns-in_default : goal.returns-in_default
-returns-in_default c = let h = c.in_default in ?
+returns-in_default c = reads_none _ _ _ (omega arith) (omega arith) (omega arith)
