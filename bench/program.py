@@ -1,7 +1,7 @@
 #!/usr/bin/env python3
 """The programs' processor time, in milliseconds: `pbook` at full size, beside `query` where both answer the same claims. Prints a table.
 
-    program.py      runs target/bin/pbook and target/bin/query, which `rt check pbook query` makes
+    program.py      runs crates/pbook/out/pbook and crates/query/out/query, which `rt run` in their folders makes
 """
 import os
 import pathlib
@@ -10,7 +10,7 @@ import statistics
 import subprocess
 import tempfile
 
-BIN = pathlib.Path(__file__).resolve().parent.parent / "target" / "bin"
+CRATES = pathlib.Path(__file__).resolve().parent.parent / "crates"
 PIECES, RECORDS, CLAIMS, ROUNDS = 2048, 8192, 4096, 15
 KINDS = ("", "part", "apart", "meets", "notpart")
 
@@ -42,7 +42,7 @@ def main():
         for name, facts in (("book.rec", tree), ("line.rec", line)):
             (room / name).write_bytes(b"".join(six(*f) for f in facts))
         (room / "tree.txt").write_text("".join(f"{KINDS[k]} {a} {b}\n" for k, a, b in tree))
-        pbook, query = str(BIN / "pbook"), str(BIN / "query")
+        pbook, query = (str(CRATES / name / "out" / name) for name in ("pbook", "query"))
         rows = (
             ("`query`, 4,096 claims", [query], claims),
             ("`pbook ask`, the same", [pbook, "ask", "book.rec"], claims),

@@ -13,8 +13,8 @@ import sys
 ROOT = pathlib.Path(__file__).resolve().parent.parent
 CRATES = ROOT / "crates"
 SECTION = "## What a reader must believe"
-# `use Rattle·CRATE.specs.FILE.{a, b}`, `.. as name`; within its own crate a file is Rattle·CRATE·specs.specs.FILE
-USE = re.compile(r"^\s*(?:ghost )?(?:pub )?use Rattle·(\w+)(?:·specs)?\.specs\.([^\s{;]+?)(?:\.\{([^}]*)\}|\s+as\s+(\S+?))?;?\s*$", re.M)
+# `use Rattle.CRATE.specs.FILE.{a, b}`, `.. as name`, which may go on over lines; a file is named so in its own crate too
+USE = re.compile(r"^\s*(?:ghost )?(?:(?:pub|unfoldable) )*use Rattle\.(\w+)\.specs\.([^\s{;]+?)(?:\.\{([^}]*)\}|\s+as\s+(\S+?))?;?\s*$", re.M)
 
 
 def uses(text):
@@ -28,9 +28,11 @@ def uses(text):
 
 
 def contract(text, function):
-    """What stands between the head of a function and its body."""
-    head = re.search(rf"^pub (?:extern \"C\" )?fn {function}\((?:.|\n)*?(?=\n\{{| \{{\n)", text, re.M)
-    return head[0] if head else ""
+    """What stands between the head of a function and its body, which begins by a `{` alone, or at the end of a line that begins no clause."""
+    head = re.search(rf"^pub (?:extern \"C\" )?fn {function}[(<]", text, re.M)
+    rest = text[head.start() :] if head else ""
+    body = re.search(r"^\{|^(?! *(?:requires|ensures|ghost)\b).*\{$", rest, re.M)
+    return rest[: body.start() if body and body[0] == "{" else body.end()] if body else ""
 
 
 def public():

@@ -2,26 +2,36 @@
 """Every wrong program of a must-fail edit is refused on its own.
 
 A file crates/NAME/must-fail/*.edit holds wrong programs, one to a paragraph: a comment, then its `file:`, `old:` and `new:` lines.
-rt applies the whole file and asks only that the crate is refused. Here rt's log is read: for each wrong program the proof of the
-function that it changes must be refused at a fact of its own, and not because something below it is not proved. Where the change
+rt applies the whole file and asks only that the crate is refused. Here the file is applied to a copy of the crate, and rattle checks the functions that its wrong
+programs change: of each one the proof must be refused at a fact of its own, and not because something below it is not proved. Where the change
 is outside a function, as in a table, a line `in: FUNCTION` names the function whose proof must be refused. Two wrong programs of
-one function stand in one edit only if they break different facts: a line `at: FACT` of each names its own, as the function's proof does.
+one function stand in one edit only if they break different facts: a line `at: FACT` of each names its own, a goal of the changed function by its name in the
+prover's word; a goal that is proved clause by clause may be named without its clause.
 
-    tests/edits.py             after rt must-fail or rt ci
-    tests/edits.py --missing   names the public functions that other crates call and that have fewer than two wrong programs
+    tests/edits.py [CRATE..]           over the libraries that rt ci left in crates/*/out/, or that rt check built there
+    tests/edits.py --facts [CRATE..]   prints for each edit the functions and facts that are refused, and below them each wrong program with its functions and its fact
+    tests/edits.py --stand             says whether each text stands where it is to be replaced; nothing is proved
+    tests/edits.py --missing           names the public functions that other crates call and that have fewer than two wrong programs
 """
 
+import concurrent.futures
+import os
 import pathlib
 import re
+import shutil
+import subprocess
 import sys
+import tempfile
 
-ROOT = pathlib.Path(__file__).resolve().parent.parent
-CRATES = ROOT / "crates"
-LOGS = ROOT / "target" / "must-fail"
+sys.dont_write_bytecode = True
+from kit import CRATES, kit, listed, words  # noqa: E402
+
 # what antt says of a declaration that only rests on a refused one
-RESTING = "was not admitted (it has holes or undetermined implicits, or was rejected), so this cannot be checked"
+RESTING = "was not admitted"
 # and where a changed program asks for other facts than its proof has: its shape is not kept, and nothing is said of its meaning
-MISFIT = re.compile(r"needs a function \(or path\) type to bind|has no `|has no field|expected type `tie\.(Need|After|At)-")
+MISFIT = re.compile(r"needs a function \(or path\) type to bind|has no `|has no field|is not in scope|can be named from here")
+# KiB of memory that a check takes
+MEMORY = 2_500_000
 
 
 def functions(source):
@@ -69,42 +79,101 @@ class Program:
         self.targets += [tuple(module(file) + [name]) for name in hit]
 
 
-def own_errors(log):
+def applied(crate, edit):
+    """The texts that the edit makes, by their files, and the texts that do not stand once where they are to be replaced."""
+    texts, lost, file, old = {}, [], None, ""
+    for line in edit.read_text().split("\n"):
+        if line.startswith("file: "):
+            file = line[6:].strip()
+        elif line.startswith("old: "):
+            old = line[5:]
+        elif line.startswith("new:"):
+            text = texts.get(file) or (CRATES / crate / file).read_text()
+            if text.count(old) != 1:
+                lost.append(old)
+            texts[file] = text.replace(old, line[4:].removeprefix(" "))
+    return texts, lost
+
+
+def cycle(crate, name):
+    """The functions that are proved together under a name; a function alone has its own."""
+    found = []
+    for source in (CRATES / crate / "src").glob("**/*.rt"):
+        found += re.findall(rf"#\[cycle\({name}\)\](?:\s|#\[[^\]]*\])*(?:pub )?fn (\w+)", source.read_text())
+    return found or [name]
+
+
+def own_errors(crate, log):
     """The functions, as paths, whose own proofs are refused, and at which facts."""
     found = {}
+
+    def refuse(folder, fact=None):
+        *path, name = folder.split("/")
+        for one in cycle(crate, name[1:]) if name.startswith("+") else [name]:
+            found.setdefault(tuple(path + [one]), set()).update([fact] if fact else [])
+
     # an error goes on over lines that name no file
-    for line in re.split(r"\n(?=\S+\.antt:\d+|fn |\w+ \w+::|logic)", log):
-        error = re.match(r"\S*?/proofs/(\S+?)\.antt:\d+:\d+: error: (?:`(\S+?)`: )?(.*)", line, re.S)
+    for text in re.split(r"\n(?=\S+\.antt:\d+|fn |note: |help: |\w+ \w+::|logic|only)", log):
+        error = re.match(r"(?:\./)?proofs/(\S+)/(?:Answers|Invariants|Proof)\.antt:\d+:\d+: error: (?:`(\S+?)`: )?(.*)", text, re.S)
         if error and RESTING not in error[3] and not MISFIT.search(error[3]):
-            parts = error[1].split("/")
-            for name in parts[-2].strip("+").split("+") if len(parts) > 1 else []:
-                found.setdefault(tuple(parts[:-2] + [name]), set()).add(error[2])
-        missing = re.match(r"fn \w+::(\S+): no proof: .*`search` does not close", line)
-        if missing:
-            found.setdefault(tuple(missing[1].split("::")), set())
+            refuse(error[1], error[2])
+        # where the function's files have no answer, and what rattle tries for one finds none
+        left = re.match(r"note: `(\S+?)` of (?:\./)?proofs/(\S+)/(?:Answers|Invariants)\.antt must prove", text)
+        if left:
+            refuse(left[2], left[1])
+        none = re.match(r"fn \w+::(\S+): no proof: (?:.* in (?:\./)?proofs/(\S+)/\w+\.antt; )?.*?`search` did not prove ((?:`[^`]+`(?:, | and )?)+)", text)
+        if none:
+            for fact in re.findall(r"`([^`]+)`", none[3]):
+                refuse(none[2] or none[1].replace("::", "/"), fact)
     return found
 
 
-def try_edit(crate, edit):
-    """What each wrong program of an edit comes to: pairs of its title and a reason, which is empty where it is refused."""
-    log = LOGS / crate / edit.stem / ".log"
+def checked(crate, edit, kept):
+    """What rattle says of the functions that an edit changes, or of the whole crate where it changes a definition, and whether all is proved."""
+    texts, _ = applied(crate, edit)
     programs = [Program(crate, text) for text in edit.read_text().strip().split("\n\n")]
-    if not log.exists():
-        return [(program.title, "rt has no log of it") for program in programs]
-    said = log.read_text(errors="replace")
-    refused = own_errors(said)
+    targets = sorted({"::".join(target) for program in programs for target in program.targets})
+    only = [] if any(program.definitions for program in programs) else [word for target in targets for word in ("--only", target)]
+    with tempfile.TemporaryDirectory(prefix="edit-") as name:
+        room = pathlib.Path(name)
+        for part in ("src", "specs", "proofs"):
+            if (CRATES / crate / part).is_dir():
+                shutil.copytree(CRATES / crate / part, room / part)
+        for file, text in texts.items():
+            (room / file).write_text(text)
+        check = [f"{kit()}/bin/rattle", "check", *words(crate), "--incremental", kept, *only]
+        ran = subprocess.run(check, cwd=room, stdin=subprocess.DEVNULL, stdout=subprocess.PIPE, stderr=subprocess.STDOUT, errors="replace", check=False)
+    return ran.returncode, ran.stdout
+
+
+def is_at(fact, facts):
+    """Whether a fact, or one clause of it, is among these."""
+    return any(other == fact or other.startswith(f"{fact}-clause-") for other in facts)
+
+
+def judged(crate, edit, status, log):
+    """What each wrong program of an edit comes to: pairs of its title and a reason, which is empty where it is refused."""
+    programs = [Program(crate, text) for text in edit.read_text().strip().split("\n\n")]
+    lost = applied(crate, edit)[1]
+    if lost:
+        return [(old, "the text to be replaced does not stand there once") for old in lost]
+    # the last line of a check that came to its end
+    last = log.strip().rsplit("\n", 1)[-1]
+    if status != 1 or not last.startswith(("only=", "logic=not-proved")):
+        return [(program.title, f"the check has status {status} and ends in {last[:200]!r}") for program in programs]
+    refused = own_errors(crate, log)
     results = []
     for program in programs:
         reason = ""
         if not program.title:
             reason = "it has no title"
         elif program.definitions:
-            reason = "" if len(programs) == 1 and "\nlogic=not-proved" in said else "a changed definition stands alone, and is refused"
+            reason = "" if len(programs) == 1 and last.startswith("logic=not-proved") else "a changed definition stands alone, and is refused"
         elif not program.targets:
             reason = "it changes no function, and names none"
         elif not any(target in refused for target in program.targets):
             reason = "no fact of " + " or ".join("::".join(target) for target in program.targets) + " is refused"
-        elif program.fact and not any(program.fact in refused.get(target, ()) for target in program.targets):
+        elif program.fact and not any(is_at(program.fact, refused.get(target, ())) for target in program.targets):
             reason = f"{program.fact} is not refused, but " + ", ".join(sorted(fact for target in program.targets for fact in refused.get(target, ())))
         results.append((program.title, reason))
     for target in {target for program in programs for target in program.targets}:
@@ -134,21 +203,65 @@ def missing():
                     print(f"{crate}::{'::'.join(names + [match[2]])}: {count}")
 
 
-def main():
-    if "--missing" in sys.argv[1:]:
-        missing()
-        return 0
+def stand(edits):
+    """Whether each text that an edit replaces stands once."""
     passed = failed = 0
-    for edit in sorted(CRATES.glob("*/must-fail/*.edit")):
-        crate = edit.parts[len(CRATES.parts)]
-        for title, reason in try_edit(crate, edit):
-            if reason:
-                print(f"{crate}/{edit.stem}: {title}: {reason}")
-                failed += 1
-            else:
-                passed += 1
+    for crate, edit in edits:
+        lost = applied(crate, edit)[1]
+        for old in lost:
+            print(f"{crate}/{edit.stem}: {old}")
+        passed, failed = passed + edit.read_text().count("\nold: ") - len(lost), failed + len(lost)
     print(f"{passed} passed, {failed} failed")
     return 1 if failed or not passed else 0
 
 
-sys.exit(main())
+def facts(crate, edit, log):
+    """The refused functions and facts of an edit, and its wrong programs."""
+    print(f"== {crate}/{edit.stem}")
+    for target, names in sorted(own_errors(crate, log).items()):
+        print(f"{'::'.join(target)}: {' '.join(sorted(names))}")
+    for text in edit.read_text().strip().split("\n\n"):
+        program = Program(crate, text)
+        print(f"   {program.title}: {' '.join('::'.join(target) for target in program.targets) or 'a definition'}" + (f" at {program.fact}" if program.fact else ""))
+
+
+def tried(crate, edits):
+    """What is said of a crate's edits, one after the other: what the check of one proves serves the next."""
+    with tempfile.TemporaryDirectory(prefix="edits-") as kept:
+        return [(crate, edit, *checked(crate, edit, kept)) for edit in edits]
+
+
+def main():
+    flags = [word for word in sys.argv[1:] if word.startswith("-")]
+    names = [word for word in sys.argv[1:] if not word.startswith("-")]
+    if set(flags) - {"--facts", "--stand", "--missing"} or set(names) - set(listed()):
+        sys.exit(__doc__)
+    if "--missing" in flags:
+        missing()
+        return 0
+    edits = [(edit.parts[len(CRATES.parts)], edit) for edit in sorted(CRATES.glob("*/must-fail/*.edit"))]
+    if "--stand" in flags:
+        return stand(edits)
+    crates = {crate: [edit for other, edit in edits if other == crate] for crate in sorted({crate for crate, _ in edits}) if not names or crate in names}
+    for crate in crates:
+        words(crate)
+    # the longest first
+    size = {crate: len(crates[crate]) * sum(path.stat().st_size for path in (CRATES / crate).glob("proofs/**/*.antt")) for crate in crates}
+    room = int(re.search(r"MemAvailable: *(\d+)", pathlib.Path("/proc/meminfo").read_text())[1]) // MEMORY
+    passed = failed = 0
+    with concurrent.futures.ThreadPoolExecutor(max(min(len(os.sched_getaffinity(0)), room), 1)) as pool:
+        runs = [pool.submit(tried, crate, crates[crate]) for crate in sorted(crates, key=lambda crate: -size[crate])]
+        for run in concurrent.futures.as_completed(runs):
+            for crate, edit, status, log in run.result():
+                if "--facts" in flags:
+                    facts(crate, edit, log)
+                for title, reason in judged(crate, edit, status, log):
+                    if reason:
+                        print(f"{crate}/{edit.stem}: {title}: {reason}", flush=True)
+                    passed, failed = passed + (not reason), failed + bool(reason)
+    print(f"{passed} passed, {failed} failed")
+    return 1 if failed or not passed else 0
+
+
+if __name__ == "__main__":
+    sys.exit(main())

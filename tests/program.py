@@ -2,7 +2,7 @@
 """Runs the question program as a user does, in a directory of its own each time, and compares every byte that it writes with document 01's words. On standard error it
 writes nothing, but where its page cannot be written whole.
 
-    program.py [BINARY]     target/bin/query where none is given; the last line is 'N passed, M failed'
+    program.py [BINARY]     crates/query/out/query where none is given; the last line is 'N passed, M failed'
 
 Small books are judged here by the rules one after another; large ones are made so that their answers are known beforehand; document 01's edges are those of edges.py.
 """
@@ -259,7 +259,7 @@ def unwritten(session, asked):
 
 
 def main():
-    binary = str(pathlib.Path(sys.argv[1] if len(sys.argv) > 1 else ROOT / "target" / "bin" / "query").resolve())
+    binary = str(pathlib.Path(sys.argv[1] if len(sys.argv) > 1 else ROOT / "crates" / "query" / "out" / "query").resolve())
     passed = failed = 0
 
     def count(name, good, text=""):

@@ -104,7 +104,7 @@ def _function(name: str):
     result, arguments, matrices = _CALLS[name]
     symbol = f"piecebook_{name}_with" if matrices else f"piecebook_{name}"
     where = path()
-    hint = f"run 'rt staticlib piecebook' and then 'python/build', or set {VARIABLE} to the library's file"
+    hint = f"run 'rt lib' in crates/piecebook and then 'python/build', or set {VARIABLE} to the library's file"
     try:
         function = getattr(ctypes.CDLL(str(where)), symbol)
     except OSError as problem:

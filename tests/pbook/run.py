@@ -1,7 +1,7 @@
 #!/usr/bin/env python3
 """Runs `pbook` as its users do, and holds every byte that it prints and writes against a reference written from documents 01 to 03.
 
-    run.py [BINARY]     target/bin/pbook where none is given; the last line is 'N passed, M failed'
+    run.py [BINARY]     crates/pbook/out/pbook where none is given; the last line is 'N passed, M failed'
 
 It wants a C compiler for the tracer, which ends the program, or has a system call fail, at each call in turn; as root it tries what nobody may do, too.
 """
@@ -32,7 +32,7 @@ def every_line(lab):
 
 def main():
     os.umask(0o022)
-    binary = sys.argv[1] if len(sys.argv) > 1 else HERE.parent.parent / "target" / "bin" / "pbook"
+    binary = sys.argv[1] if len(sys.argv) > 1 else HERE.parent.parent / "crates" / "pbook" / "out" / "pbook"
     os.environ["PBOOK"] = str(pathlib.Path(binary).resolve())
     lab = Lab(os.environ["PBOOK"])
     try:
