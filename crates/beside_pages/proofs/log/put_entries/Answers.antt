@@ -2,7 +2,6 @@
 use borrow.Author.Rules.{rules}
 use native.Mathlib.Omega.{arith}
 use mathlib.Core.Path.{ap}
-use Prim.Native.Nat.{◌-◌}
 use Rattle.pages.proofs.Puts.{put_as}
 use Rattle.beside_pages.specs.LogText.{entry_lines}
 use Rattle.beside_pages.proofs.LogTexts.{no-entry, next-entry, entries-width}

@@ -1,7 +1,6 @@
 -- `grid::put_rows` meets its contract: the loop keeps that the first a lines are put. Assumes nothing.
 use borrow.Author.Rules.{rules}
 use native.Mathlib.Omega.{arith}
-use Prim.Native.Nat.{◌-◌}
 use mathlib.Core.Path.{ap}
 use mathlib.Core.List.{[], ◌∷◌}
 use Rattle.pages.proofs.Puts.{chain, put_as}
@@ -15,8 +14,7 @@ loop-a-init c = (no_line _, search rules)
 
 pub loop-a-preserved : goal.loop-a-preserved
 unfolding rows row
-loop-a-preserved c =
-    (
+loop-a-preserved c = (
   next-line _ c.loop-a.a c.loop-a.invariant.0
       (chain (put_as (ap (λ x. x ∷ []) c.tens.ensures) c.put_byte-end.ensures)
       (chain (chain (put_as (ap (λ x. x ∷ []) c.ones.ensures) c.put_byte-end-in-loop-a.ensures) c.put_byte-end-in-loop-a-2.ensures)

@@ -1,7 +1,6 @@
 -- `grid::put_signs` meets its contract: the loop keeps that the first b signs are put. Assumes nothing.
 use borrow.Author.Rules.{rules}
 use native.Mathlib.Omega.{arith}
-use Prim.Native.Nat.{◌-◌}
 use mathlib.Core.Path.{ap}
 use mathlib.Core.List.{[], ◌∷◌}
 use Rattle.pages.proofs.Puts.{put_as}

@@ -1,7 +1,6 @@
 -- `listing::put_numbers` meets its contract: the loop keeps that the first i numbers are put. Assumes nothing.
 use borrow.Author.Rules.{rules}
 use native.Mathlib.Omega.{arith}
-use Prim.Native.Nat.{◌-◌}
 use mathlib.Core.Path.{ap}
 use Rattle.pages.proofs.Puts.{put_as}
 use Rattle.pages.proofs.Lined.{no_line, next-line}
