@@ -14,15 +14,13 @@ pub find_close-requires : goal.find_close-requires
 find_close-requires c = (search rules, search rules, sym c.get.ensures ∙ c.if-not-get.false)
 
 pub returns-in_default : goal.returns-in_default
-returns-in_default c =
-    (
+returns-in_default c = (
   λ d. mul_comm _ 8 ∙ ap (position_of _) (sym c.in_default.is ∙ c.find_close.ensures),
   λ n. absurd (n (search rules, search rules, sym c.get.ensures ∙ c.if-not-get.false)),
 )
 
 pub returns : goal.returns
-returns c =
-    (
+returns c = (
   λ d. ap (position_of _) (sym c.in-At.is ∙ c.find_close.ensures),
   λ n. absurd (n (search rules, search rules, sym c.get.ensures ∙ c.if-not-get.false)),
 )

@@ -11,13 +11,12 @@ pub returns-then-not-same-3 : goal.returns-then-not-same-3
 returns-then-not-same-3 c = (λ e. absurd (false≢true e), λ e s. c.same-3.ensures.1 (c.if-not-same-3.true) s.2)
 
 pub returns : goal.returns
-returns c =
-    (
-      λ e. (
-        c.same.ensures.0 (c.if-not-same.false),
-        c.same-2.ensures.0 (c.if-not-same-2.false),
-        c.same-3.ensures.0 (c.if-not-same-3.false),
-        c.same-4.ensures.0 e,
-      ),
-      λ e s. c.same-4.ensures.1 e s.3,
-    )
+returns c = (
+  λ e. (
+    c.same.ensures.0 (c.if-not-same.false),
+    c.same-2.ensures.0 (c.if-not-same-2.false),
+    c.same-3.ensures.0 (c.if-not-same-3.false),
+    c.same-4.ensures.0 e,
+  ),
+  λ e s. c.same-4.ensures.1 e s.3,
+)
