@@ -72,6 +72,16 @@ def plain(lab):
         lab.count(f"a path of {length} bytes", out == b"" and err.startswith(b"aaa") and err.endswith(b": File name too long\n"), (out, err[-50:]))
         out, err, _ = lab.run(room, "add", "a" * length, "PART", "1", "0")
         lab.count(f"an addition to a path of {length} bytes", out == b"" and err.startswith(b"aaa") and err.endswith(b": File name too long\n"), (out, err[-50:]))
+    # std opens files whose names are UTF-8 alone; words may be any bytes
+    name = "bücher.rec".encode()
+    (room / name.decode()).write_bytes(b"")
+    lab.page("a name in UTF-8", "RECORDS 1 PIECES 2\n", room, "add", name, "PART", "1", "0")
+    lab.page("words that are no text", "WORDS UNREAD not a kind\n", room, "add", "b.rec", b"\xff", "1", "0")
+    for command, words, suffix in (("check", [], b""), ("new", [], b""), ("add", ["PART", "1", "0"], b".lock"), ("pack", ["out"], b"")):
+        before = held(room)
+        out, err, _ = lab.run(room, command, b"\xff.rec", *words)
+        said = b"\xff.rec" + suffix + b": Invalid or incomplete multibyte or wide character\n"
+        lab.count(f"{command} of a name that is no text", out == b"" and err == said and held(room) == before, (out, err))
     # the words first, then the lock, then the book
     (room / "b.rec.lock").write_bytes(b"x")
     (room / "none.lock").write_bytes(b"x")
@@ -134,6 +144,8 @@ def outputs(lab):
         lab.count(f"new {redirection}", out == b"" and err == error and held(room) == {"b.rec": (oct(0o100644), b"")}, (out, err, held(room)))
     room = lab.room()
     (room / "b.rec").write_bytes(BOOK)
+    out, err, _ = lab.shell(room, '{ sleep 0.3; "$PBOOK" show b.rec; } | :')
+    lab.count("a pipe that nobody reads", out == b"" and err == b"standard output: Broken pipe\n", (out, err))
     for line, error in (("ask b.rec <&-", "standard input: Bad file descriptor"), ("replicates b.rec <&-", "standard input: Bad file descriptor"), ("compare b.rec b.rec <&-", "standard input: Bad file descriptor"), ("ask b.rec < .", "standard input: Is a directory")):
         out, err, _ = lab.shell(room, f'"$PBOOK" {line}')
         lab.count(line, out == b"" and err.decode() == error + "\n", (out, err))
@@ -237,14 +249,14 @@ def killed(lab, trace):
 
 def failing(lab, trace):
     """Each system call in turn fails: what matters is told, the book is the old one then, and no lock is left."""
-    names = {0: "read", 1: "write", 2: "open", 3: "close", 4: "stat", 74: "fsync", 82: "rename", 89: "readlink", 91: "fchmod", 257: "openat", 262: "newfstatat"}
+    names = {0: "read", 1: "write", 2: "open", 3: "close", 4: "stat", 74: "fsync", 82: "rename", 87: "unlink", 89: "readlink", 91: "fchmod", 257: "openat", 262: "newfstatat", 332: "statx"}
     for command, words in (*CHANGES, ("new", ["n.rec"])):
         room = lab.room()
         (room / "b.rec").write_bytes(BOOK)
         run = subprocess.run(["sh", "-c", 'exec "$@" 3> calls', "sh", trace, "list", lab.binary, command, *words], cwd=room, capture_output=True, check=False)
         calls = [int(line) for line in (room / "calls").read_text().split()]
-        # from the first file that the program itself opens: behind the loader's
-        first = next(i for i in range(len(calls) - 1, -1, -1) if calls[i] in (9, 11, 12, 158, 218, 273, 302, 318, 334)) + 1
+        # from the first file that the program itself opens: behind the calls of the loader and of std's start, the last of which (13, rt_sigaction) has the system tell a closed pipe
+        first = next(i for i in range(len(calls) - 1, -1, -1) if calls[i] in (9, 11, 12, 13, 158, 218, 273, 302, 318, 334)) + 1
         mine = [names.get(call, str(call)) for call in calls[first:]]
         wanted = ["openat", "fsync", "close", "write"] if command == "new" else ["openat", "read", "write", "fchmod", "fsync", "rename"]
         lab.count(f"{command}: its calls are seen", run.returncode == 0 and all(name in mine for name in wanted), (run, mine))

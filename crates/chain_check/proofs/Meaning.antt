@@ -20,7 +20,7 @@ use Rattle.records.specs.Facts.{facts}
 use Rattle.records.specs.Kept.{picked}
 use Rattle.records.specs.Marked.{marked}
 use Rattle.records.proofs.Keeps.{picked-among}
-use Rattle.records.proofs.Accepted.{accepted, accepted-claims}
+use Rattle.records.proofs.Accepted.{accepted-claims}
 use Rattle.contradiction.proofs.SettlingLaws.{settleable, whole-unmarked}
 use Rattle.outcomes.specs.declared.Outcome.{Outcome}
 use Rattle.outcomes.specs.declared.Outcome.TheVariants.{Accepted, Refused}

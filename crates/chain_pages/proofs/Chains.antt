@@ -21,7 +21,7 @@ use Rattle.outcomes.specs.One.{refuse_if, by_one}
 use Rattle.outcomes.specs.declared.Outcome.{Outcome}
 use Rattle.chain_check.specs.Call.{asked}
 use Rattle.chain_writing.specs.Call.{reply_of, reply, shown, Written}
-use Rattle.chain_writing.specs.declared.Reply.TheVariants.{Answered, Refused}
+use Rattle.chain_writing.specs.declared.Reply.TheVariants.{Answered}
 use Rattle.chain_writing.specs.declared.Chain.{Chain}
 use Rattle.chain_pages.specs.Verified.{said}
 use Rattle.chain_pages.specs.Why.{Whole, Shown}

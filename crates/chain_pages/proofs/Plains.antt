@@ -8,7 +8,7 @@ use lib.Dec.{eqb, ltb}
 use lib.ListN.{length, get_or}
 use borrow.Author.Tests.{eqb-true}
 use Rattle.lists.proofs.Bools.{Known, is_true, is_false, known, and_both}
-use Rattle.rules.specs.Fact.{Fact, PART, APART, MEETS, NOTPART, kind}
+use Rattle.rules.specs.Fact.{Fact, PART, APART, MEETS, NOTPART}
 use Rattle.records.specs.Record.{record_at}
 use Rattle.records.specs.Facts.{saying}
 use Rattle.records.specs.Pieces.{stated}

@@ -1,18 +1,13 @@
 -- The call put together: the steps as a run of their own, the answer, and the rows. Assumes nothing.
-use Prim.Native.Nat.{ℕ, zero, suc, ◌+◌, ◌-◌, ◌*◌, ◌%◌, ◌≤◌, ◌<◌}
-use mathlib.Core.Path.{◌≡◌, refl, sym, ap, ap₂, subst, ◌∙◌}
+use Prim.Native.Nat.{ℕ, ◌-◌, ◌*◌, ◌≤◌, ◌<◌}
+use mathlib.Core.Path.{◌≡◌, refl, sym, ap, subst, ◌∙◌}
 use mathlib.Core.Logic.{◌⊎◌, inl, inr}
-use mathlib.Core.Bool.{Bool, true, false, ◌||◌, false≢true}
-use mathlib.Core.List.{List, ◌++◌}
+use mathlib.Core.Bool.{Bool, true, false, false≢true}
+use mathlib.Core.List.{List}
 use native.Mathlib.Omega.{arith}
-use native.Mathlib.Decide.{dec_lt}
-use lib.Dec.{leb}
-use lib.ListN.{length, get_or, take, drop, get_or-append}
-use lib.Seq.{length-take-le, get_or-take, get_or-drop, get_or-append-add, ext_get_or}
-use borrow.Author.Tests.{eq-eqb, le-leb, leb-true, lt-ltb, le-ltb}
-use Rattle.lists.specs.Front.{front}
-use Rattle.lists.proofs.Bools.{and_both, both-and, left_or, right_or}
-use Rattle.lists.proofs.Fronts.{front-none, front_length}
+use lib.ListN.{length, take}
+use borrow.Author.Tests.{lt-ltb, le-ltb}
+use Rattle.lists.proofs.Fronts.{front-none}
 use Rattle.rules.specs.Fact.{Fact, fact_of, opposite, Within}
 use Rattle.rules.specs.Follows.{follows, clash}
 use Rattle.rules.specs.Verdict.{judge, verdict}
@@ -44,13 +39,9 @@ use Rattle.outcomes.specs.Call.{by_runs}
 use Rattle.outcomes.specs.One.{refuse_if}
 use Rattle.outcomes.specs.declared.Outcome.TheVariants as call
 use Rattle.answers.proofs.Judges.{refuses, accepts}
-use Rattle.chain_format.specs.declared.steps.Step.{Step}
-use Rattle.chain_format.specs.Step.{step_at, steps, showing, shows}
-use Rattle.chain_format.specs.Citing.{Cited, citing}
-use Rattle.chain_format.specs.Chain.{all_ok, concludes, chain_ok}
-use Rattle.chain_format.specs.Twice.{alike, Differ, NoneTwice}
+use Rattle.chain_format.specs.Citing.{citing}
+use Rattle.chain_format.specs.Twice.{Differ}
 use Rattle.chain_check.specs.Call.{asked}
-use Rattle.chain_format.proofs.Kept.{step_kept, all-kept}
 use Rattle.chain_format.proofs.Passing.{all_none}
 use Rattle.chain_check.proofs.Asking.{asked-refused, asked-misfit, asked-claim, asked-runs, passes-chain}
 use Rattle.chain_writing.specs.declared.Reply.{Reply}

@@ -1,15 +1,13 @@
 -- The new books, by the cases of what is read, of the words and of the outcome. Assumes nothing.
-use Prim.Native.Nat.{ℕ, ◌+◌, ◌*◌, ◌-◌, ◌/◌, ◌%◌, ◌≤◌, ◌<◌, min}
+use Prim.Native.Nat.{ℕ, ◌+◌, ◌*◌, ◌-◌, ◌/◌, ◌%◌, ◌≤◌, ◌<◌}
 use mathlib.Core.Path.{◌≡◌, ◌∙◌, ap, sym}
 use mathlib.Core.Bool.{Bool, true, false}
 use mathlib.Core.List.{List, [], ◌++◌}
 use native.Mathlib.Omega.{arith}
-use native.Mathlib.Decide.{dec_lt}
 use lib.Dec.{ltb, leb}
 use lib.ListN.{length, take, drop, length-append, length-drop}
 use lib.Seq.{take_all, length-take-le}
 use borrow.Author.Tests.{eq-eqb, ne_eqb, lt-ltb, le-ltb, le-leb, lt-leb}
-use Rattle.records.specs.declared.Record.{Record}
 use Rattle.records.specs.Record.{records}
 use Rattle.records.specs.declared.Refusal.{Refusal}
 use Rattle.records.specs.declared.Refusal.TheVariants.{ShortBuffer, BookLength, TooManyRecords, Contradiction, NotStanding}
@@ -31,16 +29,12 @@ use Rattle.parentheses.specs.Padded.{padded}
 use Rattle.working.proofs.RunsLaws.{padded-front}
 use Rattle.convert.specs.declared.Conversion.{Conversion}
 use Rattle.convert.specs.declared.Conversion.TheVariants as to
-use Rattle.text.specs.declared.Form.TheVariants.{Records, Log}
-use Rattle.text.specs.Entry.{six_bytes}
+use Rattle.text.specs.declared.Form.TheVariants.{Records}
 use Rattle.text.specs.Text.{Entries}
-use Rattle.text.specs.Either.{is_text, read_either}
+use Rattle.text.specs.Either.{read_either}
 use Rattle.sentences.specs.Refusals.{refused}
 use Rattle.sentences.specs.Unread.{unread_line}
 use Rattle.sentences.specs.Sources.{Breaks}
-use Rattle.sentences.specs.Arguments.{words_of}
-use Rattle.sentences.specs.declared.sources.Words.{Words}
-use Rattle.sentences.specs.declared.sources.Words.TheVariants.{Entry, Wrong}
 use Rattle.change_pages.specs.Change.{New, Kept}
 use Rattle.change_pages.specs.Changes.{judged, packing, by_conversion, converting, without, withdrawn}
 

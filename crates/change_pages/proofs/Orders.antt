@@ -1,5 +1,5 @@
 -- What the words order, by their cases and those of the source; and the changes that are made by it. Assumes nothing.
-use Prim.Native.Nat.{ℕ, ◌≤◌, ◌<◌, min}
+use Prim.Native.Nat.{ℕ, ◌≤◌, min}
 use mathlib.Core.Path.{◌≡◌, ◌∙◌, ap, sym, subst}
 use mathlib.Core.Bool.{true, false}
 use mathlib.Core.List.{List, [], ◌++◌}
@@ -19,7 +19,7 @@ use Rattle.sentences.specs.declared.sources.Words.{Words}
 use Rattle.sentences.specs.declared.sources.Words.TheVariants.{Entry, Wrong}
 use Rattle.change_pages.specs.declared.Order.{Order}
 use Rattle.change_pages.specs.declared.Order.TheVariants.{Edit, Unread}
-use Rattle.change_pages.specs.Change.{Change, Kept}
+use Rattle.change_pages.specs.Change.{Kept}
 use Rattle.change_pages.specs.Changes.{judged, of_records, adding, without, withdrawn, withdrawing}
 use Rattle.change_pages.specs.Order.{Ordered}
 

@@ -2,9 +2,18 @@
 ghost use Rattle.io.specs.Counts.{IsPrefixLen};
 
 use crate::modes;
+use std::fs::{File, OpenOptions, Permissions};
+use std::io::ErrorKind;
+use std::os::unix::fs::PermissionsExt;
+use std::{fs, io};
 
 // The bits of a mode that chmod sets.
 const MODE_BITS: u32 = 4096;
+
+// The bits of a mode that say what kind of file it is, and what they are of a plain one.
+const KIND: u32 = 0o170000;
+
+const PLAIN: u32 = 0o100000;
 
 // The bytes of ".lock", and of the longest name with it.
 const LOCK_SUFFIX: usize = 5;
@@ -20,46 +29,63 @@ pub enum Standing {
 }
 
 // What stands under a name. What is neither missing nor a plain file is told: it is left as it is.
-pub fn look_at(name: &[u8]) -> Standing {
-    if modes::is_link(name) {
-        crate::tell(name, b": a link: name the file that it leads to\n");
-        return Standing::Other;
+pub fn look_at(rt: &HostRuntime, name: &[u8]) -> Standing {
+    match modes::is_link(rt, name) {
+        Ok(true) => {
+            crate::tell(rt, name, b": a link: name the file that it leads to\n");
+            return Standing::Other;
+        }
+        Ok(false) => {}
+        Err(e) => {
+            if e.kind() == ErrorKind::NotFound {
+                return Standing::Missing;
+            }
+            crate::fail(rt, name, &e);
+            return Standing::Other;
+        }
     }
-    let why = os::errno();
-    if why == libc::ENOENT {
-        return Standing::Missing;
-    }
-    // what reading a link says of anything else that is there
-    if why != libc::EINVAL {
-        os::fail(name);
-        return Standing::Other;
-    }
-    let mode = modes::mode_of(name);
-    if mode == 0 {
-        os::fail(name);
-        return Standing::Other;
-    }
-    if mode & libc::S_IFMT == libc::S_IFREG {
+    let mode = match modes::mode_of(rt, name) {
+        Ok(mode) => mode,
+        Err(e) => {
+            crate::fail(rt, name, &e);
+            return Standing::Other;
+        }
+    };
+    if mode & KIND == PLAIN {
         return Standing::Plain(mode % MODE_BITS);
     }
-    crate::tell(name, b": not a plain file\n");
+    crate::tell(rt, name, b": not a plain file\n");
     Standing::Other
 }
 
+// A new file, to be written, where there is none.
+fn create(rt: &HostRuntime, name: &[u8]) -> io::Result<File> {
+    OpenOptions::new()
+        .write(true)
+        .create_new(true)
+        .open(rt, modes::path_of(name)?)
+}
+
+// Takes away what stands under a name.
+fn unlink(rt: &HostRuntime, name: &[u8]) -> io::Result<()> {
+    fs::remove_file(rt, modes::path_of(name)?)
+}
+
 // Makes an empty file where there is none.
-pub fn make_empty(name: &[u8]) -> bool {
-    let file = os::create(name);
-    if file < 0 {
-        os::fail(name);
+pub fn make_empty(rt: &HostRuntime, name: &[u8]) -> bool {
+    let file = match create(rt, name) {
+        Ok(file) => file,
+        Err(e) => {
+            crate::fail(rt, name, &e);
+            return false;
+        }
+    };
+    if let Err(e) = file.sync_all() {
+        crate::fail(rt, name, &e);
+        let _ = unlink(rt, name);
         return false;
     }
-    let synced = libc::fsync(file) == 0;
-    if synced == false {
-        os::fail(name);
-        os::unlink(name);
-    }
-    libc::close(file);
-    synced
+    true
 }
 
 // The name of a file's lock; of no bytes where the buffer is too short. A buffer of 4,101 bytes has room for one that is longer than a path may be, so that making it tells its name.
@@ -73,117 +99,124 @@ fn lock_name(name: &[u8], lock: &mut [u8]) -> usize
     if lock.len() - LOCK_SUFFIX < n {
         return 0;
     }
-    bytes::copy(name, lock);
-    bytes::copy(b".lock", &mut lock[n..]);
+    lock[..n].copy_from_slice(name);
+    lock[n..][..LOCK_SUFFIX].copy_from_slice(b".lock");
     n + LOCK_SUFFIX
 }
 
 // Tells that a lock cannot be made, and where it is there what to do.
-fn tell_taken(lock: &[u8]) {
-    let taken = os::errno() == libc::EEXIST;
-    os::fail(lock);
-    if taken {
-        crate::tell(b"remove ", lock);
-        crate::tell(b" where no other pbook runs", b"\n");
+fn tell_taken(rt: &HostRuntime, lock: &[u8], error: &io::Error) {
+    crate::fail(rt, lock, error);
+    if error.kind() == ErrorKind::AlreadyExists {
+        crate::tell(rt, b"remove ", lock);
+        crate::tell(rt, b" where no other pbook runs", b"\n");
     }
 }
 
-// Makes the lock of a file, a new file itself, and answers its descriptor, or a negative number, told, where that cannot be done.
-pub fn make_lock(name: &[u8]) -> i32 {
+// Makes the lock of a file, a new file itself; none, which is told, where that cannot be done.
+pub fn make_lock(rt: &HostRuntime, name: &[u8]) -> Option<File> {
     let mut lock = [0u8; LOCK_BYTES];
     let n = lock_name(name, &mut lock);
-    let file = os::create(&lock[..n]);
-    if file < 0 {
-        tell_taken(&lock[..n]);
+    match create(rt, &lock[..n]) {
+        Ok(file) => Some(file),
+        Err(e) => {
+            tell_taken(rt, &lock[..n], &e);
+            None
+        }
     }
-    file
 }
 
 // Takes back a lock that was made here.
-pub fn drop_lock(file: i32, name: &[u8]) {
-    libc::close(file);
+pub fn drop_lock(rt: &HostRuntime, file: File, name: &[u8]) {
+    drop(file);
     let mut lock = [0u8; LOCK_BYTES];
     let n = lock_name(name, &mut lock);
-    os::unlink(&lock[..n]);
+    let _ = unlink(rt, &lock[..n]);
 }
 
 // The first n bytes, the mode, and both on the device.
-fn fill(file: i32, bytes: &[u8], n: usize, mode: u32) -> bool {
-    if crate::write_front(file, bytes, n) {
-        if libc::fchmod(file, mode) == 0 {
-            return libc::fsync(file) == 0;
-        }
-    }
-    false
+fn fill(file: &mut File, bytes: &[u8], n: usize, mode: u32) -> io::Result<()> {
+    crate::write_front(file, bytes, n)?;
+    file.set_permissions(Permissions::from_mode(mode))?;
+    file.sync_all()
+}
+
+// Puts one name in the place of another.
+fn rename(rt: &HostRuntime, from: &[u8], to: &[u8]) -> io::Result<()> {
+    fs::rename(rt, modes::path_of(from)?, modes::path_of(to)?)
 }
 
 // Puts a lock that is filled and closed in the place of its file.
-fn rename_lock(name: &[u8]) -> bool {
+fn rename_lock(rt: &HostRuntime, name: &[u8]) -> bool {
     let mut lock = [0u8; LOCK_BYTES];
     let n = lock_name(name, &mut lock);
-    if os::rename(&lock[..n], name) == 0 {
-        return true;
+    if let Err(e) = rename(rt, &lock[..n], name) {
+        crate::fail(rt, name, &e);
+        let _ = unlink(rt, &lock[..n]);
+        return false;
     }
-    os::fail(name);
-    os::unlink(&lock[..n]);
-    false
+    true
 }
 
 // Tells of the lock what the system says.
-fn fail_lock(name: &[u8]) {
+fn fail_lock(rt: &HostRuntime, name: &[u8], error: &io::Error) {
     let mut lock = [0u8; LOCK_BYTES];
     let n = lock_name(name, &mut lock);
-    os::fail(&lock[..n]);
+    crate::fail(rt, &lock[..n], error);
 }
 
 // Writes the first n bytes to the lock and puts it in the file's place. Where that fails it is told, the lock is taken back, and the file is as it was.
 pub fn keep(
-    file: i32,
+    rt: &HostRuntime,
+    mut file: File,
     name: &[u8],
     bytes: &[u8; crate::CONTENT_BYTES],
     n: usize,
     mode: u32,
 ) -> bool {
-    let filled = fill(file, bytes, n, mode);
-    if filled == false {
-        fail_lock(name);
-        drop_lock(file, name);
+    if let Err(e) = fill(&mut file, bytes, n, mode) {
+        fail_lock(rt, name, &e);
+        drop_lock(rt, file, name);
         return false;
     }
-    libc::close(file);
-    rename_lock(name)
+    drop(file);
+    rename_lock(rt, name)
 }
 
 // The mode of a file that is made from another: the other's, or its owner's alone where that is no plain file.
-fn mode_for(name: &[u8]) -> Standing {
-    let mode = modes::mode_of(name);
-    if mode == 0 {
-        os::fail(name);
-        return Standing::Other;
+fn mode_for(rt: &HostRuntime, name: &[u8]) -> Standing {
+    match modes::mode_of(rt, name) {
+        Ok(mode) => {
+            if mode & KIND == PLAIN {
+                return Standing::Plain(mode % MODE_BITS);
+            }
+            Standing::Plain(0o600)
+        }
+        Err(e) => {
+            crate::fail(rt, name, &e);
+            Standing::Other
+        }
     }
-    if mode & libc::S_IFMT == libc::S_IFREG {
-        return Standing::Plain(mode % MODE_BITS);
-    }
-    Standing::Plain(0o600)
 }
 
 // The same, under the name of a file that may be missing, with the mode of the file `from`.
 pub fn keep_from(
-    file: i32,
+    rt: &HostRuntime,
+    file: File,
     name: &[u8],
     bytes: &[u8; crate::CONTENT_BYTES],
     n: usize,
     from: &[u8],
 ) -> bool {
-    let standing = look_at(name);
+    let standing = look_at(rt, name);
     if let Standing::Other = standing {
-        drop_lock(file, name);
+        drop_lock(rt, file, name);
         return false;
     }
-    let read = mode_for(from);
+    let read = mode_for(rt, from);
     let Standing::Plain(mode) = read else {
-        drop_lock(file, name);
+        drop_lock(rt, file, name);
         return false;
     };
-    keep(file, name, bytes, n, mode)
+    keep(rt, file, name, bytes, n, mode)
 }

@@ -1,81 +1,40 @@
 // What stands under a name: its kind and who may use it.
-ghost use Rattle.std.specs.Prelude.{◌≤◌, length};
-ghost use Rattle.libc.specs.Io.{Ended};
+ghost use Rattle.std.specs.Prelude.{◌≡◌, ◌≤◌, length, IfOk};
 ghost use Rattle.files.specs.Sizes.{PATH-BYTES};
 
-use libc::types::{stat, timespec};
+use std::io::Error;
+use std::os::unix::fs::MetadataExt;
+use std::{fs, io};
 
-// The longest path, and its room with the zero behind it.
+// The longest path.
 const PATH_BYTES: usize = 4095;
 
-const PATH_ROOM: usize = 4096;
+// What the system says of a path that is longer, and of one that is no text: std gives it text alone.
+const ENAMETOOLONG: i32 = 36;
 
-// Room for what the system says of a file.
-fn blank() -> stat {
-    let never = timespec {
-        tv_sec: 0,
-        tv_nsec: 0,
-    };
-    let rest = [0i64; 3];
-    stat {
-        st_dev: 0,
-        st_ino: 0,
-        st_nlink: 0,
-        st_mode: 0,
-        st_uid: 0,
-        st_gid: 0,
-        __pad: 0,
-        st_rdev: 0,
-        st_size: 0,
-        st_blksize: 0,
-        st_blocks: 0,
-        st_atim: never,
-        st_mtim: never,
-        st_ctim: never,
-        __unused: rest,
-    }
-}
+const EILSEQ: i32 = 84;
 
-// The kind and the mode, or 0 where the system gave no answer.
-fn told(status: i32, s: stat) -> u32 {
-    if status == 0 {
-        return s.st_mode;
-    }
-    0
-}
-
-// What the system says of the file that the path leads to.
-fn look(path: &[u8; PATH_ROOM], mut s: stat) -> u32
-    requires { Ended path.now }
+// A path as the system takes it, with room for the zero behind it.
+pub fn path_of(name: &[u8]) -> io::Result<&str>
+    ensures { IfOk result (λ path. (path.now ≡ name.now) × (length path.now ≤ PATH-BYTES)) }
 {
-    let status = libc::stat(path, &mut s);
-    told(status, s)
-}
-
-// A path as the system takes it: the name, and zeros behind it.
-fn ended(name: &[u8]) -> [u8; PATH_ROOM]
-    requires { length name.now ≤ PATH-BYTES }
-    ensures { Ended result }
-{
-    let mut path = io::buffer();
-    bytes::copy(name, &mut path);
-    path[PATH_BYTES] = 0;
-    path
-}
-
-// The kind and the mode of the file that a name leads to; 0 where the system cannot say, and errno then tells why, or where the name is longer than a path may be.
-pub fn mode_of(name: &[u8]) -> u32 {
     if PATH_BYTES < name.len() {
-        return 0;
+        return Err(Error::from_raw_os_error(ENAMETOOLONG));
     }
-    look(&ended(name), blank())
+    match str::from_utf8(name) {
+        Ok(path) => Ok(path),
+        Err(_) => Err(Error::from_raw_os_error(EILSEQ)),
+    }
 }
 
-// Whether the name is a link: what is put in its place would leave the file that it leads to as it was.
-pub fn is_link(name: &[u8]) -> bool {
-    if PATH_BYTES < name.len() {
-        return false;
-    }
-    let mut to = [0u8; 1];
-    0 <= libc::readlink(&ended(name), &mut to)
+// The kind and the mode of the file that a name leads to, or why the system cannot say.
+pub fn mode_of(rt: &HostRuntime, name: &[u8]) -> io::Result<u32> {
+    let metadata = fs::metadata(rt, path_of(name)?)?;
+    Ok(metadata.mode())
+}
+
+// Whether the name is a link, or why the system cannot say: what is put in its place would leave the file that it leads to as it was.
+pub fn is_link(rt: &HostRuntime, name: &[u8]) -> io::Result<bool> {
+    let metadata = fs::symlink_metadata(rt, path_of(name)?)?;
+    Ok(metadata.is_symlink())
 }

@@ -8,55 +8,64 @@ mod desk;
 mod reading;
 
 use commands::{Command, Session, Task};
+use std::env::Env;
 
 // The list of commands.
-fn help() {
+fn help(rt: &HostRuntime) {
     let text =
         b"pbook check BOOK\npbook ask BOOK [KIND a b [FACTS]]\npbook why BOOK [KIND a b [FACTS]]\npbook verify BOOK CHAIN\npbook inside BOOK g\npbook touching BOOK g\npbook apart BOOK g\npbook grid BOOK\npbook replicates BOOK\npbook compare BOOK OTHER\npbook show BOOK\npbook new BOOK\npbook pack BOOK OUT\npbook convert OLD OUT\npbook add BOOK KIND a b [ORIGIN]\npbook add BOOK void a [ORIGIN]\npbook withdraw BOOK n\npbook help\n";
-    files::write_page(text, text.len());
+    files::write_page(rt, text, text.len());
 }
 
 // The longest word that names a command is shorter.
 const WORD_ROOM: usize = 16;
 
-fn named() -> Command {
+// The command that the arguments name. A word that is longer than the room names none, and neither do no bytes.
+fn named(rt: &HostRuntime) -> Command {
     let mut word = [0u8; WORD_ROOM];
-    let n = os::arg(1, &mut word);
-    commands::command_of(&word[..n], os::arg_count())
+    let n = rt.arg(1, &mut word).unwrap_or(0);
+    commands::command_of(&word[..n], arguments::count(rt))
 }
 
 // A session is not called from `run`, whose frame has the matrices of the other pages.
-fn session(which: Session, source: &mut [u8], other: &mut [u8], page: &mut [u8]) {
+fn session(rt: &HostRuntime, which: Session, source: &mut [u8], other: &mut [u8], page: &mut [u8]) {
     match which {
-        Session::Check => reading::check(source, page),
-        Session::AskWords => reading::ask_words(source, page),
-        Session::AskInput => reading::ask_input(source, other, page),
+        Session::Check => reading::check(rt, source, page),
+        Session::AskWords => reading::ask_words(rt, source, page),
+        Session::AskInput => reading::ask_input(rt, source, other, page),
     }
 }
 
 // `long` has room for the longest page, and for the longest chain that `verify` reads; `short` for the page of a command that reads more than that.
-fn run(task: Task, source: &mut [u8], other: &mut [u8], long: &mut [u8], short: &mut [u8]) {
+fn run(
+    rt: &HostRuntime,
+    task: Task,
+    source: &mut [u8],
+    other: &mut [u8],
+    long: &mut [u8],
+    short: &mut [u8],
+) {
     match task {
-        Task::Book(which) => reading::book(which, source, long),
-        Task::Words(which) => reading::words(which, source, long),
-        Task::Replicates => reading::replicates(source, other, long),
-        Task::Verify => reading::verify(source, long, short),
-        Task::Compare => reading::compare(source, other, long, short),
-        Task::Edit(which) => changes::change(which, source, short),
-        Task::Write(which) => changes::export(which, source, short),
-        Task::New => changes::new(short),
-        Task::Help => help(),
+        Task::Book(which) => reading::book(rt, which, source, long),
+        Task::Words(which) => reading::words(rt, which, source, long),
+        Task::Replicates => reading::replicates(rt, source, other, long),
+        Task::Verify => reading::verify(rt, source, long, short),
+        Task::Compare => reading::compare(rt, source, other, long, short),
+        Task::Edit(which) => changes::change(rt, which, source, short),
+        Task::Write(which) => changes::export(rt, which, source, short),
+        Task::New => changes::new(rt, short),
+        Task::Help => help(rt),
     }
 }
 
-fn main() {
+fn main(rt: HostRuntime) {
     let mut source = buffers::text();
     let mut other = buffers::text();
     let mut long = buffers::long_page();
     let mut short = buffers::page();
-    let command = named();
+    let command = named(&rt);
     match command {
-        Command::Session(which) => session(which, &mut source, &mut other, &mut long),
-        Command::Task(task) => run(task, &mut source, &mut other, &mut long, &mut short),
+        Command::Session(which) => session(&rt, which, &mut source, &mut other, &mut long),
+        Command::Task(task) => run(&rt, task, &mut source, &mut other, &mut long, &mut short),
     }
 }

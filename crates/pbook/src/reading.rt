@@ -7,134 +7,140 @@ use pages::Written;
 use text::Form;
 
 // Writes a page, or nothing of one that has no room.
-fn print(written: Written, page: &[u8]) {
-    files::write_page(page, crate::desk::end_of(written));
+fn print(rt: &HostRuntime, written: Written, page: &[u8]) {
+    files::write_page(rt, page, crate::desk::end_of(written));
 }
 
 // The file that an argument names.
-fn read_named(i: usize, buf: &mut [u8]) -> Got
+fn read_named(rt: &HostRuntime, i: usize, buf: &mut [u8]) -> Got
     ensures { IsPrefixLen result.n buf.new }
 {
     let mut path = io::buffer();
-    let given = crate::arguments::path(i, &mut path);
+    let given = crate::arguments::path(rt, i, &mut path);
     if given.failed {
         return Got { n: 0, failed: true };
     }
     let length = given.n;
-    files::read_file(&path[..length], buf)
+    files::read_file(rt, &path[..length], buf)
 }
 
-pub fn check(source: &mut [u8], page: &mut [u8]) {
-    let got = read_named(crate::arguments::BOOK, source);
+pub fn check(rt: &HostRuntime, source: &mut [u8], page: &mut [u8]) {
+    let got = read_named(rt, crate::arguments::BOOK, source);
     if got.failed {
         return;
     }
     let n = got.n;
     let none = [0u8; 0];
     let written = crate::desk::session_page(Session::Check, &source[..n], &none, page);
-    print(written, page);
+    print(rt, written, page);
 }
 
-pub fn ask_words(source: &mut [u8], page: &mut [u8]) {
+pub fn ask_words(rt: &HostRuntime, source: &mut [u8], page: &mut [u8]) {
     let mut line = io::buffer();
-    let words = crate::arguments::said(Form::Claims, &mut line, page);
+    let words = crate::arguments::said(rt, Form::Claims, &mut line, page);
     if words.failed {
         return;
     }
-    let got = read_named(crate::arguments::BOOK, source);
+    let got = read_named(rt, crate::arguments::BOOK, source);
     if got.failed {
         return;
     }
     let n = got.n;
     let m = words.n;
     let written = crate::desk::session_page(Session::AskWords, &source[..n], &line[..m], page);
-    print(written, page);
+    print(rt, written, page);
 }
 
-pub fn ask_input(source: &mut [u8], claims: &mut [u8], page: &mut [u8]) {
-    let got = read_named(crate::arguments::BOOK, source);
+pub fn ask_input(rt: &HostRuntime, source: &mut [u8], claims: &mut [u8], page: &mut [u8]) {
+    let got = read_named(rt, crate::arguments::BOOK, source);
     if got.failed {
         return;
     }
     let n = got.n;
-    let more = files::read_input(claims);
+    let more = files::read_input(rt, claims);
     if more.failed {
         return;
     }
     let m = more.n;
     let written = crate::desk::session_page(Session::AskInput, &source[..n], &claims[..m], page);
-    print(written, page);
+    print(rt, written, page);
 }
 
-pub fn book(which: BookPage, source: &mut [u8], page: &mut [u8]) {
-    let got = read_named(crate::arguments::BOOK, source);
+pub fn book(rt: &HostRuntime, which: BookPage, source: &mut [u8], page: &mut [u8]) {
+    let got = read_named(rt, crate::arguments::BOOK, source);
     if got.failed {
         return;
     }
     let n = got.n;
     let written = crate::desk::book_page(which, &source[..n], page);
-    print(written, page);
+    print(rt, written, page);
 }
 
-pub fn words(which: WordsPage, source: &mut [u8], page: &mut [u8]) {
+pub fn words(rt: &HostRuntime, which: WordsPage, source: &mut [u8], page: &mut [u8]) {
     let mut line = io::buffer();
-    let words = crate::arguments::said(crate::desk::words_form(which), &mut line, page);
+    let words = crate::arguments::said(rt, crate::desk::words_form(which), &mut line, page);
     if words.failed {
         return;
     }
-    let got = read_named(crate::arguments::BOOK, source);
+    let got = read_named(rt, crate::arguments::BOOK, source);
     if got.failed {
         return;
     }
     let n = got.n;
     let m = words.n;
     let written = crate::desk::words_page(which, &source[..n], &line[..m], page);
-    print(written, page);
+    print(rt, written, page);
 }
 
-pub fn replicates(source: &mut [u8], log: &mut [u8], page: &mut [u8]) {
-    let got = read_named(crate::arguments::BOOK, source);
+pub fn replicates(rt: &HostRuntime, source: &mut [u8], log: &mut [u8], page: &mut [u8]) {
+    let got = read_named(rt, crate::arguments::BOOK, source);
     if got.failed {
         return;
     }
     let n = got.n;
-    let more = files::read_input(log);
+    let more = files::read_input(rt, log);
     if more.failed {
         return;
     }
     let m = more.n;
     let written = beside_pages::log::write_log(&source[..n], &log[..m], page);
-    print(written, page);
+    print(rt, written, page);
 }
 
 // A chain is a page of `why`: its buffer has a byte more than the longest.
-pub fn verify(source: &mut [u8], chain: &mut [u8], page: &mut [u8]) {
-    let got = read_named(crate::arguments::BOOK, source);
+pub fn verify(rt: &HostRuntime, source: &mut [u8], chain: &mut [u8], page: &mut [u8]) {
+    let got = read_named(rt, crate::arguments::BOOK, source);
     if got.failed {
         return;
     }
     let n = got.n;
-    let more = read_named(crate::arguments::NEXT, chain);
+    let more = read_named(rt, crate::arguments::NEXT, chain);
     if more.failed {
         return;
     }
     let m = more.n;
     let written = chain_pages::write_verdict(&source[..n], &chain[..m], page);
-    print(written, page);
+    print(rt, written, page);
 }
 
-pub fn compare(source: &mut [u8], second: &mut [u8], claims: &mut [u8], page: &mut [u8]) {
-    let got = read_named(crate::arguments::BOOK, source);
+pub fn compare(
+    rt: &HostRuntime,
+    source: &mut [u8],
+    second: &mut [u8],
+    claims: &mut [u8],
+    page: &mut [u8],
+) {
+    let got = read_named(rt, crate::arguments::BOOK, source);
     if got.failed {
         return;
     }
     let n = got.n;
-    let other = read_named(crate::arguments::NEXT, second);
+    let other = read_named(rt, crate::arguments::NEXT, second);
     if other.failed {
         return;
     }
     let k = other.n;
-    let asked = files::read_input(claims);
+    let asked = files::read_input(rt, claims);
     if asked.failed {
         return;
     }
@@ -145,5 +151,5 @@ pub fn compare(source: &mut [u8], second: &mut [u8], claims: &mut [u8], page: &m
         &claims[..m],
         page,
     );
-    print(written, page);
+    print(rt, written, page);
 }

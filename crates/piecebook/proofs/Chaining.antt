@@ -8,7 +8,7 @@ use Rattle.records.specs.Refusal.{refusal_number}
 use Rattle.records.specs.declared.Refusal.{Refusal}
 use Rattle.verdicts.specs.Answers.{answer_byte}
 use Rattle.verdicts.specs.declared.Answer.{Answer}
-use Rattle.chain_writing.specs.Call.{reply, shown, Steps, Written}
+use Rattle.chain_writing.specs.Call.{shown, Steps, Written}
 use Rattle.chain_writing.specs.declared.Reply.{Reply}
 use Rattle.chain_writing.specs.declared.Reply.TheVariants.{Answered, Refused}
 use Rattle.chain_writing.specs.declared.Chain.{Chain}

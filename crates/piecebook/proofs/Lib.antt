@@ -3,8 +3,6 @@ pub mod Listings
 pub mod Comparing
 pub mod Chaining
 pub mod Clashing
-pub mod Matrices
 pub mod OpenBooks
 pub mod Replicating
-pub mod Updating
 pub mod Texting

@@ -4,36 +4,50 @@
 ghost use Rattle.std.specs.Prelude.{◌≡◌, length};
 ghost use Rattle.io.specs.Counts.{IsPrefixLen};
 
-use libc::{STDIN_FILENO, STDOUT_FILENO};
 use pages::Written;
+use std::fs;
+use std::io::{Read, Write};
 
 // Bytes of a book that are read: one record more than row 4 lets pass, so that row 4 can tell.
 const BOOK_READ: usize = 49158;
 
-// As much of the file book.rec as fits; nothing, the empty book, where it cannot be opened.
-fn read_book(book: &mut [u8]) -> usize
-    ensures { (IsPrefixLen result book.new) × (length book.new ≡ length book.old) }
+// Reads until the buffer is full, the input ends or a read fails, and answers how many bytes stand at the front of the buffer.
+fn read_full<F: Read>(file: &mut F, buf: &mut [u8]) -> usize
+    ensures { (IsPrefixLen result buf.new) × (length buf.new ≡ length buf.old) }
 {
-    let file = os::open_read(b"book.rec");
-    if file < 0 {
-        return 0;
+    let mut done: usize = 0;
+    while done < buf.len() {
+        let Ok(n) = file.read(&mut buf[done..]) else {
+            break;
+        };
+        if n == 0 {
+            break;
+        }
+        done += n;
     }
-    let n = io::read_full(file, book);
-    libc::close(file);
-    n
+    done
 }
 
-fn main() {
+// As much of the file book.rec as fits; nothing, the empty book, where it cannot be opened.
+fn read_book(rt: &HostRuntime, book: &mut [u8]) -> usize
+    ensures { (IsPrefixLen result book.new) × (length book.new ≡ length book.old) }
+{
+    let Ok(mut file) = fs::open(rt, "book.rec") else {
+        return 0;
+    };
+    read_full(&mut file, book)
+}
+
+fn main(rt: HostRuntime) {
     let mut book = [0u8; BOOK_READ];
-    let taken = read_book(&mut book);
+    let taken = read_book(&rt, &mut book);
     let mut claims = [0u8; report::CLAIMS_READ];
-    let asked = io::read_full(STDIN_FILENO, &mut claims);
+    let asked = read_full(&mut rt.stdin(), &mut claims);
     let mut page = [0u8; report::PAGE_BYTES];
     let Written::Text(end) = report::ask(&book[..taken], &claims[..asked], &mut page) else {
         return;
     };
-    if io::write_all(STDOUT_FILENO, &page[..end]) {
-        return;
+    if let Err(e) = rt.stdout().write_all(&page[..end]) {
+        files::fail(&rt, b"standard output", &e);
     }
-    os::fail(b"standard output");
 }

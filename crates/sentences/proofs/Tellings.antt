@@ -27,6 +27,10 @@ use Rattle.sentences.proofs.Arguments.{of_entry, of-wrong}
 abbrev pub Paged : ℕ → (page text page' : List ℕ) → Written → Type 0
 Paged most page text page' r = Page page text page' r × (length text ≤ most)
 
+-- what is made of two facts, from the pair of them
+pub told : {A B R : Type 0} → (A → B → R) → A × B → R
+told f x = f x.0 x.1
+
 -- ---- what a reading took, by its answer
 
 pub took-bytes : (x : Reading) (out : List ℕ) {r : Source} {n : ℕ} → r ≡ Bytes n → Took x out r → (n ≤ length out) × (x ≡ Entries (take n out))

@@ -13,8 +13,7 @@ loop-i-init c = (sym (placed-start c.args.from.now c.args.out.now c.args.at), se
 
 pub loop-i-preserved : goal.loop-i-preserved
 loop-i-preserved c =
-    let l = c.loop-i in
-    (
+    let l = c.loop-i in (
       ap (λ (x : List ℕ). set x (c.args.at + l.i) (get_or c.args.from.now l.i 0)) l.invariant.0
           ∙ placed-more c.args.from.now c.args.out.now c.args.at l.i 0 (omega arith) c.requires,
       simp length-set l.invariant.1,
@@ -24,4 +23,4 @@ loop-i-preserved c =
 pub returns : goal.returns
 returns c =
     let l = c.loop-i in
-        l.invariant.0 ∙ placed-all c.args.from.now c.args.out.now c.args.at l.i (omega arith)
+    l.invariant.0 ∙ placed-all c.args.from.now c.args.out.now c.args.at l.i (omega arith)

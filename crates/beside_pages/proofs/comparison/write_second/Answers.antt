@@ -1,0 +1,37 @@
+-- `beside_pages::write_second` meets its contract. Assumes nothing.
+use native.Mathlib.Omega.{arith}
+use Prim.Native.Nat.{ℕ}
+use lib.ListN.{length-replicate}
+use lib.Dec.{lit≤}
+use mathlib.Core.Path.{sym}
+use lib.Seq.{length-take-le}
+use Rattle.sentences.proofs.Tellings.{told, took-bytes, page-took, page-untook}
+use Rattle.beside_pages.proofs.comparison.write_second.Goals as goal
+
+pub slice_bounds-read_source-end : goal.slice_bounds-read_source-end
+slice_bounds-read_source-end c = sym (length-replicate {A = ℕ} 49158 0)
+
+pub read_source-read-requires : goal.read_source-read-requires
+read_source-read-requires c = omega (arith, length-replicate {A = ℕ} 49158 0)
+
+pub slice_bounds-other-end : goal.slice_bounds-other-end
+slice_bounds-other-end c = (took-bytes _ _ c.in-Bytes.is c.read_source-read.ensures).0
+
+pub slice_bounds-write_answers-end : goal.slice_bounds-write_answers-end
+slice_bounds-write_answers-end c = sym (length-take-le _ _ (took-bytes _ _ c.in-Bytes.is c.read_source-read.ensures).0)
+
+pub shape_of-page-in-Unread : goal.shape_of-page-in-Unread
+shape_of-page-in-Unread c = c.write_unread.auto.page
+
+pub returns-in-Unread : goal.returns-in-Unread
+returns-in-Unread c =
+    told (λ a b. record { page = a; claims_len_bound = b })
+    (page-untook _ _ _ c.write_unread.result _ _ _ _ _ (lit≤ tt) c.in-Unread.is c.read_source-read.ensures (c.write_unread.ensures.page, c.write_unread.ensures.reason_len_bound))
+
+pub shape_of-page-in-Bytes : goal.shape_of-page-in-Bytes
+shape_of-page-in-Bytes c = c.write_answers.auto.page
+
+pub returns-in-Bytes : goal.returns-in-Bytes
+returns-in-Bytes c =
+    told (λ a b. record { page = a; claims_len_bound = b })
+    (page-took _ _ _ c.write_answers.result _ _ _ _ _ c.in-Bytes.is c.read_source-read.ensures (c.write_answers.ensures.page, c.write_answers.ensures.claims_len_bound))

@@ -1,0 +1,25 @@
+-- `listing::put_numbers` meets its contract: the loop keeps that the first i numbers are put. Assumes nothing.
+use borrow.Author.Rules.{rules}
+use native.Mathlib.Omega.{arith}
+use mathlib.Core.Path.{ap}
+use Rattle.pages.proofs.Puts.{put_as}
+use Rattle.pages.proofs.Lined.{no_line, next-line}
+use Rattle.book_pages.specs.ListText.{number_lines}
+use Rattle.book_pages.proofs.listing.put_numbers.Goals as goal
+
+pub loop-i-init : goal.loop-i-init
+unfolding number_lines
+loop-i-init c = (no_line _, search rules)
+
+pub overflow_cast-list : goal.overflow_cast-list
+overflow_cast-list c = omega (arith, c.shared_slice_known-in-loop-i-1.given c.loop-i.i)
+
+pub loop-i-preserved : goal.loop-i-preserved
+unfolding number_lines
+loop-i-preserved c = (next-line _ c.loop-i.i c.loop-i.invariant.0 c.put_number-end.ensures, omega arith)
+
+pub shape_of-page : goal.shape_of-page
+shape_of-page c = c.loop-i.invariant.0.kept
+
+pub returns : goal.returns
+returns c = put_as (ap (number_lines _) (omega arith)) c.loop-i.invariant.0

@@ -1,0 +1,17 @@
+-- `book_pages::write_list` meets its contract. Assumes nothing.
+use native.Mathlib.Omega.{arith}
+use Rattle.sentences.proofs.Tellings.{told, page-entry, page-wrong}
+use Rattle.book_pages.specs.ListText.{list_text}
+use Rattle.book_pages.proofs.listing.write_list.Goals as goal
+
+pub returns-in-Wrong : goal.returns-in-Wrong
+unfolding list_text
+returns-in-Wrong c =
+    told (λ a b. record { page = a; words_len_bound = b })
+    (page-wrong _ _ _ c.write_unread.result _ _ _ c.read_words-said.ensures (omega arith) c.in-Wrong.is (c.write_unread.ensures.page, c.write_unread.ensures.reason_len_bound))
+
+pub returns-in-Entry : goal.returns-in-Entry
+unfolding list_text
+returns-in-Entry c =
+    told (λ a b. record { page = a; words_len_bound = b })
+    (page-entry _ _ _ c.write_pieces.result _ _ _ c.read_words-said.ensures c.in-Entry.is (c.write_pieces.ensures.page, c.write_pieces.ensures.g_len_bound))

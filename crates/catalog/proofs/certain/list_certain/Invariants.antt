@@ -1,0 +1,15 @@
+-- `certain::list_certain` meets its contract: the invariant is that the pieces below x are listed. Assumes nothing.
+use Prim.Native.Nat.{◌≤◌, ◌-◌}
+use mathlib.Core.Path.{◌≡◌}
+use lib.ListN.{length}
+use Rattle.closure.specs.Void.{void_of}
+use Rattle.catalog.specs.Tells.{told}
+use Rattle.areas.proofs.Lists.{Listed}
+use Rattle.catalog.proofs.certain.list_certain.Given as goal
+
+abbrev pub invariant-loop-x : goal.invariant-loop-x
+invariant-loop-x l =
+    (l.x ≤ l.n) × (l.count ≤ l.x) × (length l.list ≡ length l.initial.list) × Listed (told (void_of l.voids) l.d l.t l.m l.kind l.g) l.x l.initial.list l.list l.count
+
+abbrev pub decreases-loop-x : goal.decreases-loop-x
+decreases-loop-x l = l.n - l.x

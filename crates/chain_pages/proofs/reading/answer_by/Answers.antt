@@ -1,0 +1,9 @@
+-- `reading::answer_by` meets its contract. Assumes nothing.
+use Rattle.chain_pages.proofs.Finds.{answer-follows, answer-denied}
+use Rattle.chain_pages.proofs.reading.answer_by.Goals as goal
+
+pub returns-then-x-eq70 : goal.returns-then-x-eq70
+returns-then-x-eq70 c = answer-follows _ c.if-x-eq70.true
+
+pub returns : goal.returns
+returns c = answer-denied _ c.if-x-eq70.false

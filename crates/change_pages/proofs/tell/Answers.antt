@@ -1,0 +1,8 @@
+-- `change_pages::tell` meets its contract. Assumes nothing.
+use native.Mathlib.Omega.{arith}
+use Rattle.change_pages.proofs.Mades.{made_kept}
+use Rattle.change_pages.proofs.tell.Goals as goal
+
+pub returns : goal.returns
+returns c =
+    made_kept _ _ _ _ c.write_unread-written.ensures.page (omega (arith, c.write_unread-written.ensures.reason_len_bound))

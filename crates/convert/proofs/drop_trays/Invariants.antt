@@ -1,0 +1,14 @@
+-- `convert::drop_trays` meets its contract: the front of the buffer is what the records passed leave. Assumes nothing.
+use Prim.Native.Nat.{◌*◌, ◌-◌, ◌≤◌}
+use mathlib.Core.Path.{◌≡◌}
+use lib.ListN.{length}
+use Rattle.convert.specs.Converted.{no_tray}
+use Rattle.records.proofs.Keeps.{Written}
+use Rattle.convert.proofs.drop_trays.Given as goal
+
+abbrev pub invariant-loop-i : goal.invariant-loop-i
+invariant-loop-i l =
+    (l.i ≤ l.n) × (l.at ≤ 6 * l.i) × (length l.out ≡ length l.initial.out) × Written no_tray l.book l.initial.out l.i l.out l.at
+
+abbrev pub decreases-loop-i : goal.decreases-loop-i
+decreases-loop-i l = l.n - l.i

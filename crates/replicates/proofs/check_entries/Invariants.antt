@@ -1,0 +1,12 @@
+-- `replicates::check_entries` meets its contract: the loop keeps what is left of the scan. Assumes nothing.
+use Prim.Native.Nat.{◌≤◌, ◌-◌}
+use mathlib.Core.Path.{◌≡◌}
+use Rattle.replicates.specs.Log.{entry_count}
+use Rattle.replicates.proofs.Rows.{Left}
+use Rattle.replicates.proofs.check_entries.Given as goal
+
+abbrev pub invariant-loop-i : goal.invariant-loop-i
+invariant-loop-i l = (l.count ≡ entry_count l.log) × (l.i ≤ l.count) × Left l.n l.nodes l.shadows l.log l.i
+
+abbrev pub decreases-loop-i : goal.decreases-loop-i
+decreases-loop-i l = l.count - l.i

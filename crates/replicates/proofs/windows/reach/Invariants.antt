@@ -1,0 +1,10 @@
+use Prim.Native.Nat.{◌≤◌, ◌-◌}
+use Rattle.matrices.specs.Matrix.{bit_of}
+use Rattle.replicates.specs.Looking.{Reach}
+use Rattle.replicates.proofs.windows.reach.Given as goal
+
+abbrev pub invariant-loop-q : goal.invariant-loop-q
+invariant-loop-q l = (l.q ≤ l.c) × Reach (bit_of l.a) l.xs l.q l.start
+
+abbrev pub decreases-loop-q : goal.decreases-loop-q
+decreases-loop-q l = l.c - l.q
