@@ -151,40 +151,29 @@ def answers(crate, target):
     return [path for path in (folder / "Answers.antt", folder / "Invariants.antt") if path.is_file()]
 
 
-def asked(crate, texts, target, kept):
-    """The goals of a function with these texts, in their order."""
+def asked(crate, texts, targets, kept):
+    """For each function its goals with these texts, in their order."""
     with tempfile.TemporaryDirectory(prefix="goals-") as name:
-        checked(crate, texts, [], kept, ["--start", "::".join(target), "--generated", name])
-        offered = pathlib.Path(name, f"Rattle-{crate}-proofs", *target, "AnswersOffered.antt")
-        return re.findall(r"^pub (\S+) :", offered.read_text(), re.M) if offered.is_file() else []
+        checked(crate, texts, [], kept, ["--generated", name, *(word for target in targets for word in ("--start", "::".join(target)))])
+        files = {target: pathlib.Path(name, f"Rattle-{crate}-proofs", *target, "AnswersOffered.antt") for target in targets}
+        return {target: re.findall(r"^pub (\S+) :", file.read_text(), re.M) if file.is_file() else [] for target, file in files.items()}
 
 
-def fitted(crate, texts, target, kept):
-    """The texts of a function's answers in which each goal that is named by a changed condition has its new name; none where its goals are others."""
-    was, now = asked(crate, {}, target, kept), asked(crate, texts, target, kept)
-    if len(was) != len(now):
-        return {}
-    names = {old: new for old, new in zip(was, now) if old != new}
-    for old, new in list(names.items()):
-        branches = [re.search(r"-(?:then|else)-(.*)", name) for name in (old, new)]
-        if all(branches):
-            names["if-" + branches[0][1]] = "if-" + branches[1][1]
-    if not names:
-        return {}
-    word = re.compile(r"(?<![\w-])(?:" + "|".join(map(re.escape, sorted(names, key=len, reverse=True))) + r")(?![\w-])")
-    paths = {path.relative_to(CRATES / crate).as_posix(): path.read_text() for path in answers(crate, target)}
-    return {file: word.sub(lambda name: names[name[0]], text) for file, text in paths.items()}
-
-
-def alone(crate, text, program, kept):
-    """The functions and facts that are refused where a wrong program stands alone; its functions' answers follow the names of their goals."""
-    texts = applied(crate, text)[0]
-    refused = own_errors(crate, checked(crate, texts, program.targets, kept)[1])
-    for target in program.targets:
-        if not refused.get(target):
-            fit = fitted(crate, texts, target, kept)
-            refused.update({k: v for k, v in own_errors(crate, checked(crate, {**texts, **fit}, [target], kept)[1]).items() if fit and k == target})
-    return refused
+def fitted(crate, texts, targets, kept):
+    """The texts of the functions' answers in which each goal that is named by a changed condition has its new name, by their files; a function whose goals are others has none."""
+    targets = [target for target in targets if answers(crate, target)]
+    was, now = (asked(crate, these, targets, kept) if targets else {} for these in ({}, texts))
+    found = {}
+    for target in targets:
+        names = {old: new for old, new in zip(was[target], now[target]) if old != new and len(was[target]) == len(now[target])}
+        for old, new in list(names.items()):
+            branches = [re.search(r"-(?:then|else)-(.*)", name) for name in (old, new)]
+            if all(branches):
+                names["if-" + branches[0][1]] = "if-" + branches[1][1]
+        word = re.compile(r"(?<![\w-])(?:" + "|".join(map(re.escape, sorted(names, key=len, reverse=True))) + r")(?![\w-])")
+        for path in answers(crate, target) if names else ():
+            found[path.relative_to(CRATES / crate).as_posix()] = word.sub(lambda name: names[name[0]], path.read_text())
+    return found
 
 
 def is_at(fact, facts):
@@ -218,6 +207,18 @@ def judged(crate, edit, kept):
     if status != 1 or not last.startswith(("only=", "logic=not-proved")):
         return [(program.title, f"the check has status {status} and ends in {last[:200]!r}") for program in programs], {}
     refused = own_errors(crate, log)
+    fit = {}
+
+    def again(these, targets):
+        """Checks the functions once more, their answers under the new names of their goals."""
+        new = own_errors(crate, checked(crate, {**these, **fit}, targets, kept)[1])
+        refused.update({target: refused.get(target, set()) | new[target] for target in targets if target in new})
+
+    left = sorted({target for program in programs for target in program.targets if reason_of(program, refused)})
+    if left:
+        fit = fitted(crate, texts, left, kept)
+        if fit:
+            again(texts, left)
     results = []
     for text, program in zip(paragraphs, programs):
         if not program.title:
@@ -227,12 +228,10 @@ def judged(crate, edit, kept):
         elif not program.targets:
             reason = "it changes no function, and names none"
         else:
+            if reason_of(program, refused) and len(programs) > 1:
+                # in the whole edit what it calls is refused, and search then waits
+                again(applied(crate, text)[0], program.targets)
             reason = reason_of(program, refused)
-            if reason:
-                # what it calls is refused, too, or its goals have other names
-                by_itself = alone(crate, text, program, kept)
-                refused.update({target: refused.get(target, set()) | by_itself[target] for target in program.targets if target in by_itself})
-                reason = reason_of(program, by_itself)
         results.append((program.title, reason))
     for target in {target for program in programs for target in program.targets}:
         facts = [program.fact for program in programs if target in program.targets]
