@@ -27,4 +27,4 @@ shape_of-page-in-Compared c = c.put_pairs.auto.page ∙ c.put_together-at.auto.p
 
 pub returns-in-Compared : goal.returns-in-Compared
 returns-in-Compared c =
-    record { put = put_as (compared _ _ _ _ _ _ _ _ c.compared-made.ensures _ c.in-Compared.is) (chain c.put_together-at.ensures c.put_pairs.ensures); claims_len_bound = compared-short _ _ _ _ _ _ _ _ c.compared-made.ensures _ c.in-Compared.is (λ j. (c.shared_slice_known-3-1.given j).fits) c.requires }
+    record { put = put_as (compared _ _ _ _ _ _ _ _ c.compared-made.ensures _ c.in-Compared.is) (chain c.put_together-at.ensures c.put_pairs.ensures); claims_len_bound = compared-short _ _ _ _ _ _ _ _ c.compared-made.ensures _ c.in-Compared.is (λ j. (c.type_inv.asked j).fits) c.requires }

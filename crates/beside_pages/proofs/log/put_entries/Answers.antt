@@ -31,4 +31,4 @@ shape_of-page c = c.loop-i.invariant.0.kept
 
 pub returns : goal.returns
 returns c =
-    record { put = put_as (ap (entry_lines c.args.log.now c.args.bytes.now) (omega arith)) c.loop-i.invariant.0; log_len_bound = entries-width _ _ (λ j. (c.shared_slice_known-1.given j).fits) (λ j. (c.shared_slice_known-2-1.given j).fits) c.requires.1 }
+    record { put = put_as (ap (entry_lines c.args.log.now c.args.bytes.now) (omega arith)) c.loop-i.invariant.0; log_len_bound = entries-width _ _ (λ j. (c.type_inv.log j).fits) (λ j. (c.type_inv.bytes j).fits) c.requires.1 }

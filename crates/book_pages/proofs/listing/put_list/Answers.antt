@@ -7,4 +7,4 @@ use Rattle.book_pages.proofs.listing.put_list.Goals as goal
 pub returns : goal.returns
 unfolding list_lines
 returns c =
-    record { put = chain (chain c.put-at.ensures c.put_number-at.ensures) c.put_numbers.ensures; list_len_bound = lines-width c.args.list.now c.requires (λ i. (c.shared_slice_known-1.given i).fits) }
+    record { put = chain (chain c.put-at.ensures c.put_number-at.ensures) c.put_numbers.ensures; list_len_bound = lines-width c.args.list.now c.requires (λ i. (c.type_inv.list i).fits) }

@@ -12,7 +12,7 @@ unfolding number_lines
 loop-i-init c = (no_line _, search rules)
 
 pub overflow_cast-list : goal.overflow_cast-list
-overflow_cast-list c = omega (arith, c.shared_slice_known-in-loop-i-1.given c.loop-i.i)
+overflow_cast-list c = omega (arith, c.type_inv.list c.loop-i.i)
 
 pub loop-i-preserved : goal.loop-i-preserved
 unfolding number_lines
