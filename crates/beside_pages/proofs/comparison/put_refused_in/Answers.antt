@@ -1,4 +1,5 @@
 -- `beside_pages::put_refused_in` meets its contract. Assumes nothing.
+use native.Mathlib.Omega.{arith}
 use Rattle.pages.proofs.Puts.{chain, put_as}
 use Rattle.beside_pages.proofs.ComparisonTexts.{in-second, in-first, second_short, first_short}
 use Rattle.beside_pages.proofs.comparison.put_refused_in.Goals as goal
@@ -9,4 +10,4 @@ returns-then-k-eq-SECOND c =
 
 pub returns : goal.returns
 returns c =
-    record { put = put_as (in-first _ _ _ _ _ _ c.if-k-eq-SECOND.false) c.put_refused-2.ensures.put; claims_len_bound = first_short _ _ _ _ _ _ c.if-k-eq-SECOND.false c.put_refused-2.ensures.other_len_bound }
+    record { put = put_as (in-first _ _ _ _ _ _ (omega arith)) c.put_refused-2.ensures.put; claims_len_bound = first_short _ _ _ _ _ _ (omega arith) c.put_refused-2.ensures.other_len_bound }
