@@ -153,7 +153,7 @@ module _ (void : ℕ → Bool) (n : ℕ) (fs : List Fact) (B : Bounded n fs) (z 
       rw (stored-column n fs B.within 2 true true x y l, le-ltb y n l, ne_eqb y 0 (λ q. omega arith), and-false (eqb x 0))
 
   module _ {m d a a' a'' : List ℕ} (M : Holds n m (apart_bit void n fs)) (D : Holds n d (part_bit n fs)) (E : Blank n a) (X : Multiplied a a' m d n) (C : Carried (whole_bit n fs) n a' a'') where
-    -- a bit of A-as-D
+    -- a bit of A·D
     middle : (u y : ℕ) → u < n → y < n → bit_of a' u y ≡ prod (apart_bit void n fs) (part_bit n fs) u y
     middle u y lu ly =
         let h = B.fits in

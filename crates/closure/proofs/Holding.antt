@@ -152,7 +152,7 @@ module _ (n : ℕ) (fs : List Fact) where
       one h x y ly (yes l) = ap (λ (t : Bool). r h x && t) (M.bits x y l ly)
       one h x y ly (no l) = rw (none h x (omega arith))
 
-  -- N ∪ M-as-P
+  -- N ∪ M·P
   abbrev next_out : (ℕ → Bool) → ℕ → ℕ → Bool
   next_out void x y = stored_bit fs 4 true false x y || any_below (λ v. meet_bit void n fs x v && away_bit n fs v y) 2048
 

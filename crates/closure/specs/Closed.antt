@@ -1,5 +1,5 @@
 -- What the matrices of a closure hold, for n pieces, of which some are marked, and a list of facts: D is containment by the stored facts, whatever
--- the marks, U its transpose, and with the stored facts A, M, N T = D-as-M, P = U-as-A, Q = D-as-N ∪ T-as-P. Marks count in M alone. Assumes nothing.
+-- the marks, U its transpose, and with the stored facts A, M, N T = D·M, P = U·A, Q = D·N ∪ T·P. Marks count in M alone. Assumes nothing.
 use Rattle.std.specs.Prelude.{ℕ, ◌<◌, ◌≡◌, Bool, true, false, ◌&&◌, ◌||◌, List, ltb, length}
 use Rattle.lists.specs.Any.{any_below}
 use Rattle.matrices.specs.Matrix.{bit_of}

@@ -36,7 +36,7 @@ fn apart_told(run: &[u8], n: usize, voids: &[u64], m: &mut [u64])
     part_marked(n, voids, m);
 }
 
-// U.A.D in a, of a run that is not contradictory: every APART that follows. A has few bits, so A.D is a row for each of them. m is scratch.
+// U·A·D in a, of a run that is not contradictory: every APART that follows. A has few bits, so A·D is a row for each of them. m is scratch.
 pub fn apart_rows(
     run: &[u8],
     n: usize,

@@ -60,7 +60,7 @@ pub fn part_rows(n: usize, e: &[u64], order: &[u16], lead: &[u16], d: &mut [u64]
     join_parts(n, e, order, lead, d);
 }
 
-// T = D.M.
+// T = D·M.
 pub fn meeting(
     run: &[u8],
     n: usize,
@@ -77,7 +77,7 @@ pub fn meeting(
     join_parts(n, e, order, lead, t);
 }
 
-// P = U.A.
+// P = U·A.
 fn parting(run: &[u8], n: usize, e: &[u64], order: &[u16], lead: &[u16], p: &mut [u64])
     requires { Bounded n (facts run.now) × Stepped n (facts run.now) e.now order.now lead.now × (IsMatrix p.old) }
     ensures { Holds n p.new (away_bit n (facts run.now)) }
@@ -86,7 +86,7 @@ fn parting(run: &[u8], n: usize, e: &[u64], order: &[u16], lead: &[u16], p: &mut
     join_wholes(n, e, order, lead, p);
 }
 
-// Q = D.N ∪ T.P, as D·(N ∪ M.P): M has few bits. m is scratch.
+// Q = D·N ∪ T·P, as D·(N ∪ M·P): M has few bits. m is scratch.
 fn outing(
     run: &[u8],
     n: usize,

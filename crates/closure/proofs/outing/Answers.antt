@@ -1,4 +1,4 @@
--- `closure::outing` meets its contract: what is joined along the steps is N and M-as-P, by `spread`. Assumes nothing.
+-- `closure::outing` meets its contract: what is joined along the steps is N and M·P, by `spread`. Assumes nothing.
 use mathlib.Core.Path.{◌∙◌}
 use lib.Dec.{lit≤}
 use Rattle.closure.proofs.Holding.{out-holds}
