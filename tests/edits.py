@@ -7,7 +7,7 @@ programs change: of each one the proof must be refused at a fact of its own, and
 tried alone. A goal has its name from a condition: where a wrong program changes that, the answers of the copy follow the name. Where the change
 is outside a function, as in a table, a line `in: FUNCTION` names the function whose proof must be refused. Two wrong programs of
 one function stand in one edit only if they break different facts: a line `at: FACT` of each names its own, a goal of the changed function by its name in the
-prover's word; a goal that is proved clause by clause may be named without its clause.
+prover's word; a goal that is proved clause by clause may be named without its clause. What docs/PROMISES.md names as a wrong program must stand in an edit.
 
     tests/edits.py [CRATE..]           over the libraries that rt ci left in crates/*/out/, or that rt check built there
     tests/edits.py --facts [CRATE..]   prints for each edit the functions and facts that are refused, and below them each wrong program with its functions and its fact
@@ -25,7 +25,7 @@ import sys
 import tempfile
 
 sys.dont_write_bytecode = True
-from kit import CRATES, kit, listed, words  # noqa: E402
+from kit import CRATES, ROOT, kit, listed, words  # noqa: E402
 
 # what antt says of a declaration that only rests on a refused one
 RESTING = "was not admitted"
@@ -240,6 +240,18 @@ def judged(crate, edit, kept):
     return results, refused
 
 
+def cited():
+    """What docs/PROMISES.md names as a wrong program or an edit: pairs of the name and a reason, which is empty where there is one."""
+    promises = (ROOT / "docs" / "PROMISES.md").read_text()
+    edits = sorted(CRATES.glob("*/must-fail/*.edit"))
+    titles = {line[1:].strip() for edit in edits for line in edit.read_text().split("\n") if line.startswith("#")}
+    for names in re.findall(r'wrong programs? ((?:"[^"]+"(?:, | and )?)+)', promises):
+        for title in re.findall(r'"([^"]+)"', names):
+            yield title, "" if title in titles else "docs/PROMISES.md names it, and no edit has it"
+    for name in re.findall(r"must-fail edit `(\w+)`", promises):
+        yield name, "" if name in {edit.stem for edit in edits} else "docs/PROMISES.md names it, and there is no such edit"
+
+
 def missing():
     """Public functions that other crates call, with fewer than two wrong programs."""
     texts = {path: path.read_text() for path in CRATES.glob("*/src/**/*.rt")}
@@ -317,6 +329,10 @@ def main():
                     if reason:
                         print(f"{crate}/{edit.stem}: {title}: {reason}", flush=True)
                     passed, failed = passed + (not reason), failed + bool(reason)
+    for name, reason in [] if names else cited():
+        if reason:
+            print(f"{name}: {reason}")
+        passed, failed = passed + (not reason), failed + bool(reason)
     print(f"{passed} passed, {failed} failed")
     return 1 if failed or not passed else 0
 
