@@ -165,14 +165,20 @@ def fitted(crate, texts, targets, kept):
     was, now = (asked(crate, these, targets, kept) if targets else {} for these in ({}, texts))
     found = {}
     for target in targets:
+        ends = {}
         names = {old: new for old, new in zip(was[target], now[target]) if old != new and len(was[target]) == len(now[target])}
         for old, new in list(names.items()):
             branches = [re.search(r"-(?:then|else)-(.*)", name) for name in (old, new)]
             if all(branches):
                 names["if-" + branches[0][1]] = "if-" + branches[1][1]
+                # a call in the branch is named after it too
+                ends[re.compile(rf"-(then|else)-{re.escape(branches[0][1])}(?![\w-])")] = branches[1][1]
         word = re.compile(r"(?<![\w-])(?:" + "|".join(map(re.escape, sorted(names, key=len, reverse=True))) + r")(?![\w-])")
         for path in answers(crate, target) if names else ():
-            found[path.relative_to(CRATES / crate).as_posix()] = word.sub(lambda name: names[name[0]], path.read_text())
+            text = word.sub(lambda name: names[name[0]], path.read_text())
+            for end, new in ends.items():
+                text = end.sub(lambda branch, new=new: f"-{branch[1]}-{new}", text)
+            found[path.relative_to(CRATES / crate).as_posix()] = text
     return found
 
 

@@ -8,9 +8,6 @@ use Rattle.exports.proofs.relation_c.relation_union_within.Goals as goal
 pub returns-then-m-ne-WORDS : goal.returns-then-m-ne-WORDS
 returns-then-m-ne-WORDS c = record { inside = λ h i j. absurd (omega arith); outside = λ n. refl }
 
-pub returns-then-d-ge-ROWS : goal.returns-then-d-ge-ROWS
-returns-then-d-ge-ROWS c = record { inside = λ h i j. absurd (omega arith); outside = λ n. refl }
-
 pub returns-then-s-ge-ROWS : goal.returns-then-s-ge-ROWS
 returns-then-s-ge-ROWS c = record { inside = λ h i j. absurd (omega arith); outside = λ n. refl }
 
