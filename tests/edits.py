@@ -159,8 +159,11 @@ def asked(crate, texts, targets, kept):
         return {target: re.findall(r"^pub (\S+) :", file.read_text(), re.M) if file.is_file() else [] for target, file in files.items()}
 
 
-def fitted(crate, texts, targets, kept):
-    """The texts of the functions' answers in which each goal that is named by a changed condition has its new name, by their files; a function whose goals are others has none."""
+def fitted(crate, texts, targets, kept, calls=False):
+    """The texts of the functions' answers in which each goal that is named by a changed condition has its new name, by their files; a function whose goals are others has none.
+
+    With `calls` what is called in the condition's branches has its new name too.
+    """
     targets = [target for target in targets if answers(crate, target)]
     was, now = (asked(crate, these, targets, kept) if targets else {} for these in ({}, texts))
     found = {}
@@ -171,13 +174,12 @@ def fitted(crate, texts, targets, kept):
             branches = [re.search(r"-(?:then|else)-(.*)", name) for name in (old, new)]
             if all(branches):
                 names["if-" + branches[0][1]] = "if-" + branches[1][1]
-                # a call in the branch is named after it too
-                ends[re.compile(rf"-(then|else)-{re.escape(branches[0][1])}(?![\w-])")] = branches[1][1]
+                ends[branches[0][1]] = branches[1][1]
         word = re.compile(r"(?<![\w-])(?:" + "|".join(map(re.escape, sorted(names, key=len, reverse=True))) + r")(?![\w-])")
         for path in answers(crate, target) if names else ():
             text = word.sub(lambda name: names[name[0]], path.read_text())
-            for end, new in ends.items():
-                text = end.sub(lambda branch, new=new: f"-{branch[1]}-{new}", text)
+            for end, new in ends.items() if calls else ():
+                text = re.sub(rf"-(then|else)-{re.escape(end)}(?![\w-])", lambda branch, new=new: f"-{branch[1]}-{new}", text)
             found[path.relative_to(CRATES / crate).as_posix()] = text
     return found
 
@@ -220,9 +222,9 @@ def judged(crate, edit, kept):
         new = own_errors(crate, checked(crate, {**these, **fit}, targets, kept)[1])
         refused.update({target: refused.get(target, set()) | new[target] for target in targets if target in new})
 
-    left = sorted({target for program in programs for target in program.targets if reason_of(program, refused)})
-    if left:
-        fit = fitted(crate, texts, left, kept)
+    for calls in (False, True):
+        left = sorted({target for program in programs for target in program.targets if reason_of(program, refused)})
+        fit = fitted(crate, texts, left, kept, calls) if left else {}
         if fit:
             again(texts, left)
     results = []
