@@ -36,11 +36,17 @@ MEMORY = 2_500_000
 
 
 def functions(source):
-    """The name, start and end of each function of a source text."""
+    """The name, start and end of each function of a source text; a method has the name of its impl before it, as rattle has it."""
     found = []
-    for match in re.finditer(r"^(?:pub )?(?:extern \"C\" )?fn (\w+)", source, re.M):
-        end = re.search(r"^}\n", source[match.start() :], re.M)
-        found.append((match[1], match.start(), match.start() + end.end()))
+    impls = [
+        ("".join(re.findall(r"\w+", (match[2] or "") + (match[1] or ""))), match.end(), match.end() + re.search(r"^}\n", source[match.end() :], re.M).end())
+        for match in re.finditer(r"^impl(?:<[^{]*?>)? (?:([\w<>, ]+) for )?(\w+)[^{]*{\n", source, re.M)
+    ]
+    for match in re.finditer(r"^( *)(?:pub )?(?:const )?(?:extern \"C\" )?fn (\w+)", source, re.M):
+        end = re.search(rf"^{match[1]}}}\n", source[match.start() :], re.M)
+        owner = next((name for name, start, stop in impls if start <= match.start() < stop), None)
+        if owner or not match[1]:
+            found.append((f"{owner}::{match[2]}" if owner else match[2], match.start(), match.start() + end.end()))
     return found
 
 
@@ -77,7 +83,7 @@ class Program:
         source = (CRATES / crate / file).read_text()
         at = source.find(old)
         hit = [name for name, start, end in functions(source) if start <= at < end]
-        self.targets += [tuple(module(file) + [name]) for name in hit]
+        self.targets += [tuple(module(file) + name.split("::")) for name in hit]
 
 
 def applied(crate, edit):

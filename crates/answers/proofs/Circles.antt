@@ -1,4 +1,5 @@
 -- The groups of the index are those of the pieces that are PART of each other by derivations. Assumes nothing.
+use Rattle.std.specs.Prelude.{Ok}
 use Prim.Native.Nat.{ℕ, ◌<◌}
 use mathlib.Core.Path.{◌≡◌, refl}
 use mathlib.Core.Logic.{◌↔◌}
@@ -11,14 +12,13 @@ use Rattle.rules.specs.Follows.{containment, derived, step, follows}
 use Rattle.rules.proofs.Decides.{follows-iff}
 use Rattle.records.specs.Facts.{facts}
 use Rattle.records.specs.Check.{book_check}
-use Rattle.records.specs.declared.BookCheck.TheVariants as book
 use Rattle.groups.specs.Groups.{lies, same}
 use Rattle.records.specs.PartIn.{part_in}
 use Rattle.contradiction.proofs.SettlingLaws.{settleable}
 use Rattle.outcomes.specs.Call.{pairs_of}
 use Rattle.answers.specs.Circles.{CirclesDerived}
 
-module _ (s : List ℕ) (n : ℕ) (sound : book_check s ≡ book.Accepted n) where
+module _ (s : List ℕ) (n : ℕ) (sound : book_check s ≡ Ok n) where
   by-follows : (g h : ℕ) → lies n (pairs_of s) g h ≡ follows unmarked n (facts s) (PART g h)
   unfolding lies follows containment derived step part_in
   by-follows g h = refl

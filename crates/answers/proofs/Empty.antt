@@ -1,4 +1,7 @@
 -- The empty book is the book with piece 0 alone: its outcome, its index and its answers, by computation. Assumes nothing.
+use Rattle.std.specs.Prelude.{Err, Ok}
+use Rattle.records.specs.Refused.{refused_at}
+use Rattle.outcomes.specs.Accepted.{accepted_with}
 use mathlib.Core.Path.{◌≡◌, refl}
 use mathlib.Core.List.{[]}
 use native.Mathlib.Omega.{arith}
@@ -18,7 +21,6 @@ use Rattle.records.specs.Kept.{picked}
 use Rattle.records.specs.Marked.{marked}
 use Rattle.records.specs.declared.Refusal.{Refusal}
 use Rattle.records.specs.declared.Refusal.TheVariants.{ShortBuffer, BookLength, TooManyRecords, Kind, Origin, PieceNumber, Order, Repeat, ClaimsLength, TooManyClaims, ClaimFormat, ClaimPiece, Contradiction, ShortSteps, TooManyPieces, ShortCatalog, NotStanding, VoidForm, LogLength, ReplicatePiece}
-use Rattle.records.specs.declared.ClaimsCheck.TheVariants as claims
 use Rattle.records.proofs.Examples.{bytes}
 use Rattle.lists.specs.Numbers.{range, keep, find}
 use Rattle.index.specs.Pairs.{joined, parts}
@@ -35,10 +37,9 @@ use Rattle.parentheses.specs.Padded.{padded}
 use Rattle.records.specs.Claimed.{claimed, answers_to}
 use Rattle.outcomes.specs.Call.{by_runs, by_claims, by_book, outcome, indexed, left}
 use Rattle.outcomes.specs.Outcome.{number}
-use Rattle.outcomes.specs.declared.Outcome.TheVariants.{Accepted, Refused}
 use Rattle.answers.specs.Empty.{EmptyOutcome, EmptyLeft, EmptyAnswers, NeverTwo}
 
-by-runs : by_runs [] 1 ≡ Accepted 1 1 0
+by-runs : by_runs [] 1 ≡ accepted_with 1 1 0
 unfolding by_runs book_visits edges groups.groups groups.pair groups.number groups.lowest groups.first_of groups.same groups.lies tally entries facts_of shortest_clash first clash any any_below tab table entry storing turned parting marked step rounds containment meets joined part_in visits_of whole under hang parts keep range parent order breadth find visits shadows
 by-runs = refl
 
@@ -55,7 +56,7 @@ unfolding answers_to claimed picked record_at fact_of entries facts_of verdict j
 empty-answers = refl
 
 -- a claim about another piece
-pub empty-other : claims_check 1 (bytes 1 0 1 0) ≡ claims.Refused ClaimPiece 0
+pub empty-other : claims_check 1 (bytes 1 0 1 0) ≡ refused_at ClaimPiece 0
 unfolding claims_check scan claim_at record_at stated largest
 empty-other = refl
 
@@ -83,5 +84,5 @@ other LogLength e = omega arith
 other ReplicatePiece e = omega arith
 
 pub never-two : NeverTwo
-never-two (Accepted pieces nodes shadows) e = omega arith
-never-two (Refused r i) e = other r e
+never-two (Ok pieces) e = omega arith
+never-two (Err r) e = other r.refusal e

@@ -1,4 +1,6 @@
 -- Document 01's examples hold over bytes, by computation. Assumes nothing.
+use Rattle.std.specs.Prelude.{Err, Ok}
+use Rattle.outcomes.specs.Accepted.{Outcome, accepted_with}
 use Prim.Native.Nat.{ℕ}
 use mathlib.Core.Path.{◌≡◌, refl, ap, ◌∙◌}
 use mathlib.Core.Bool.{Bool, true, false}
@@ -34,15 +36,13 @@ use Rattle.records.specs.Claimed.{claimed, answers_to}
 use Rattle.outcomes.specs.Lent.{Lent}
 use Rattle.outcomes.specs.Call.{by_runs, by_claims, by_book, indexed, cleared, left}
 use Rattle.outcomes.specs.Fresh.{fresh_call}
-use Rattle.outcomes.specs.declared.Outcome.{Outcome}
-use Rattle.outcomes.specs.declared.Outcome.TheVariants.{Accepted, Refused}
 use Rattle.answers.specs.Examples.{Example, call, examples, AllHold, ExamplesHold}
 use Rattle.answers.proofs.Fresh.{fresh-is}
 
 -- the answers that are written
 written : List ℕ → List ℕ → Outcome → List ℕ
-written s cs (Accepted n nodes shadows) = answers_to s n cs
-written s cs (Refused r i) = []
+written s cs (Ok n) = answers_to s n.pieces cs
+written s cs (Err r) = []
 
 refused : (l : Lent) (b : Bool) → (elim b as (λ _. Lent) [ true ↦ cleared l | false ↦ l ]).answers ≡ front [] l.answers
 unfolding cleared front
@@ -51,15 +51,15 @@ refused l false = refl
 
 left-written : (s cs : List ℕ) (l : Lent) (o : Outcome) → (left s cs l o).answers ≡ front (written s cs o) l.answers
 unfolding left indexed written
-left-written s cs l (Accepted n nodes shadows) = refl
-left-written s cs l (Refused r i) = refused l (eqb (refusal_number r) 14)
+left-written s cs l (Ok n) = refl
+left-written s cs l (Err r) = refused l (eqb (refusal_number r.refusal) 14)
 
 -- an example as the rows behind the buffers have it
 came : Example → Example
 came (call s cs o answers) = call s cs (fresh_call s cs) (written s cs (fresh_call s cs))
 
 abbrev due : List Example → Outcome
-due [] = Accepted 0 0 0
+due [] = accepted_with 0 0 0
 due (call s cs o answers ∷ es) = o
 
 abbrev answers_due : List Example → List ℕ

@@ -1,4 +1,6 @@
 -- Row 14's outcome and what it leaves, in buffers of exactly the lengths that are written. Assumes nothing.
+use Rattle.records.specs.Refused.{refused_at}
+use Rattle.outcomes.specs.Accepted.{accepted_with}
 use Prim.Native.Nat.{ℕ, ◌-◌}
 use mathlib.Core.Path.{◌≡◌, refl, sym, ap, ◌∙◌}
 use mathlib.Core.Bool.{false}
@@ -25,21 +27,20 @@ use Rattle.records.specs.Claimed.{answers_to}
 use Rattle.outcomes.specs.Call.{pairs_of, by_runs, indexed, cleared, left}
 use Rattle.closure.specs.Counted.{Counted}
 use Rattle.answers.specs.Judging.{Cleared, Exact, Judged}
-use Rattle.outcomes.specs.declared.Outcome.TheVariants.{Accepted, Refused}
 use Rattle.claims.proofs.Counts.{counted-settleable, counted-unmarked}
 use Rattle.outcomes.proofs.Buffers.{front-whole, packed-long, answers-long, same-lent}
 
 module _ (s : List ℕ) (n : ℕ) (sound : Counted s n) where
-  pub refuses : (place : ℕ) → Clashed (marked s) n s place → Refused Contradiction place ≡ by_runs s n
+  pub refuses : (place : ℕ) → Clashed (marked s) n s place → refused_at Contradiction place ≡ by_runs s n
   unfolding by_runs
   refuses place C =
       let q = C.last in
       let k : place ≡ shortest_clash (marked s) n (entries s) - 1 = omega arith in
-      rw (le-leb (shortest_clash (marked s) n (entries s)) (records s) (clashed-within s (counted-settleable s sound).bounded (marked s) (counted-unmarked s sound) C), by_runs) (ap (Refused Contradiction) k)
+      rw (le-leb (shortest_clash (marked s) n (entries s)) (records s) (clashed-within s (counted-settleable s sound).bounded (marked s) (counted-unmarked s sound) C), by_runs) (ap (refused_at Contradiction) k)
 
   pub accepts :
       (nodes shadows : ℕ) → false ≡ clash (marked s) n (facts s) → nodes ≡ length (book_visits n (pairs_of s)) → shadows ≡ length (on.shadows (book_visits n (pairs_of s)))
-      → Accepted n nodes shadows ≡ by_runs s n
+      → accepted_with n nodes shadows ≡ by_runs s n
   unfolding by_runs
   accepts nodes shadows c e f = rw (lt-leb (shortest_clash (marked s) n (entries s)) (records s) (free-beyond s (counted-settleable s sound).bounded (marked s) (counted-unmarked s sound) c), by_runs, e, f)
 
@@ -56,7 +57,7 @@ module _ (s : List ℕ) (n : ℕ) (cs : List ℕ) (l : Lent) (X : Exact s n cs l
   zeroed k x e = front-whole (replicate k 0) x (length-replicate {A = ℕ} k 0 ∙ sym e)
 
   pub judged-refused :
-      (place : ℕ) (parens marks shadows places : List ℕ) → Clashed (marked s) n s place → Cleared 2560 1280 8192 2048 parens marks shadows places → Judged s n cs l (Refused Contradiction place) (lent parens marks shadows places l.answers)
+      (place : ℕ) (parens marks shadows places : List ℕ) → Clashed (marked s) n s place → Cleared 2560 1280 8192 2048 parens marks shadows places → Judged s n cs l (refused_at Contradiction place) (lent parens marks shadows places l.answers)
   unfolding left cleared
   judged-refused place parens marks shadows places c z = record {
     outcome-is = refuses s n X.sound place c;
@@ -73,7 +74,7 @@ module _ (s : List ℕ) (n : ℕ) (cs : List ℕ) (l : Lent) (X : Exact s n cs l
       (nodes shadowed : ℕ) (parens marks shadows places answers d t : List ℕ)
       → length parens ≡ 2560 → length marks ≡ 1280 → length shadows ≡ 8192 → length places ≡ 2048
       → Opened (marked s) n (facts s) d t false → BookIndex n (pairs_of s) parens marks shadows places nodes shadowed → answers ≡ answers_to s n cs
-      → Judged s n cs l (Accepted n nodes shadowed) (lent parens marks shadows places answers)
+      → Judged s n cs l (accepted_with n nodes shadowed) (lent parens marks shadows places answers)
   unfolding left indexed
   judged-accepted nodes shadowed parens marks shadows places answers d t lp lm ls la O I a =
       let sh : shadows ≡ padded 0 8192 (on.shadow_list (book_visits n (pairs_of s))) = I.shadows-are ∙ ap (λ (k : ℕ). padded 0 k (on.shadow_list (book_visits n (pairs_of s)))) ls in

@@ -1,11 +1,10 @@
 -- What the groups of the index are, by the rules. Assumes nothing.
-use Rattle.std.specs.Prelude.{ℕ, ◌<◌, ◌≡◌, ◌↔◌, true, List}
+use Rattle.std.specs.Prelude.{ℕ, ◌<◌, ◌≡◌, ◌↔◌, true, List, Ok}
 use Rattle.rules.specs.Fact.{PART, unmarked}
 use Rattle.rules.specs.Derives.{Derives}
 use Rattle.rules.specs.Follows.{follows}
 use Rattle.records.specs.Facts.{facts}
 use Rattle.records.specs.Check.{book_check}
-use Rattle.records.specs.declared.BookCheck.TheVariants as book
 use Rattle.groups.specs.Groups.{lies, same}
 use Rattle.outcomes.specs.Call.{pairs_of}
 
@@ -18,4 +17,4 @@ pub record Circled (s : List ℕ) (n : ℕ) : Type 0 where
       (g h : ℕ) → g < n → h < n → (same n (pairs_of s) g h ≡ true) ↔ (Derives unmarked n (facts s) (PART g h) × Derives unmarked n (facts s) (PART h g))
 
 abbrev pub CirclesDerived : Type 0
-CirclesDerived = (s : List ℕ) (n : ℕ) → book_check s ≡ book.Accepted n → Circled s n
+CirclesDerived = (s : List ℕ) (n : ℕ) → book_check s ≡ Ok n → Circled s n

@@ -1,12 +1,12 @@
 -- Document 01's examples over bytes, through every row of the call: its session, its whole books and its edges of the format, in one list.
 -- Assumes nothing.
+use Rattle.records.specs.Refused.{refused_at}
+use Rattle.outcomes.specs.Accepted.{Outcome, accepted_with}
 use Rattle.std.specs.Prelude.{ℕ, ◌/◌, ◌%◌, ◌≡◌, false, List, [], ◌∷◌, ◌++◌}
 use Rattle.lists.specs.Front.{front}
 use Rattle.records.specs.declared.Refusal.TheVariants.{BookLength, Kind, PieceNumber, VoidForm, Repeat, ClaimsLength, ClaimPiece, Contradiction}
 use Rattle.outcomes.specs.Lent.{Lent, short_lent}
 use Rattle.outcomes.specs.Call.{outcome, left}
-use Rattle.outcomes.specs.declared.Outcome.{Outcome}
-use Rattle.outcomes.specs.declared.Outcome.TheVariants.{Accepted, Refused}
 
 -- the six bytes of kind k on a and b, from a cutting sheet or, in a claim, on all facts
 abbrev pub six : ℕ → ℕ → ℕ → List ℕ
@@ -26,24 +26,24 @@ pub data Example : Type 0 where
 
 unfoldable pub examples : List Example
 examples =
-    call session_book session_claims (Accepted 6 7 1) (1 ∷ 2 ∷ 3 ∷ 1 ∷ 2 ∷ 1 ∷ 1 ∷ 1 ∷ 1 ∷ 3 ∷ [])
-    ∷ call (six 2 2 2) [] (Refused Contradiction 0) []
-    ∷ call (six 4 1 0) [] (Refused Contradiction 0) []
-    ∷ call (six 2 1 0) [] (Refused Contradiction 0) []
-    ∷ call (six 4 0 1) (six 4 0 1 ++ six 1 1 0) (Accepted 2 2 0) (1 ∷ 1 ∷ [])
-    ∷ call (session_book ++ six 3 5 3) session_claims (Refused Contradiction 9) []
-    ∷ call (six 1 3 3) (six 1 3 3) (Accepted 4 4 0) (1 ∷ [])
-    ∷ call (six 1 0 0) [] (Accepted 1 1 0) []
-    ∷ call [] (six 1 0 0) (Accepted 1 1 0) (1 ∷ [])
-    ∷ call (six 2 3 4 ++ six 2 4 3) (six 3 3 4) (Accepted 5 5 0) (2 ∷ [])
-    ∷ call (six 2 3 4 ++ six 2 3 4) [] (Refused Repeat 1) []
-    ∷ call (six 1 2048 0) [] (Refused PieceNumber 0) []
-    ∷ call (six 1 2047 0) (six 1 2048 0) (Refused ClaimPiece 0) []
-    ∷ call (six 2 3 4 ++ six 5 3 4) [] (Refused Kind 1) []
-    ∷ call (six 6 1 0) (six 2 1 1 ++ six 1 0 1) (Accepted 2 2 0) (1 ∷ 2 ∷ [])
-    ∷ call (six 6 1 1) [] (Refused VoidForm 0) []
-    ∷ call (1 ∷ []) [] (Refused BookLength 0) []
-    ∷ call [] (1 ∷ []) (Refused ClaimsLength 0) []
+    call session_book session_claims (accepted_with 6 7 1) (1 ∷ 2 ∷ 3 ∷ 1 ∷ 2 ∷ 1 ∷ 1 ∷ 1 ∷ 1 ∷ 3 ∷ [])
+    ∷ call (six 2 2 2) [] (refused_at Contradiction 0) []
+    ∷ call (six 4 1 0) [] (refused_at Contradiction 0) []
+    ∷ call (six 2 1 0) [] (refused_at Contradiction 0) []
+    ∷ call (six 4 0 1) (six 4 0 1 ++ six 1 1 0) (accepted_with 2 2 0) (1 ∷ 1 ∷ [])
+    ∷ call (session_book ++ six 3 5 3) session_claims (refused_at Contradiction 9) []
+    ∷ call (six 1 3 3) (six 1 3 3) (accepted_with 4 4 0) (1 ∷ [])
+    ∷ call (six 1 0 0) [] (accepted_with 1 1 0) []
+    ∷ call [] (six 1 0 0) (accepted_with 1 1 0) (1 ∷ [])
+    ∷ call (six 2 3 4 ++ six 2 4 3) (six 3 3 4) (accepted_with 5 5 0) (2 ∷ [])
+    ∷ call (six 2 3 4 ++ six 2 3 4) [] (refused_at Repeat 1) []
+    ∷ call (six 1 2048 0) [] (refused_at PieceNumber 0) []
+    ∷ call (six 1 2047 0) (six 1 2048 0) (refused_at ClaimPiece 0) []
+    ∷ call (six 2 3 4 ++ six 5 3 4) [] (refused_at Kind 1) []
+    ∷ call (six 6 1 0) (six 2 1 1 ++ six 1 0 1) (accepted_with 2 2 0) (1 ∷ 2 ∷ [])
+    ∷ call (six 6 1 1) [] (refused_at VoidForm 0) []
+    ∷ call (1 ∷ []) [] (refused_at BookLength 0) []
+    ∷ call [] (1 ∷ []) (refused_at ClaimsLength 0) []
     ∷ []
 
 -- with any lent buffers that are long enough: the outcome, and the answers at the front of their buffer

@@ -1,24 +1,21 @@
 -- What the steps of a call promise each other. Assumes nothing.
-use Rattle.std.specs.Prelude.{ℕ, ◌≡◌, List, length, replicate}
+use Rattle.records.specs.Refused.{BookCheck, ClaimsCheck, refused_at}
+use Rattle.outcomes.specs.Accepted.{Outcome}
+use Rattle.std.specs.Prelude.{ℕ, ◌≡◌, List, length, replicate, Err, Ok}
 use Rattle.records.specs.Record.{records}
 use Rattle.records.specs.Check.{book_check, claims_check}
-use Rattle.records.specs.declared.BookCheck.{BookCheck}
-use Rattle.records.specs.declared.BookCheck.TheVariants as book
-use Rattle.records.specs.declared.ClaimsCheck.{ClaimsCheck}
-use Rattle.records.specs.declared.ClaimsCheck.TheVariants as claims
 use Rattle.closure.specs.Counted.{Counted}
 use Rattle.outcomes.specs.Lent.{Lent}
 use Rattle.outcomes.specs.Call.{by_runs, left}
-use Rattle.outcomes.specs.declared.Outcome.{Outcome}
 
 -- rows 3 to 13: the piece count, or the first refusal
 unfoldable pub after_claims : ℕ → ClaimsCheck → BookCheck
-after_claims n (claims.Refused r i) = book.Refused r i
-after_claims n claims.Accepted = book.Accepted n
+after_claims n (Err r) = Err r
+after_claims n (Ok _) = Ok n
 
 unfoldable pub after_book : List ℕ → BookCheck → BookCheck
-after_book cs (book.Refused r i) = book.Refused r i
-after_book cs (book.Accepted n) = after_claims n (claims_check n cs)
+after_book cs (Err r) = Err r
+after_book cs (Ok n) = after_claims n (claims_check n cs)
 
 unfoldable pub rows_check : List ℕ → List ℕ → BookCheck
 rows_check s cs = after_book cs (book_check s)
@@ -33,7 +30,7 @@ pub record Cleared (a b c d : ℕ) (parens marks shadows places : List ℕ) : Ty
 -- a book and claims that pass the rows before 14, and buffers of exactly the lengths that are written
 pub record Exact (s : List ℕ) (n : ℕ) (cs : List ℕ) (l : Lent) : Type 0 where
   pub sound : Counted s n
-  pub fit : claims_check n cs ≡ claims.Accepted
+  pub fit : claims_check n cs ≡ Ok tt
   pub parens-long : length l.parens ≡ 2560
   pub marks-long : length l.marks ≡ 1280
   pub shadows-long : length l.shadows ≡ 8192
@@ -43,7 +40,7 @@ pub record Exact (s : List ℕ) (n : ℕ) (cs : List ℕ) (l : Lent) : Type 0 wh
 -- the same for answers beside an index that nobody asks for
 pub record Answerable (s : List ℕ) (n : ℕ) (cs : List ℕ) (room : ℕ) : Type 0 where
   pub counted : Counted s n
-  pub fit : claims_check n cs ≡ claims.Accepted
+  pub fit : claims_check n cs ≡ Ok tt
   pub rooms : room ≡ records cs
 
 -- row 14's outcome, and what it leaves in them

@@ -1,7 +1,6 @@
 // A book judged without claims: rows 3 to 9, then 14. Three matrices are scratch.
-ghost use Rattle.std.specs.Prelude.{◌≡◌, []};
+ghost use Rattle.std.specs.Prelude.{◌≡◌, [], Ok};
 ghost use Rattle.records.specs.Check.{book_check};
-ghost use Rattle.records.specs.declared.BookCheck.TheVariants as is;
 ghost use Rattle.outcomes.specs.Call.{by_runs};
 ghost use Rattle.outcomes.specs.Fresh.{fresh_call, uncounted};
 
@@ -12,7 +11,7 @@ use records::{BookCheck, Refusal};
 
 // Row 14 of a book that passes the rows before, with the counts of an index that nobody asks for.
 fn count_in(book: &[u8], n: usize, e: &mut Matrix, d: &mut Matrix, t: &mut Matrix) -> Outcome
-    requires { book_check book.now ≡ is.Accepted n }
+    requires { book_check book.now ≡ Ok n }
     ensures { result ≡ by_runs book.now n }
 {
     let mut voids = [0u64; matrices::ROW_WORDS];
@@ -40,7 +39,7 @@ pub fn judge_run(run: &[u8], e: &mut Matrix, d: &mut Matrix, t: &mut Matrix) -> 
 
 // Row 14 of a book that passes the rows before.
 fn settle_in(book: &[u8], n: usize, e: &mut Matrix, d: &mut Matrix, t: &mut Matrix) -> BookCheck
-    requires { book_check book.now ≡ is.Accepted n }
+    requires { book_check book.now ≡ Ok n }
     ensures { result ≡ uncounted (by_runs book.now n) }
 {
     let mut voids = [0u64; matrices::ROW_WORDS];

@@ -1,10 +1,10 @@
 // The two calls of the piece book: rows 1 to 14 from top to bottom, the index, the answers.
 #![tactic(auto)]
 
+ghost use Rattle.records.specs.Refused.{refused_at};
 ghost use Rattle.std.specs.Prelude.{◌≡◌, [], length, ltb, ◌||◌};
 ghost use Rattle.outcomes.specs.Lent.{lent};
 ghost use Rattle.outcomes.specs.Call.{Determined};
-ghost use Rattle.outcomes.specs.declared.Outcome.TheVariants.{Refused};
 ghost use Rattle.records.specs.declared.Refusal.TheVariants.{Contradiction};
 ghost use Rattle.outcomes.specs.Outcome.{number, place, node_count};
 ghost use Rattle.outcomes.specs.Demands.{Demand2, Demand3, Contradicted};
@@ -40,7 +40,7 @@ fn refuse_clash(
     shadows: &mut [u16],
     places: &mut [u16],
 ) -> Outcome
-    ensures { (result ≡ Refused Contradiction place) × Cleared (length parens.old) (length marks.old) (length shadows.old) (length places.old) parens.new marks.new shadows.new places.new }
+    ensures { (result ≡ refused_at Contradiction place) × Cleared (length parens.old) (length marks.old) (length shadows.old) (length places.old) parens.new marks.new shadows.new places.new }
 {
     clear_index(parens, marks, shadows, places);
     Outcome::Refused(Refusal::Contradiction, place)

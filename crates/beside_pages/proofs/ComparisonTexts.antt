@@ -1,4 +1,6 @@
 -- The text of a comparison by what the call comes to, and how long it is. Assumes nothing.
+use Rattle.std.specs.Prelude.{Ok}
+use Rattle.compare.specs.Refused.{Comparison, refused_of}
 use Prim.Native.Nat.{ℕ, ◌+◌, ◌*◌, ◌/◌, ◌≤◌, ◌<◌}
 use mathlib.Core.Path.{◌≡◌, ◌∙◌, ap, sym}
 use mathlib.Core.Bool.{Bool, true, false}
@@ -10,8 +12,6 @@ use Rattle.records.specs.declared.Record.{Record}
 use Rattle.records.specs.Record.{record_at, records}
 use Rattle.records.specs.declared.Refusal.{Refusal}
 use Rattle.compare.specs.Call.{outcome, Determined}
-use Rattle.compare.specs.declared.Comparison.{Comparison}
-use Rattle.compare.specs.declared.Comparison.TheVariants.{Compared, Refused}
 use Rattle.pages.specs.Text.{ascii}
 use Rattle.pages.specs.Put.{Put}
 use Rattle.pages.proofs.Lined.{no_line, next-line, lines-length}
@@ -104,7 +104,7 @@ module _ (first other asked source second claims out : List ℕ) (r : Comparison
   unfolding beside_text
   told = rw (d.1, comes)
 
-  module _ (k : ℕ) (e : Refusal) (i : ℕ) (is : r ≡ Refused k e i) where
+  module _ (k : ℕ) (e : Refusal) (i : ℕ) (is : r ≡ refused_of k e i) where
     pub refused : refused_in k e i source second claims ≡ beside_text first other asked source second claims
     unfolding text_of
     refused = rw (sym told, is)
@@ -112,7 +112,7 @@ module _ (first other asked source second claims out : List ℕ) (r : Comparison
     pub refused-short : length (refused_in k e i source second claims) ≤ 149 → length (beside_text first other asked source second claims) ≤ 208960
     refused-short h = rw (sym refused) (omega arith)
 
-  module _ (b : Bool) (is : r ≡ Compared b) where
+  module _ (b : Bool) (is : r ≡ Ok b) where
     pub compared : together_line b ++ pair_lines asked out (records asked) ≡ beside_text first other asked source second claims
     unfolding text_of
     compared = rw (sym told, is)

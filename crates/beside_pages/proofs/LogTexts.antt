@@ -1,11 +1,12 @@
 -- The text of a log by the call's outcome, and how long it is. Assumes nothing.
+use Rattle.records.specs.Refused.{refused_at}
+use Rattle.outcomes.specs.Accepted.{accepted_with}
 use Prim.Native.Nat.{ℕ, ◌+◌, ◌*◌, ◌/◌, ◌≤◌, ◌<◌}
 use mathlib.Core.Path.{◌≡◌, ◌∙◌, ap, sym, subst}
 use mathlib.Core.List.{List, ◌++◌}
 use native.Mathlib.Omega.{arith}
 use lib.ListN.{length, get_or, replicate, length-append, length-replicate}
 use Rattle.records.specs.declared.Refusal.{Refusal}
-use Rattle.outcomes.specs.declared.Outcome.TheVariants.{Accepted, Refused}
 use Rattle.replicates.specs.declared.Replicated.{Replicated}
 use Rattle.replicates.specs.Log.{entry_count, entry_at}
 use Rattle.replicates.specs.Call.{outcome, Determined}
@@ -71,14 +72,14 @@ module _ (book log source other out : List ℕ) (r : Replicated) (d : Determined
 
   -- a text of the outcome that was put is the log's
   module _ {p q : List ℕ} {end : ℕ} where
-    pub refused : (e : Refusal) (i : ℕ) → r.outcome ≡ Refused e i → Put p 0 (line.refused e i source other) q end × (length (line.refused e i source other) ≤ 142)
+    pub refused : (e : Refusal) (i : ℕ) → r.outcome ≡ refused_at e i → Put p 0 (line.refused e i source other) q end × (length (line.refused e i source other) ≤ 142)
         → Put p 0 (measured_text book log source other) q end × (length (measured_text book log source other) ≤ 655380)
     unfolding text_of
     refused e i is a =
         let same : line.refused e i source other ≡ measured_text book log source other = rw (sym told, is) in
         subst (λ s. Put p 0 s q end × (length s ≤ 655380)) same (a.0, omega (arith, a.1))
 
-    pub accepted : (n nodes shadows : ℕ) → r.outcome ≡ Accepted n nodes shadows
+    pub accepted : (n nodes shadows : ℕ) → r.outcome ≡ accepted_with n nodes shadows
         → Put p 0 (entry_lines log out (entry_count log)) q end × (length (entry_lines log out (entry_count log)) ≤ 655380)
         → Put p 0 (measured_text book log source other) q end × (length (measured_text book log source other) ≤ 655380)
     unfolding text_of

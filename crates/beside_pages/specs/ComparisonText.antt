@@ -1,11 +1,10 @@
 -- The text of `compare`: whether the records of both books can be laid together, then both answers to each claim. Assumes nothing.
-use Rattle.std.specs.Prelude.{ℕ, ◌+◌, ◌*◌, Bool, true, false, List, [], ◌∷◌, ◌++◌, eqb, get_or, replicate}
+use Rattle.compare.specs.Refused.{Comparison}
+use Rattle.std.specs.Prelude.{ℕ, ◌+◌, ◌*◌, Bool, true, false, List, [], ◌∷◌, ◌++◌, eqb, get_or, replicate, Err, Ok}
 use Rattle.records.specs.declared.Record.{Record}
 use Rattle.records.specs.Record.{record_at, records}
 use Rattle.records.specs.declared.Refusal.{Refusal}
 use Rattle.compare.specs.Call.{outcome, left}
-use Rattle.compare.specs.declared.Comparison.{Comparison}
-use Rattle.compare.specs.declared.Comparison.TheVariants.{Compared, Refused}
 use Rattle.text.specs.Tests.{if_true}
 use Rattle.pages.specs.Text.{ascii, line}
 use Rattle.pages.specs.Decimal.{decimal}
@@ -34,8 +33,8 @@ refused_in k r i source second claims = if_true (eqb k 2) (prefix 1 ++ refused r
 
 -- of a comparison and bytes, where both books and the claims were read from sources
 unfoldable pub text_of : (asked source second claims : List ℕ) → Comparison → (bytes : List ℕ) → List ℕ
-text_of asked source second claims (Compared b) bytes = together_line b ++ pair_lines asked bytes (records asked)
-text_of asked source second claims (Refused k r i) bytes = refused_in k r i source second claims
+text_of asked source second claims (Ok b) bytes = together_line b ++ pair_lines asked bytes (records asked)
+text_of asked source second claims (Err k) bytes = refused_in k.book k.refusal k.place source second claims
 
 -- of what the call comes to and of the bytes that it leaves
 unfoldable pub beside_text : (first other asked source second claims : List ℕ) → List ℕ

@@ -1,7 +1,6 @@
 -- The text of `replicates`: a line for each entry of the log. Assumes nothing.
-use Rattle.std.specs.Prelude.{ℕ, ◌+◌, ◌*◌, List, [], ◌∷◌, get_or, replicate}
-use Rattle.outcomes.specs.declared.Outcome.{Outcome}
-use Rattle.outcomes.specs.declared.Outcome.TheVariants.{Accepted, Refused}
+use Rattle.outcomes.specs.Accepted.{Outcome}
+use Rattle.std.specs.Prelude.{ℕ, ◌+◌, ◌*◌, List, [], ◌∷◌, get_or, replicate, Err, Ok}
 use Rattle.replicates.specs.declared.Window.{Window}
 use Rattle.replicates.specs.Log.{entry_count, entry_at}
 use Rattle.replicates.specs.Call.{outcome, left}
@@ -29,8 +28,8 @@ none = record { pieces = replicate 31 0; count = 0 }
 
 -- of an outcome and bytes, where the book and the log were read from sources
 unfoldable pub text_of : (log source other : List ℕ) → Outcome → (bytes : List ℕ) → List ℕ
-text_of log source other (Accepted n nodes shadows) bytes = entry_lines log bytes (entry_count log)
-text_of log source other (Refused r i) bytes = refused r i source other
+text_of log source other (Ok n) bytes = entry_lines log bytes (entry_count log)
+text_of log source other (Err r) bytes = refused r.refusal r.place source other
 
 -- of the call's outcome and of the bytes that it leaves
 unfoldable pub measured_text : (book log source other : List ℕ) → List ℕ

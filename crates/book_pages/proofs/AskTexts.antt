@@ -1,4 +1,6 @@
 -- The text of a call's outcome and answers, and how long it is. Assumes nothing.
+use Rattle.records.specs.Refused.{refused_at}
+use Rattle.outcomes.specs.Accepted.{Outcome, accepted_with}
 use Prim.Native.Nat.{ℕ, ◌+◌, ◌*◌, ◌/◌, ◌≤◌, ◌<◌, ◌^◌}
 use mathlib.Core.Path.{◌≡◌, sym}
 use mathlib.Core.List.{List, ◌++◌}
@@ -6,8 +8,6 @@ use native.Mathlib.Omega.{arith}
 use lib.ListN.{length, get_or}
 use Rattle.records.specs.Record.{records}
 use Rattle.records.specs.declared.Refusal.{Refusal}
-use Rattle.outcomes.specs.declared.Outcome.{Outcome}
-use Rattle.outcomes.specs.declared.Outcome.TheVariants.{Accepted, Refused}
 use Rattle.sentences.specs.Refusals as line
 use Rattle.report.specs.Session.{claim_lines, counts_line}
 use Rattle.report.specs.Answered.{Answered}
@@ -19,14 +19,14 @@ module _ (book claims source other answers : List ℕ) (o : Outcome) (d : Answer
   unfolding session_text
   told = rw (sym d.comes, sym d.leaves)
 
-  pub refused : (r : Refusal) (i : ℕ) → o ≡ Refused r i → line.refused r i source other ≡ session_text book claims source other
+  pub refused : (r : Refusal) (i : ℕ) → o ≡ refused_at r i → line.refused r i source other ≡ session_text book claims source other
   unfolding text_of
   refused r i is = rw (sym told, is)
 
-  pub refused-short : (r : Refusal) (i : ℕ) → o ≡ Refused r i → length (line.refused r i source other) ≤ 142 → length (session_text book claims source other) ≤ 142 + 33 * records claims
+  pub refused-short : (r : Refusal) (i : ℕ) → o ≡ refused_at r i → length (line.refused r i source other) ≤ 142 → length (session_text book claims source other) ≤ 142 + 33 * records claims
   refused-short r i is h = rw (sym (refused r i is)) (omega arith)
 
-  module _ (n nodes shadows : ℕ) (is : o ≡ Accepted n nodes shadows) where
+  module _ (n nodes shadows : ℕ) (is : o ≡ accepted_with n nodes shadows) where
     pub accepted : counts_line n nodes shadows ++ claim_lines claims answers (records claims) ≡ session_text book claims source other
     unfolding text_of
     accepted = rw (sym told, is)

@@ -1,4 +1,7 @@
 -- The text of a grid by grids and by what follows. Assumes nothing.
+use Rattle.std.specs.Prelude.{Err, Ok}
+use Rattle.records.specs.Refused.{refused_at}
+use Rattle.outcomes.specs.Accepted.{Outcome, accepted_with}
 use Prim.Native.Nat.{ℕ, ◌+◌, ◌/◌, ◌%◌, ◌≤◌, ◌<◌}
 use mathlib.Core.Path.{◌≡◌, refl, ◌∙◌, ap, sym}
 use mathlib.Core.Bool.{Bool, true, false, ◌&&◌}
@@ -16,8 +19,6 @@ use Rattle.records.specs.declared.Refusal.TheVariants.{TooManyPieces}
 use Rattle.grids.specs.declared.rounds.Grids.{Grids}
 use Rattle.grids.specs.Closed.{holds}
 use Rattle.outcomes.specs.Fresh.{fresh_call}
-use Rattle.outcomes.specs.declared.Outcome.{Outcome}
-use Rattle.outcomes.specs.declared.Outcome.TheVariants.{Accepted, Refused}
 use Rattle.grids.specs.Loaded.{among}
 use Rattle.grids.specs.Answers.{claimed}
 use Rattle.grids.specs.Gridded.{by_size, grid_outcome, bit_for, Gridded}
@@ -85,30 +86,30 @@ known : (b : Bool) → Known b
 known true = is_true refl
 known false = is_false refl
 
-few : (o : Outcome) (n x y : ℕ) → by_size o ≡ Accepted n x y → n ≤ 64
+few : (o : Outcome) (n x y : ℕ) → by_size o ≡ accepted_with n x y → n ≤ 64
 unfolding by_size
-few (Refused r i) n x y is = let z : ◌≡◌ {A = ℕ} 0 1 = cc in absurd (omega arith)
-few (Accepted m v w) n x y is = go (known (ltb 64 m)) where
-  go : Known (ltb 64 m) → n ≤ 64
-  go (is_true h) = let e : Refused TooManyPieces 0 ≡ Accepted n x y = rw h at is in let z : ◌≡◌ {A = ℕ} 0 1 = cc in absurd (omega arith)
+few (Err r) n x y is = let z : ◌≡◌ {A = ℕ} 0 1 = cc in absurd (omega arith)
+few (Ok m) n x y is = go (known (ltb 64 m.pieces)) where
+  go : Known (ltb 64 m.pieces) → n ≤ 64
+  go (is_true h) = let e : refused_at TooManyPieces 0 ≡ accepted_with n x y = rw h at is in let z : ◌≡◌ {A = ℕ} 0 1 = cc in absurd (omega arith)
   go (is_false h) =
-      let e : Accepted m v w ≡ Accepted n x y = rw h at is in
-      let z : m ≡ n = cc in
-      omega (arith, ltb-false 64 m h)
+      let e : accepted_with m.pieces m.nodes m.shadows ≡ accepted_with n x y = rw h at is in
+      let z : m.pieces ≡ n = cc in
+      omega (arith, ltb-false 64 m.pieces h)
 
 among-them : (n : ℕ) (f : Fact) → Within n f → among n (left f) (right f) ≡ true
 unfolding among
 among-them n f w = rw (lt-ltb (left f) n w.0, lt-ltb (right f) n w.1)
 
 module _ (s source : List ℕ) (o : Outcome) (g : Grids) (d : Gridded s o g) where
-  pub refused : (r : Refusal) (i : ℕ) → o ≡ Refused r i → line.refused r i source [] ≡ sheet_text s source
+  pub refused : (r : Refusal) (i : ℕ) → o ≡ refused_at r i → line.refused r i source [] ≡ sheet_text s source
   unfolding sheet_text text_of
   refused r i is = rw (← d.outcome-is, is)
 
-  pub refused-short : (r : Refusal) (i : ℕ) → o ≡ Refused r i → length (line.refused r i source []) ≤ 142 → length (sheet_text s source) ≤ 4498
+  pub refused-short : (r : Refusal) (i : ℕ) → o ≡ refused_at r i → length (line.refused r i source []) ≤ 142 → length (sheet_text s source) ≤ 4498
   refused-short r i is h = rw (sym (refused r i is)) (omega arith)
 
-  module _ (n x y : ℕ) (is : o ≡ Accepted n x y) where
+  module _ (n x y : ℕ) (is : o ≡ accepted_with n x y) where
     pub small : n ≤ 64
     unfolding grid_outcome
     small = few (fresh_call s []) n x y (sym d.outcome-is ∙ is)

@@ -1,4 +1,8 @@
 -- What a catalog comes to, and its page. Assumes nothing.
+use Rattle.std.specs.Prelude.{Err, Ok}
+use Rattle.records.specs.Refused.{BookCheck, refused_at}
+use Rattle.outcomes.specs.Accepted.{Outcome}
+use Rattle.catalog.specs.Listing.{Listing}
 use Prim.Native.Nat.{ℕ, ◌≤◌, ◌<◌}
 use mathlib.Core.Path.{◌≡◌, ◌∙◌, ap, sym}
 use mathlib.Core.Bool.{Bool, true, false, not, ◌&&◌}
@@ -11,17 +15,11 @@ use Rattle.lists.proofs.Fronts.{front-taken}
 use Rattle.records.specs.Check.{book_check}
 use Rattle.records.specs.declared.Refusal.{Refusal}
 use Rattle.records.specs.declared.Refusal.TheVariants.{ShortBuffer, ShortCatalog, ClaimFormat, ClaimPiece}
-use Rattle.records.specs.declared.BookCheck.{BookCheck}
-use Rattle.records.specs.declared.BookCheck.TheVariants as book
 use Rattle.outcomes.specs.Lent.{short_lent}
 use Rattle.outcomes.specs.Call.{by_runs}
-use Rattle.outcomes.specs.declared.Outcome.{Outcome}
-use Rattle.outcomes.specs.declared.Outcome.TheVariants.{Accepted, Refused}
 use Rattle.catalog.specs.Lent.{Lent, lent, short_catalog}
 use Rattle.catalog.specs.Call.{list_of, counts_of, refuse_if, by_index, by_asked, by_book, outcome, left, Determined}
 use Rattle.catalog.specs.declared.Counts.{Counts}
-use Rattle.catalog.specs.declared.Listing.{Listing}
-use Rattle.catalog.specs.declared.Listing.TheVariants as listing
 use Rattle.sentences.specs.Refusals as line
 use Rattle.pages.specs.Text.{field}
 use Rattle.pages.specs.Decimal.{decimal}
@@ -31,28 +29,28 @@ use Rattle.book_pages.specs.Listed.{Listed}
 use Rattle.book_pages.specs.ListText.{number_lines, list_lines, zeros, text_of, catalog_text}
 
 -- a row that did not refuse
-past : (b : Bool) (r : Refusal) (l : Listing) (c : Counts) → refuse_if b r l ≡ listing.Written c → l ≡ listing.Written c
+past : (b : Bool) (r : Refusal) (l : Listing) (c : Counts) → refuse_if b r l ≡ Ok c → l ≡ Ok c
 unfolding refuse_if
 past true r l c is = let z : ◌≡◌ {A = ℕ} 0 1 = cc in absurd (omega arith)
 past false r l c is = is
 
 module _ (s : List ℕ) (k g : ℕ) (c : Counts) where
-  by-index : (o : Outcome) → by_index s k g o ≡ listing.Written c → c.listed ≡ length (list_of s c.pieces k g)
+  by-index : (o : Outcome) → by_index s k g o ≡ Ok c → c.listed ≡ length (list_of s c.pieces k g)
   unfolding by_index counts_of
-  by-index (Refused r i) is = let z : ◌≡◌ {A = ℕ} 0 1 = cc in absurd (omega arith)
-  by-index (Accepted n nodes shadows) is =
-      let e : counts_of s k g n nodes shadows ≡ c = cc in
+  by-index (Err r) is = let z : ◌≡◌ {A = ℕ} 0 1 = cc in absurd (omega arith)
+  by-index (Ok n) is =
+      let e : counts_of s k g n.pieces n.nodes n.shadows ≡ c = cc in
       ap (λ (x : Counts). x.listed) (sym e) ∙ ap (λ (x : Counts). length (list_of s x.pieces k g)) e
 
-  by-book : (b : BookCheck) → by_book s k g b ≡ listing.Written c → c.listed ≡ length (list_of s c.pieces k g)
+  by-book : (b : BookCheck) → by_book s k g b ≡ Ok c → c.listed ≡ length (list_of s c.pieces k g)
   unfolding by_book by_asked
-  by-book (book.Refused r i) is = let z : ◌≡◌ {A = ℕ} 0 1 = cc in absurd (omega arith)
-  by-book (book.Accepted n) is =
+  by-book (Err r) is = let z : ◌≡◌ {A = ℕ} 0 1 = cc in absurd (omega arith)
+  by-book (Ok n) is =
       by-index (by_runs s n)
       (past (leb n g) ClaimPiece (by_index s k g (by_runs s n)) c
       (past (not (leb 1 k && leb k 3)) ClaimFormat (refuse_if (leb n g) ClaimPiece (by_index s k g (by_runs s n))) c is))
 
-  counted : (l : Lent) → outcome s k g l ≡ listing.Written c → c.listed ≡ length (list_of s c.pieces k g)
+  counted : (l : Lent) → outcome s k g l ≡ Ok c → c.listed ≡ length (list_of s c.pieces k g)
   unfolding outcome
   counted l is =
       by-book (book_check s)
@@ -81,14 +79,14 @@ determined s k g list r l is d =
     record { comes = d'.0; leaves = ap (λ x. x.list) d'.1 }
 
 module _ (s source : List ℕ) (k g : ℕ) (list : List ℕ) (r : Listing) (d : Listed s k g list r) where
-  pub refused : (e : Refusal) (i : ℕ) → r ≡ listing.Refused e i → line.refused e i source [] ≡ catalog_text s source k g
+  pub refused : (e : Refusal) (i : ℕ) → r ≡ refused_at e i → line.refused e i source [] ≡ catalog_text s source k g
   unfolding catalog_text text_of
   refused e i is = rw (← d.comes, is)
 
-  pub refused-short : (e : Refusal) (i : ℕ) → r ≡ listing.Refused e i → length (line.refused e i source []) ≤ 142 → length (catalog_text s source k g) ≤ 12300
+  pub refused-short : (e : Refusal) (i : ℕ) → r ≡ refused_at e i → length (line.refused e i source []) ≤ 142 → length (catalog_text s source k g) ≤ 12300
   refused-short e i is h = rw (sym (refused e i is)) (omega arith)
 
-  module _ (c : Counts) (is : r ≡ listing.Written c) where
+  module _ (c : Counts) (is : r ≡ Ok c) where
     fronted : list ≡ front (list_of s c.pieces k g) zeros.list
     unfolding left
     fronted = d.leaves ∙ ap (λ x. (left s k g zeros x).list) is

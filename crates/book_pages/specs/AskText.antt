@@ -1,10 +1,9 @@
 -- The texts of `check` and `ask`: the counts' line and the line of each claim, as document 01's session has them; or the line of the refusal, or of
 -- what cannot be read. Assumes nothing.
-use Rattle.std.specs.Prelude.{ℕ, List, [], ◌++◌}
+use Rattle.outcomes.specs.Accepted.{Outcome}
+use Rattle.std.specs.Prelude.{ℕ, List, [], ◌++◌, Err, Ok}
 use Rattle.records.specs.Record.{records}
 use Rattle.outcomes.specs.Call.{outcome, left}
-use Rattle.outcomes.specs.declared.Outcome.{Outcome}
-use Rattle.outcomes.specs.declared.Outcome.TheVariants.{Accepted, Refused}
 use Rattle.text.specs.declared.Form.TheVariants.{Claims}
 use Rattle.text.specs.Entry.{six_bytes}
 use Rattle.sentences.specs.Refusals.{refused}
@@ -15,8 +14,8 @@ use Rattle.report.specs.Page.{zeros}
 
 -- of an outcome and answers, where the book was read from a source and the claims from another
 unfoldable pub text_of : (claims source other : List ℕ) → Outcome → (answers : List ℕ) → List ℕ
-text_of claims source other (Accepted n nodes shadows) answers = counts_line n nodes shadows ++ claim_lines claims answers (records claims)
-text_of claims source other (Refused r i) answers = refused r i source other
+text_of claims source other (Ok n) answers = counts_line n.pieces n.nodes n.shadows ++ claim_lines claims answers (records claims)
+text_of claims source other (Err r) answers = refused r.refusal r.place source other
 
 -- of the call's outcome and of the answers that it leaves
 unfoldable pub session_text : (book claims source other : List ℕ) → List ℕ

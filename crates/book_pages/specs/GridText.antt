@@ -1,11 +1,10 @@
 -- The text of `grid`: the piece count, a heading of the columns, then a line a piece with a sign for each piece. Assumes nothing.
-use Rattle.std.specs.Prelude.{ℕ, ◌+◌, ◌/◌, ◌%◌, Bool, true, false, List, [], ◌∷◌, ◌++◌, ltb}
+use Rattle.outcomes.specs.Accepted.{Outcome}
+use Rattle.std.specs.Prelude.{ℕ, ◌+◌, ◌/◌, ◌%◌, Bool, true, false, List, [], ◌∷◌, ◌++◌, ltb, Err, Ok}
 use Rattle.rules.specs.Fact.{Fact}
 use Rattle.rules.specs.Follows.{follows}
 use Rattle.records.specs.Facts.{facts}
 use Rattle.records.specs.Marked.{marked}
-use Rattle.outcomes.specs.declared.Outcome.{Outcome}
-use Rattle.outcomes.specs.declared.Outcome.TheVariants.{Accepted, Refused}
 use Rattle.grids.specs.Gridded.{grid_outcome}
 use Rattle.pages.specs.Text.{ascii, field, line}
 use Rattle.pages.specs.Decimal.{decimal}
@@ -50,8 +49,8 @@ grid_lines D n = line (ascii "PIECES" ∷ decimal n ∷ []) ++ (headings n ++ ro
 
 -- of what the grid call comes to, where the book was read from a source
 unfoldable pub text_of : (book source : List ℕ) → Outcome → List ℕ
-text_of book source (Accepted n nodes shadows) = grid_lines (follows (marked book) n (facts book)) n
-text_of book source (Refused r i) = refused r i source []
+text_of book source (Ok n) = grid_lines (follows (marked book) n.pieces (facts book)) n.pieces
+text_of book source (Err r) = refused r.refusal r.place source []
 
 unfoldable pub sheet_text : (book source : List ℕ) → List ℕ
 sheet_text book source = text_of book source (grid_outcome book)

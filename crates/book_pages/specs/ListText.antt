@@ -1,9 +1,8 @@
 -- The text of `inside`, `touching` and `apart`: how many pieces, then one number a line. Assumes nothing.
-use Rattle.std.specs.Prelude.{ℕ, List, [], ◌∷◌, ◌++◌, length, get_or, replicate}
+use Rattle.catalog.specs.Listing.{Listing}
+use Rattle.std.specs.Prelude.{ℕ, List, [], ◌∷◌, ◌++◌, length, get_or, replicate, Err, Ok}
 use Rattle.catalog.specs.Lent.{Lent, lent}
 use Rattle.catalog.specs.Call.{list_of, outcome}
-use Rattle.catalog.specs.declared.Listing.{Listing}
-use Rattle.catalog.specs.declared.Listing.TheVariants.{Written, Refused}
 use Rattle.pages.specs.Text.{ascii, field, line}
 use Rattle.pages.specs.Decimal.{decimal}
 use Rattle.pages.specs.Lines.{lines}
@@ -25,8 +24,8 @@ zeros = lent (replicate 2560 0) (replicate 1280 0) (replicate 8192 0) (replicate
 
 -- of what a catalog for kind k and piece g comes to, where the book was read from a source
 unfoldable pub text_of : (book source : List ℕ) → ℕ → ℕ → Listing → List ℕ
-text_of book source k g (Written c) = list_lines (list_of book c.pieces k g)
-text_of book source k g (Refused r i) = refused r i source []
+text_of book source k g (Ok c) = list_lines (list_of book c.pieces k g)
+text_of book source k g (Err r) = refused r.refusal r.place source []
 
 unfoldable pub catalog_text : (book source : List ℕ) → ℕ → ℕ → List ℕ
 catalog_text book source k g = text_of book source k g (outcome book k g zeros)

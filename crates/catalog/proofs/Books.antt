@@ -1,4 +1,5 @@
 -- What an accepted book gives its list and its areas. Assumes nothing.
+use Rattle.std.specs.Prelude.{Ok}
 use mathlib.Core.Path.{◌≡◌, ap, ◌∙◌}
 use mathlib.Core.List.{List}
 use Prim.Native.Nat.{ℕ, ◌≤◌, ◌<◌}
@@ -14,7 +15,6 @@ use Rattle.records.specs.Record.{records}
 use Rattle.records.specs.Facts.{facts}
 use Rattle.records.specs.Marked.{marked}
 use Rattle.records.specs.Check.{book_check}
-use Rattle.records.specs.declared.BookCheck.TheVariants as book
 use Rattle.records.proofs.Accepted.{accepted}
 use Rattle.parentheses.specs.Padded.{padded}
 use Rattle.parentheses.proofs.Paddeds.{padded-length}
@@ -35,7 +35,7 @@ use Rattle.areas.specs.Area.{pairs, filled}
 use Rattle.catalog.specs.Call.{list_of, places_of, area_of}
 use Rattle.catalog.specs.Filling.{Filled}
 
-module _ (s : List ℕ) (n : ℕ) (sound : book_check s ≡ book.Accepted n) where
+module _ (s : List ℕ) (n : ℕ) (sound : book_check s ≡ Ok n) where
   pub book-bounded : Bounded n (facts s)
   book-bounded = (settleable s n sound).bounded
 

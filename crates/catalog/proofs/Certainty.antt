@@ -1,4 +1,7 @@
 -- The list of an accepted catalog has exactly what is derived, and what every model keeps. Assumes nothing.
+use Rattle.std.specs.Prelude.{Err, Ok}
+use Rattle.records.specs.Refused.{BookCheck}
+use Rattle.catalog.specs.Listing.{Listing}
 use Prim.Native.Nat.{ℕ, ◌<◌}
 use mathlib.Core.Path.{◌≡◌, refl, subst}
 use mathlib.Core.Bool.{Bool, true, false}
@@ -18,8 +21,6 @@ use Rattle.records.specs.Facts.{entries, facts}
 use Rattle.records.specs.Marked.{marked}
 use Rattle.records.specs.Check.{book_check}
 use Rattle.records.specs.declared.Refusal.{Refusal}
-use Rattle.records.specs.declared.BookCheck.{BookCheck}
-use Rattle.records.specs.declared.BookCheck.TheVariants as book
 use Rattle.records.proofs.Rows.{refused-positive}
 use Rattle.records.proofs.Accepted.{accepted}
 use Rattle.contradiction.proofs.SettlingLaws.{settleable, whole-unmarked, beyond-free, free-consistent}
@@ -29,7 +30,6 @@ use Rattle.catalog.specs.Outcome.{number}
 use Rattle.catalog.specs.Call.{list_of, refuse_if, by_index, by_asked, by_book, outcome}
 use Rattle.catalog.specs.Certain.{Certain, AllCertain}
 use Rattle.catalog.specs.Filling.{Asked}
-use Rattle.catalog.specs.declared.Listing.{Listing}
 use Rattle.catalog.proofs.Calls.{asked_by}
 use Rattle.catalog.proofs.Telling.{claim-within}
 use Rattle.lists.proofs.Passed.{passing-at, passing-back, passing-less, passing-rises}
@@ -42,12 +42,12 @@ passes false r below e = (refl, e)
 
 -- what acceptance says of the rows
 record Sound (s : List ℕ) (k g n : ℕ) : Type 0 where
-  sound : book_check s ≡ book.Accepted n
+  sound : book_check s ≡ Ok n
   asked : Asked n k g
   free : false ≡ clash (marked s) n (facts s)
 
 module _ (s : List ℕ) (k g : ℕ) where
-  runs : (n : ℕ) → book_check s ≡ book.Accepted n → number (by_index s k g (answers.by_runs s n)) ≡ 0 → false ≡ clash (marked s) n (facts s)
+  runs : (n : ℕ) → book_check s ≡ Ok n → number (by_index s k g (answers.by_runs s n)) ≡ 0 → false ≡ clash (marked s) n (facts s)
   unfolding answers.by_runs by_index
   runs n sound e = pick (known (leb (shortest_clash (marked s) n (entries s)) (records s)))
     where
@@ -57,8 +57,8 @@ module _ (s : List ℕ) (k g : ℕ) where
 
   books : (b : BookCheck) → book_check s ≡ b → number (by_book s k g b) ≡ 0 → (n : ℕ) × Sound s k g n
   unfolding by_book by_asked
-  books (book.Refused r i) q e = absurd (refused-positive r e)
-  books (book.Accepted n) q e =
+  books (Err r) q e = absurd (refused-positive r.refusal e)
+  books (Ok n) q e =
       let a = passes _ _ _ e in
       let c = passes _ _ _ a.1 in
       (n, record { sound = q; asked = asked_by k g n (not-is-false _ a.0) c.0; free = runs n q c.1 })

@@ -1,4 +1,5 @@
 -- The list and the areas of a catalog have room: no more pairs are kept than there are records. Assumes nothing.
+use Rattle.std.specs.Prelude.{Ok}
 use mathlib.Core.Path.{◌≡◌, refl, sym, ap, ◌∙◌}
 use mathlib.Core.List.{List, ◌++◌}
 use Prim.Native.Nat.{ℕ, ◌+◌, ◌-◌, ◌*◌, ◌≤◌}
@@ -18,7 +19,6 @@ use Rattle.records.specs.Record.{records}
 use Rattle.records.specs.Facts.{facts}
 use Rattle.records.specs.Marked.{marked}
 use Rattle.records.specs.Check.{book_check}
-use Rattle.records.specs.declared.BookCheck.TheVariants as book
 use Rattle.areas.specs.Area.{stored, cell, filled}
 use Rattle.areas.proofs.Lists.{twice}
 use Rattle.areas.proofs.Sources.{Row, Column, stored-from}
@@ -32,7 +32,7 @@ unfolding front
 behind-front xs old m e =
     ap (λ (k : ℕ). drop k (xs ++ drop (length xs) old)) (sym e ∙ sym (add-zero (length xs))) ∙ drop-append-add xs (drop (length xs) old) 0 ∙ ap (λ (k : ℕ). drop k old) e
 
-module _ (s : List ℕ) (n k : ℕ) (sound : book_check s ≡ book.Accepted n) (least : 1 ≤ k) (most : k ≤ 4) where
+module _ (s : List ℕ) (n k : ℕ) (sound : book_check s ≡ Ok n) (least : 1 ≤ k) (most : k ≤ 4) where
   -- each pair comes from a record
   few : length (area_of s n k) ≤ 8192
   unfolding area_of

@@ -1,4 +1,5 @@
 -- The range of a piece in the index of an accepted book. Assumes nothing.
+use Rattle.std.specs.Prelude.{Ok}
 use mathlib.Core.Path.{◌≡◌, sym, ap, ◌∙◌}
 use mathlib.Core.Bool.{Bool, false}
 use mathlib.Core.List.{List}
@@ -10,7 +11,6 @@ use Rattle.lists.proofs.Fronts.{front-taken}
 use Rattle.lists.proofs.Tabs.{tab-at}
 use Rattle.records.specs.Facts.{facts}
 use Rattle.records.specs.Check.{book_check}
-use Rattle.records.specs.declared.BookCheck.TheVariants as book
 use Rattle.parentheses.specs.Bits.{bits}
 use Rattle.parentheses.specs.Padded.{padded}
 use Rattle.parentheses.specs.Forest.{size, children}
@@ -44,7 +44,7 @@ front_at : (xs old : List ℕ) (i : ℕ) → i < length xs → get_or (front xs 
 unfolding front
 front_at xs old i l = get_or-append xs (drop (length xs) old) 0 i l
 
-module _ (s : List ℕ) (n : ℕ) (sound : book_check s ≡ book.Accepted n) (old old' : List ℕ) (h : ℕ) (l : h < n) where
+module _ (s : List ℕ) (n : ℕ) (sound : book_check s ≡ Ok n) (old old' : List ℕ) (h : ℕ) (l : h < n) where
   abbrev parens : List ℕ
   parens = front (on.packed 2560 (book_parens n (pairs_of s))) old
 

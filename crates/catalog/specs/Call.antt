@@ -1,5 +1,8 @@
 -- What a catalog comes to, from its input alone: the outcome, and every buffer at exit. Assumes nothing.
-use Rattle.std.specs.Prelude.{◌≡◌, ℕ, Bool, true, false, not, ◌&&◌, List, [], leb, length}
+use Rattle.records.specs.Refused.{BookCheck, refused_at}
+use Rattle.outcomes.specs.Accepted.{Outcome, accepted_with}
+use Rattle.catalog.specs.Listing.{Listing}
+use Rattle.std.specs.Prelude.{◌≡◌, ℕ, Bool, true, false, not, ◌&&◌, List, [], leb, length, Err, Ok}
 use Rattle.lists.specs.Front.{front}
 use Rattle.rules.specs.Fact.{fact_of}
 use Rattle.rules.specs.Follows.{follows}
@@ -8,20 +11,14 @@ use Rattle.records.specs.Marked.{marked}
 use Rattle.records.specs.Check.{book_check}
 use Rattle.records.specs.declared.Refusal.{Refusal}
 use Rattle.records.specs.declared.Refusal.TheVariants.{ShortBuffer, ShortCatalog, ClaimFormat, ClaimPiece}
-use Rattle.records.specs.declared.BookCheck.{BookCheck}
-use Rattle.records.specs.declared.BookCheck.TheVariants as book
 use Rattle.parentheses.specs.Padded.{padded}
 use Rattle.groups.specs.Index.{book_places}
 use Rattle.outcomes.specs.Lent.{short_lent}
 use Rattle.outcomes.specs.Call as answers
-use Rattle.outcomes.specs.declared.Outcome.{Outcome}
-use Rattle.outcomes.specs.declared.Outcome.TheVariants.{Accepted, Refused}
 use Rattle.lists.specs.Passing.{passing}
 use Rattle.areas.specs.Area.{pairs, filled}
 use Rattle.catalog.specs.Lent.{Lent, short_catalog}
 use Rattle.catalog.specs.declared.Counts.{Counts}
-use Rattle.catalog.specs.declared.Listing.{Listing}
-use Rattle.catalog.specs.declared.Listing.TheVariants as listing
 
 -- ---- what is written of a book s with n pieces
 
@@ -52,21 +49,21 @@ counts_of s k g n nodes shadows = record {
 
 -- a row that refuses at place 0, or the rows below it
 unfoldable pub refuse_if : Bool → Refusal → Listing → Listing
-refuse_if true r below = listing.Refused r 0
+refuse_if true r below = refused_at r 0
 refuse_if false r below = below
 
 -- row 14 as in the call that writes the index alone
 unfoldable pub by_index : List ℕ → ℕ → ℕ → Outcome → Listing
-by_index s k g (Accepted n nodes shadows) = listing.Written (counts_of s k g n nodes shadows)
-by_index s k g (Refused r i) = listing.Refused r i
+by_index s k g (Ok n) = Ok (counts_of s k g n.pieces n.nodes n.shadows)
+by_index s k g (Err r) = Err r
 
 -- row 12 for a kind that is not 1 to 3, row 13 for a piece that is not the book's
 unfoldable pub by_asked : List ℕ → ℕ → ℕ → ℕ → Listing
 by_asked s k g n = refuse_if (not (leb 1 k && leb k 3)) ClaimFormat (refuse_if (leb n g) ClaimPiece (by_index s k g (answers.by_runs s n)))
 
 unfoldable pub by_book : List ℕ → ℕ → ℕ → BookCheck → Listing
-by_book s k g (book.Refused r i) = listing.Refused r i
-by_book s k g (book.Accepted n) = by_asked s k g n
+by_book s k g (Err r) = Err r
+by_book s k g (Ok n) = by_asked s k g n
 
 unfoldable pub outcome : List ℕ → ℕ → ℕ → Lent → Listing
 outcome s k g l = refuse_if (short_lent [] l.index) ShortBuffer (refuse_if (short_catalog l) ShortCatalog (by_book s k g (book_check s)))
@@ -75,10 +72,10 @@ outcome s k g l = refuse_if (short_lent [] l.index) ShortBuffer (refuse_if (shor
 
 -- the index is what the call that writes it alone leaves, so that refusal 14 zeroes it; list and areas are written on acceptance alone
 unfoldable pub left : List ℕ → ℕ → ℕ → Lent → Listing → Lent
-left s k g l (listing.Refused r i) =
-    record { index = answers.left s [] l.index (Refused r i); list = l.list; meets = l.meets; apart = l.apart; notpart = l.notpart }
-left s k g l (listing.Written c) = record {
-  index = answers.left s [] l.index (Accepted c.pieces c.nodes c.shadows);
+left s k g l (Err r) =
+    record { index = answers.left s [] l.index (Err r); list = l.list; meets = l.meets; apart = l.apart; notpart = l.notpart }
+left s k g l (Ok c) = record {
+  index = answers.left s [] l.index (accepted_with c.pieces c.nodes c.shadows);
   list = front (list_of s c.pieces k g) l.list;
   meets = filled (area_of s c.pieces 3) l.meets;
   apart = filled (area_of s c.pieces 2) l.apart;

@@ -1,13 +1,13 @@
 -- What the steps of a catalog promise each other. Assumes nothing.
-use Rattle.std.specs.Prelude.{◌≡◌, Bool, true, false, not, ◌&&◌, List, [], ℕ, ◌≤◌, ◌<◌, leb, length}
+use Rattle.records.specs.Refused.{BookCheck, refused_at}
+use Rattle.catalog.specs.Listing.{Listing}
+use Rattle.std.specs.Prelude.{◌≡◌, Bool, true, false, not, ◌&&◌, List, [], ℕ, ◌≤◌, ◌<◌, leb, length, Err, Ok}
 use Rattle.lists.specs.Front.{front}
 use Rattle.rules.specs.Follows.{clash}
 use Rattle.records.specs.Facts.{facts}
 use Rattle.records.specs.Check.{book_check}
 use Rattle.records.specs.declared.Refusal.{Refusal}
 use Rattle.records.specs.declared.Refusal.TheVariants.{ClaimFormat, ClaimPiece}
-use Rattle.records.specs.declared.BookCheck.{BookCheck}
-use Rattle.records.specs.declared.BookCheck.TheVariants as book
 use Rattle.closure.specs.Void.{void_of}
 use Rattle.closure.specs.Closed.{Holds, part_bit, toward_bit}
 use Rattle.outcomes.specs.Call.{by_runs}
@@ -17,16 +17,15 @@ use Rattle.areas.specs.Area.{filled}
 use Rattle.catalog.specs.Lent.{Lent}
 use Rattle.catalog.specs.Call.{list_of, places_of, area_of, by_index, left}
 use Rattle.catalog.specs.declared.Lengths.{Lengths}
-use Rattle.catalog.specs.declared.Listing.{Listing}
 
 -- the book's rows, then 12 and 13 for the kind and the piece: the piece count, or the first refusal
 unfoldable pub refused_if : Bool → Refusal → BookCheck → BookCheck
-refused_if true r below = book.Refused r 0
+refused_if true r below = refused_at r 0
 refused_if false r below = below
 
 unfoldable pub asked : ℕ → ℕ → BookCheck → BookCheck
-asked k g (book.Refused r i) = book.Refused r i
-asked k g (book.Accepted n) = refused_if (not (leb 1 k && leb k 3)) ClaimFormat (refused_if (leb n g) ClaimPiece (book.Accepted n))
+asked k g (Err r) = Err r
+asked k g (Ok n) = refused_if (not (leb 1 k && leb k 3)) ClaimFormat (refused_if (leb n g) ClaimPiece (Ok n))
 
 -- a list and areas of these lengths have room for what is written
 pub record Roomy (list meets apart notpart : ℕ) : Type 0 where
@@ -43,7 +42,7 @@ pub record Asked (n k g : ℕ) : Type 0 where
 
 -- a book that is not contradictory, its marks, its D and T, and the place list of its index
 pub record Settled (s : List ℕ) (n : ℕ) (voids d t places : List ℕ) : Type 0 where
-  pub sound : book_check s ≡ book.Accepted n
+  pub sound : book_check s ≡ Ok n
   pub void : MarksOf s voids
   pub free : false ≡ clash (void_of voids) n (facts s)
   pub parts : Holds n d (part_bit n (facts s))
@@ -63,7 +62,7 @@ pub record Filled (s : List ℕ) (k g n : ℕ) (list meets apart notpart : List 
 
 -- a book that passes the rows before 12, index parts of exactly the lengths that are written, and a list and areas with room
 pub record Ready (s : List ℕ) (n : ℕ) (l : Lent) : Type 0 where
-  pub sound : book_check s ≡ book.Accepted n
+  pub sound : book_check s ≡ Ok n
   pub exact : Exact s n [] l.index
   pub roomy : Roomy (length l.list) (length l.meets) (length l.apart) (length l.notpart)
 

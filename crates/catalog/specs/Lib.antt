@@ -6,3 +6,4 @@ pub mod Outcome
 pub mod Certain
 pub mod Sizes
 pub mod Questions
+pub mod Listing

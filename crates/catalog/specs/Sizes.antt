@@ -1,7 +1,6 @@
 -- What a catalog writes of a book that its rows let pass fits the lent list and areas, so that nothing is written behind them. Assumes nothing.
-use Rattle.std.specs.Prelude.{◌≡◌, List, ℕ, ◌≤◌, length, drop}
+use Rattle.std.specs.Prelude.{◌≡◌, List, ℕ, ◌≤◌, length, drop, Ok}
 use Rattle.records.specs.Check.{book_check}
-use Rattle.records.specs.declared.BookCheck.TheVariants as book
 use Rattle.areas.specs.Area.{filled}
 use Rattle.catalog.specs.Call.{list_of, area_of}
 
@@ -14,4 +13,4 @@ pub record Sized (s : List ℕ) (n k : ℕ) : Type 0 where
 
 -- of every kind that a record states
 abbrev pub CatalogFits : Type 0
-CatalogFits = (s : List ℕ) (n : ℕ) → book_check s ≡ book.Accepted n → (k : ℕ) → 1 ≤ k → k ≤ 4 → Sized s n k
+CatalogFits = (s : List ℕ) (n : ℕ) → book_check s ≡ Ok n → (k : ℕ) → 1 ≤ k → k ≤ 4 → Sized s n k

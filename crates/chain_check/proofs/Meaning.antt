@@ -1,4 +1,6 @@
 -- What steps that pass say of their claim: the last one is the answer. Assumes nothing.
+use Rattle.std.specs.Prelude.{Err, Ok}
+use Rattle.outcomes.specs.Accepted.{Outcome, accepted_with}
 use Prim.Native.Nat.{ℕ, zero, suc, ◌-◌, ◌%◌, ◌≤◌, ◌<◌}
 use mathlib.Core.Path.{◌≡◌, refl, sym, subst}
 use mathlib.Core.Logic.{◌⊎◌, inl, inr}
@@ -22,8 +24,6 @@ use Rattle.records.specs.Marked.{marked}
 use Rattle.records.proofs.Keeps.{picked-among}
 use Rattle.records.proofs.Accepted.{accepted-claims}
 use Rattle.contradiction.proofs.SettlingLaws.{settleable, whole-unmarked}
-use Rattle.outcomes.specs.declared.Outcome.{Outcome}
-use Rattle.outcomes.specs.declared.Outcome.TheVariants.{Accepted, Refused}
 use Rattle.claims.proofs.Fewer.{fewer-within, fewer-consistent}
 use Rattle.chain_format.specs.Step.{step_at, steps}
 use Rattle.chain_format.specs.Citing.{Cited, fact, mark, none, citing}
@@ -107,7 +107,7 @@ module _ (s cs c : List ℕ) where
   abbrev Passes : Outcome → Type 0
   Passes o = passing s cs c o ≡ true
 
-  module _ (n nodes shadows : ℕ) (a : asked s cs ≡ Accepted n nodes shadows) (k : Chain n (citing (record_at cs 0) s) (claim_in cs) c) where
+  module _ (n nodes shadows : ℕ) (a : asked s cs ≡ accepted_with n nodes shadows) (k : Chain n (citing (record_at cs 0) s) (claim_in cs) c) where
     passed : Passed s cs n nodes shadows
     passed = asked-passed s cs n nodes shadows a
 
@@ -162,8 +162,8 @@ module _ (s cs c : List ℕ) where
 
   by-outcome : (o : Outcome) → asked s cs ≡ o → Passes o → Proved s cs c
   unfolding passing
-  by-outcome (Refused r i) a e = absurd (false≢true e)
-  by-outcome (Accepted n nodes shadows) a e = proved n nodes shadows a (chain-ok n (citing (record_at cs 0) s) (claim_in cs) c e)
+  by-outcome (Err r) a e = absurd (false≢true e)
+  by-outcome (Ok n) a e = proved n.pieces n.nodes n.shadows a (chain-ok n.pieces (citing (record_at cs 0) s) (claim_in cs) c e)
 
 pub chain-derives : ChainDerives
 unfolding passes

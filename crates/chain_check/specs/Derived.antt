@@ -1,4 +1,5 @@
 -- What the steps that pass say: a derivation of what the last step shows, from the facts that they cite. Assumes nothing.
+use Rattle.outcomes.specs.Accepted.{accepted_with}
 use Rattle.std.specs.Prelude.{ℕ, ◌-◌, ◌≡◌, ◌⊎◌, true}
 use mathlib.Core.List.{List, Memᴰ}
 use Rattle.rules.specs.Fact.{Fact, opposite}
@@ -8,7 +9,6 @@ use Rattle.records.specs.Record.{record_at}
 use Rattle.records.specs.Facts.{saying, facts}
 use Rattle.records.specs.Kept.{picked}
 use Rattle.records.specs.Marked.{marked}
-use Rattle.outcomes.specs.declared.Outcome.TheVariants.{Accepted}
 use Rattle.chain_format.specs.Step.{step_at, steps, shows}
 use Rattle.chain_format.specs.Citing.{citing}
 use Rattle.chain_format.specs.Chain.{cited_by}
@@ -34,7 +34,7 @@ pub record Proved (s cs c : List ℕ) : Type 0 where
   pub n : ℕ
   pub nodes : ℕ
   pub shadows : ℕ
-  pub accepted : asked s cs ≡ Accepted n nodes shadows
+  pub accepted : asked s cs ≡ accepted_with n nodes shadows
   pub last : Concludes c (claim_in cs) ⊎ Concludes c (opposite (claim_in cs))
   pub derives : (f : Fact) → Concludes c f → Derives (marked s) n (cited_in s cs c) f
   pub among : (f : Fact) → Memᴰ f (cited_in s cs c) → Memᴰ f (facts_for s cs)

@@ -2,9 +2,8 @@
 // specs/, what that means in proofs/.
 #![tactic(auto)]
 
-ghost use Rattle.std.specs.Prelude.{◌≡◌, length};
+ghost use Rattle.std.specs.Prelude.{◌≡◌, length, Ok};
 ghost use Rattle.records.specs.Check.{book_check};
-ghost use Rattle.records.specs.declared.BookCheck.TheVariants as is;
 ghost use Rattle.chain_check.specs.Call.{passes, Checked};
 ghost use Rattle.records.specs.Sizes.{RECORD-BYTES};
 
@@ -13,7 +12,7 @@ use records::{BookCheck, ClaimsCheck};
 
 // The claim's rows and the steps, in an accepted book of n pieces.
 fn check_accepted(book: &[u8], n: usize, claim: &[u8], steps: &[u8]) -> bool
-    requires { (book_check book.now ≡ is.Accepted n) × (length claim.now ≡ RECORD-BYTES) }
+    requires { (book_check book.now ≡ Ok n) × (length claim.now ≡ RECORD-BYTES) }
     ensures { Checked n book.now claim.now steps.now result }
 {
     let fit = records::check_claims(claim, n);

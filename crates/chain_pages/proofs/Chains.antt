@@ -1,4 +1,7 @@
 -- What the writer of chains leaves, for a buffer of 16,400 steps. Assumes nothing.
+use Rattle.std.specs.Prelude.{Err, Ok}
+use Rattle.records.specs.Refused.{BookCheck}
+use Rattle.outcomes.specs.Accepted.{Outcome}
 use Prim.Native.Nat.{ℕ, ◌≤◌}
 use mathlib.Core.Path.{◌≡◌, ◌∙◌, ap}
 use mathlib.Core.Bool.{not}
@@ -13,31 +16,27 @@ use Rattle.records.specs.Record.{record_at}
 use Rattle.records.specs.Check.{book_check, claims_check}
 use Rattle.records.specs.declared.Refusal.{Refusal}
 use Rattle.records.specs.declared.Refusal.TheVariants.{ClaimsLength}
-use Rattle.records.specs.declared.BookCheck.{BookCheck}
-use Rattle.records.specs.declared.BookCheck.TheVariants as book
 use Rattle.verdicts.specs.declared.Answer.{Answer}
 use Rattle.outcomes.specs.Call.{by_claims}
 use Rattle.outcomes.specs.One.{refuse_if, by_one}
-use Rattle.outcomes.specs.declared.Outcome.{Outcome}
 use Rattle.chain_check.specs.Call.{asked}
 use Rattle.chain_writing.specs.Call.{reply_of, reply, shown, Written}
-use Rattle.chain_writing.specs.declared.Reply.TheVariants.{Answered}
 use Rattle.chain_writing.specs.declared.Chain.{Chain}
 use Rattle.chain_pages.specs.Verified.{said}
 use Rattle.chain_pages.specs.Why.{Whole, Shown}
 
 -- a claim that is answered is six bytes
-sized : (claim : Record) (s : List ℕ) (n : ℕ) (e : Refusal) (o : Outcome) (a : Answer) → reply_of claim s (refuse_if (not (eqb n 6)) e o) ≡ Answered a → n ≡ 6
+sized : (claim : Record) (s : List ℕ) (n : ℕ) (e : Refusal) (o : Outcome) (a : Answer) → reply_of claim s (refuse_if (not (eqb n 6)) e o) ≡ Ok a → n ≡ 6
 unfolding refuse_if reply_of
 sized claim s n e o a is = go (known (eqb n 6)) where
   go : Known (eqb n 6) → n ≡ 6
   go (is_true h) = eqb-true n 6 h
   go (is_false h) = let z : ◌≡◌ {A = ℕ} 0 1 = cc (rw h at is) in absurd (omega arith)
 
-by-book : (claim : Record) (s cs : List ℕ) (b : BookCheck) (a : Answer) → reply_of claim s (by_one s cs b) ≡ Answered a → length cs ≡ 6
+by-book : (claim : Record) (s cs : List ℕ) (b : BookCheck) (a : Answer) → reply_of claim s (by_one s cs b) ≡ Ok a → length cs ≡ 6
 unfolding by_one reply_of
-by-book claim s cs (book.Refused r i) a is = let z : ◌≡◌ {A = ℕ} 0 1 = cc in absurd (omega arith)
-by-book claim s cs (book.Accepted n) a is = sized claim s (length cs) ClaimsLength (by_claims s n (claims_check n cs)) a is
+by-book claim s cs (Err r) a is = let z : ◌≡◌ {A = ℕ} 0 1 = cc in absurd (omega arith)
+by-book claim s cs (Ok n) a is = sized claim s (length cs) ClaimsLength (by_claims s n (claims_check n cs)) a is
 
 pub whole : (s cs : List ℕ) → Whole cs (said s cs)
 unfolding said asked

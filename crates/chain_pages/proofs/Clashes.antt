@@ -1,4 +1,6 @@
 -- The page of `why` without a claim, by the outcome and by the source. Assumes nothing.
+use Rattle.records.specs.Refused.{refused_at}
+use Rattle.outcomes.specs.Accepted.{Outcome, accepted_with}
 use Prim.Native.Nat.{ℕ, ◌*◌, ◌≤◌, ◌<◌, ◌^◌}
 use mathlib.Core.Path.{◌≡◌, refl, sym, ap, subst, ◌∙◌}
 use mathlib.Core.Bool.{false≢true}
@@ -9,8 +11,6 @@ use Rattle.lists.proofs.Bools.{Known, is_true, is_false, known}
 use Rattle.records.specs.declared.Refusal.{Refusal}
 use Rattle.outcomes.specs.Fresh.{fresh_call}
 use Rattle.outcomes.specs.One.{refuse_if}
-use Rattle.outcomes.specs.declared.Outcome.{Outcome}
-use Rattle.outcomes.specs.declared.Outcome.TheVariants.{Accepted, Refused}
 use Rattle.chain_format.specs.Step.{steps}
 use Rattle.clash.specs.Clash.{reply_of, reply, shown, Written}
 use Rattle.clash.specs.declared.Clash as call
@@ -62,11 +62,11 @@ steps-put {s} {n} {c'} w bytes e p = record { chain = take (10 * n) c'; bytes = 
 -- ---- by the outcome
 
 module _ (source book : List ℕ) (o : Outcome) (comes : o ≡ fresh_call book []) {page page' : List ℕ} {end : ℕ} where
-  pub counted : (n nodes shadows : ℕ) → o ≡ Accepted n nodes shadows → n < 2 ^ 64 → nodes < 2 ^ 64 → shadows < 2 ^ 64
+  pub counted : (n nodes shadows : ℕ) → o ≡ accepted_with n nodes shadows → n < 2 ^ 64 → nodes < 2 ^ 64 → shadows < 2 ^ 64
       → Put page 0 (counts_line n nodes shadows) page' end → OfBook source book page page' end
   unfolding clash_text reply_of
   counted n nodes shadows is hn hv hs p =
-      let e : fresh_call book [] ≡ Accepted n nodes shadows = sym comes ∙ is in
+      let e : fresh_call book [] ≡ accepted_with n nodes shadows = sym comes ∙ is in
       record {
         chain = [];
         bytes = no_bytes;
@@ -75,11 +75,11 @@ module _ (source book : List ℕ) (o : Outcome) (comes : o ≡ fresh_call book [
         short = rw e (omega (arith, counts-width n nodes shadows hn hv hs));
       }
 
-  pub refused-with : {mid : List ℕ} {at : ℕ} (r : Refusal) (i : ℕ) → o ≡ Refused r i → Put page 0 (refused r i source []) mid at → length (refused r i source []) ≤ 142
+  pub refused-with : {mid : List ℕ} {at : ℕ} (r : Refusal) (i : ℕ) → o ≡ refused_at r i → Put page 0 (refused r i source []) mid at → length (refused r i source []) ≤ 142
       → StepsOf book mid at page' end → OfBook source book page page' end
   unfolding clash_text
   refused-with r i is p h st =
-      let e : fresh_call book [] ≡ Refused r i = sym comes ∙ is in
+      let e : fresh_call book [] ≡ refused_at r i = sym comes ∙ is in
       record {
         chain = st.chain;
         bytes = st.bytes;

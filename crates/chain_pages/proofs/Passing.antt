@@ -1,4 +1,5 @@
 -- What `why` prints passes, and what is longer than every page of it fails. Assumes nothing.
+use Rattle.std.specs.Prelude.{Ok}
 use Prim.Native.Nat.{ℕ, ◌≤◌}
 use mathlib.Core.Path.{◌≡◌, refl, ap, ◌∙◌}
 use mathlib.Core.Bool.{Bool, true, false}
@@ -6,7 +7,6 @@ use mathlib.Core.List.{List}
 use native.Mathlib.Omega.{arith}
 use lib.ListN.{length}
 use Rattle.records.specs.Record.{record_at}
-use Rattle.chain_writing.specs.declared.Reply.TheVariants.{Answered}
 use Rattle.chain_pages.specs.Verified.{Verified, Verifies}
 use Rattle.chain_pages.proofs.Plains.{passing-is}
 use Rattle.chain_pages.specs.WhyText.{why_text}
@@ -30,12 +30,12 @@ why-passes source words book claim page page' out out' r r' end w a h is v =
 verified-short : (book chain : List ℕ) → Verified book chain → length chain ≤ 852835
 verified-short book chain v =
     let p = passing-is book v.claim v.chain v.page-of.passing in
-    let text : chain ≡ why_text chain v.claim (Answered v.answer) v.chain =
-    v.page-of.page-is ∙ answered chain v.claim (Answered v.answer) v.chain v.answer (record_at v.claim 0) refl refl in
+    let text : chain ≡ why_text chain v.claim (Ok v.answer) v.chain =
+    v.page-of.page-is ∙ answered chain v.claim (Ok v.answer) v.chain v.answer (record_at v.claim 0) refl refl in
     omega (
       arith,
       ap length text,
-      answered-short chain v.claim (Answered v.answer) v.chain v.answer refl v.claim-bytes v.chain-bytes (omega (arith, p.whole, p.few)),
+      answered-short chain v.claim (Ok v.answer) v.chain v.answer refl v.claim-bytes v.chain-bytes (omega (arith, p.whole, p.few)),
     )
 
 pub long-fails : LongFails

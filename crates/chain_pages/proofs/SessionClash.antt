@@ -1,4 +1,6 @@
 -- The session book with a contradiction, by computation. Assumes nothing.
+use Rattle.records.specs.Refused.{refused_at}
+use Rattle.outcomes.specs.Accepted.{Outcome}
 use Prim.Native.Nat.{ℕ}
 use mathlib.Core.Path.{◌≡◌, refl, sym, ap, ap₂, ◌∙◌}
 use mathlib.Core.Bool.{true}
@@ -19,8 +21,6 @@ use Rattle.records.specs.Facts.{entry_of, entries}
 use Rattle.records.specs.declared.Refusal.TheVariants.{Contradiction}
 use Rattle.outcomes.specs.Call.{by_runs, by_claims, by_book}
 use Rattle.outcomes.specs.Fresh.{fresh_call}
-use Rattle.outcomes.specs.declared.Outcome.{Outcome}
-use Rattle.outcomes.specs.declared.Outcome.TheVariants.{Refused}
 use Rattle.chain_format.specs.Step.{step_at, showing}
 use Rattle.chain_format.specs.Citing.{cited_of, marks_piece, marks_some}
 use Rattle.chain_format.specs.Rule as rules
@@ -53,7 +53,7 @@ source-read : read_either Records clash_source ≡ read.Entries clash_book
 unfolding read_either is_text read.read_text read.read_lines read.lines_of read.mark_length read.marked lines line_of kinded secondly lastly with_number number number_from digits value is_digit word rest run behind of_sort blank spoken.kind_of spoken.choice_of spoken.place spoken.same spoken.lower bytes_of
 source-read = refl
 
-book-refused : fresh_call clash_book [] ≡ Refused Contradiction 9
+book-refused : fresh_call clash_book [] ≡ refused_at Contradiction 9
 unfolding fresh_call by_book check_by scan record_finding form_finding order_row record_at stated largest pieces_up_to same_bytes any_below by_claims claims_check claim_at by_runs shortest_clash entries entry_of fact_of tab clash any table entry storing turned parting marks marked step rounds containment apart meets notpart derived follows first facts_of admitted
 book-refused = refl
 

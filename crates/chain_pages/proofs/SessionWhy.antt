@@ -1,4 +1,5 @@
 -- Document 01's session book and `why`, by computation. Assumes nothing.
+use Rattle.std.specs.Prelude.{Ok}
 use Prim.Native.Nat.{ℕ, zero, suc}
 use mathlib.Core.Path.{◌≡◌, refl, ap, subst, ◌∙◌}
 use mathlib.Core.Bool.{Bool, true, ◌&&◌}
@@ -31,7 +32,6 @@ use Rattle.chain_format.specs.Justified.{some, named, cites, premised, keeps, ju
 use Rattle.chain_format.specs.Chain.{all_ok, concludes, chain_ok}
 use Rattle.chain_check.specs.Call.{asked, passing, passes}
 use Rattle.chain_writing.specs.Call.{answer_for, answer_to, reply_of}
-use Rattle.chain_writing.specs.declared.Reply.TheVariants.{Answered}
 use Rattle.pages.specs.Text.{ascii}
 use Rattle.pages.specs.Decimal.{spell, decimal}
 use Rattle.pages.specs.Entry as names
@@ -71,7 +71,7 @@ part_claim = 1 ∷ 0 ∷ 5 ∷ 0 ∷ 2 ∷ 0 ∷ []
 abbrev notpart_claim : List ℕ
 notpart_claim = 1 ∷ 0 ∷ 2 ∷ 0 ∷ 1 ∷ 0 ∷ []
 
-answers-said : (said session_book part_claim ≡ Answered Follows) × (said session_book notpart_claim ≡ Answered Denied)
+answers-said : (said session_book part_claim ≡ Ok Follows) × (said session_book notpart_claim ≡ Ok Denied)
 unfolding said asked by_one refuse_if reply_of answer_to answer_for record_at check_by scan record_finding form_finding order_row stated largest pieces_up_to same_bytes any_below by_claims claims_check claim_at by_runs shortest_clash entries entry_of fact_of tab clash any table entry storing turned parting marks marked step rounds containment apart meets notpart derived follows first facts_of picked admitted
 answers-said = (refl, refl)
 

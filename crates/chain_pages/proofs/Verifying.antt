@@ -1,4 +1,5 @@
 -- What verifies is so, and the text of an answer and of steps that pass verifies. Assumes nothing.
+use Rattle.std.specs.Prelude.{Ok}
 use Prim.Native.Nat.{ℕ}
 use mathlib.Core.Path.{◌≡◌, refl, sym, ap, ◌∙◌}
 use mathlib.Core.Logic.{◌⊎◌, inl, inr}
@@ -17,7 +18,6 @@ use Rattle.chain_check.specs.Call.{passes}
 use Rattle.chain_check.specs.Derived.{Concludes, claim_in, facts_for}
 use Rattle.chain_check.proofs.Meaning.{chain-derives}
 use Rattle.chain_writing.specs.Call.{answer_to, reply_of}
-use Rattle.chain_writing.specs.declared.Reply.TheVariants.{Answered}
 use Rattle.chain_writing.proofs.Replies.{answered_byte}
 use Rattle.chain_pages.specs.Verified.{tells, said, SaysSo, AnswerVerifies}
 
@@ -38,7 +38,7 @@ module _ (book claim c : List ℕ) (e : passes book claim c ≡ true) where
   answer = answer_to (chain-derives book claim c e).n (record_at claim 0) book
 
   -- the reply of `why`, and what steps that pass show is as it says
-  answer-said : said book claim ≡ Answered answer
+  answer-said : said book claim ≡ Ok answer
   unfolding said reply_of
   answer-said = rw (chain-derives book claim c e).accepted
 
@@ -77,7 +77,7 @@ says_so book page v =
     let e = v.page-of.passing in
     let n = (chain-derives book v.claim c e).n in
     answer-said book v.claim c e
-    ∙ ap Answered (same_byte _ _ (answered_byte n (record_at v.claim 0) book ∙ told-byte book v.claim c e v.answer v.page-of.telling))
+    ∙ ap Ok (same_byte _ _ (answered_byte n (record_at v.claim 0) book ∙ told-byte book v.claim c e v.answer v.page-of.telling))
 
 pub answer-verifies : AnswerVerifies
 answer-verifies book claim chain a bytes bytes' is e =

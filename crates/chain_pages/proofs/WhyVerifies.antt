@@ -1,4 +1,6 @@
 -- What `why` prints for FOLLOWS and DENIED verifies. Assumes nothing.
+use Rattle.std.specs.Prelude.{Err, Ok}
+use Rattle.chain_writing.specs.Reply.{Reply}
 use Prim.Native.Nat.{ℕ, zero, suc}
 use mathlib.Core.Path.{◌≡◌, refl, sym, ap, subst, ◌∙◌}
 use mathlib.Core.Bool.{true, false≢true}
@@ -8,8 +10,6 @@ use lib.ListN.{take}
 use Rattle.records.specs.declared.Record.{Record}
 use Rattle.records.specs.Record.{record_at}
 use Rattle.chain_writing.specs.Call.{shown}
-use Rattle.chain_writing.specs.declared.Reply.{Reply}
-use Rattle.chain_writing.specs.declared.Reply.TheVariants.{Answered, Refused}
 use Rattle.verdicts.specs.declared.Answer.{Answer}
 use Rattle.chain_check.specs.Call.{passes}
 use Rattle.pages.specs.Written.{Page}
@@ -38,9 +38,9 @@ claim-bytes book chain r e (suc (suc (suc (suc zero)))) = omega arith
 claim-bytes book chain r e (suc (suc (suc (suc (suc zero))))) = omega arith
 claim-bytes book chain r e (suc (suc (suc (suc (suc (suc j)))))) = omega arith
 
-answer-of : (x : Reply) → shown x ≡ true → (a : Answer) × (x ≡ Answered a)
-answer-of (Answered a) h = (a, refl)
-answer-of (Refused r i) h = absurd (false≢true h)
+answer-of : (x : Reply) → shown x ≡ true → (a : Answer) × (x ≡ Ok a)
+answer-of (Ok a) h = (a, refl)
+answer-of (Err r) h = absurd (false≢true h)
 
 printed-text : (page text page' : List ℕ) (r : Written) (end : ℕ) → r ≡ Text end → Page page text page' r → take end page' ≡ text
 printed-text page text page' r end is p = (subst (Page page text page') is p).first

@@ -1,8 +1,7 @@
 -- What the page of `why` without a claim comes to. Assumes nothing.
-use Rattle.std.specs.Prelude.{ℕ, ◌*◌, ◌≤◌, ◌≡◌, true, false, List, [], ◌++◌, length, take}
+use Rattle.outcomes.specs.Accepted.{Outcome}
+use Rattle.std.specs.Prelude.{ℕ, ◌*◌, ◌≤◌, ◌≡◌, true, false, List, [], ◌++◌, length, take, Err, Ok}
 use Rattle.outcomes.specs.Fresh.{fresh_call}
-use Rattle.outcomes.specs.declared.Outcome.{Outcome}
-use Rattle.outcomes.specs.declared.Outcome.TheVariants.{Accepted, Refused}
 use Rattle.chain_format.specs.Step.{steps}
 use Rattle.clash.specs.Clash.{passes, reply_of, shown}
 use Rattle.pages.specs.Put.{Put}
@@ -19,8 +18,8 @@ use Rattle.chain_pages.specs.ChainText.{Bytes}
 
 -- of the outcome of a book that was read from a source, with the steps c
 unfoldable pub clash_text : (source : List ℕ) → Outcome → (c : List ℕ) → List ℕ
-clash_text source (Accepted n nodes shadows) c = counts_line n nodes shadows
-clash_text source (Refused r i) c = refused r i source [] ++ step_lines c (steps c)
+clash_text source (Ok n) c = counts_line n.pieces n.nodes n.shadows
+clash_text source (Err r) c = refused r.refusal r.place source [] ++ step_lines c (steps c)
 
 unfoldable pub clash_page : (source c : List ℕ) → List ℕ
 clash_page source c = of_book source (λ book. clash_text source (fresh_call book []) c)

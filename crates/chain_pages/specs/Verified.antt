@@ -1,5 +1,6 @@
 -- When a page verifies: it is one that `why` could have printed, of steps that pass. Assumes nothing.
-use Rattle.std.specs.Prelude.{ℕ, ◌-◌, ◌≡◌, Bool, true, false, List}
+use Rattle.chain_writing.specs.Reply.{Reply}
+use Rattle.std.specs.Prelude.{ℕ, ◌-◌, ◌≡◌, Bool, true, false, List, Ok}
 use Rattle.rules.specs.Fact.{Fact, opposite}
 use Rattle.records.specs.Record.{record_at}
 use Rattle.records.specs.Facts.{saying}
@@ -7,8 +8,6 @@ use Rattle.verdicts.specs.declared.Answer.{Answer}
 use Rattle.verdicts.specs.declared.Answer.TheVariants.{Follows, Denied, Open}
 use Rattle.chain_format.specs.Step.{step_at, steps, shows}
 use Rattle.chain_check.specs.Call.{asked, passes}
-use Rattle.chain_writing.specs.declared.Reply.{Reply}
-use Rattle.chain_writing.specs.declared.Reply.TheVariants.{Answered}
 use Rattle.chain_writing.specs.Call.{reply_of}
 use Rattle.chain_pages.specs.ChainText.{chain_text, Bytes}
 
@@ -51,10 +50,10 @@ said book claim = reply_of (record_at claim 0) book (asked book claim)
 
 -- the answer on such a page is the call's own
 abbrev pub SaysSo : Type 0
-SaysSo = (book page : List ℕ) (v : Verified book page) → said book v.claim ≡ Answered v.answer
+SaysSo = (book page : List ℕ) (v : Verified book page) → said book v.claim ≡ Ok v.answer
 
 -- the text of the call's own answer and of any steps that pass verifies
 abbrev pub AnswerVerifies : Type 0
 AnswerVerifies =
-    (book claim chain : List ℕ) (answer : Answer) → Bytes claim → Bytes chain → said book claim ≡ Answered answer → passes book claim chain ≡ true
+    (book claim chain : List ℕ) (answer : Answer) → Bytes claim → Bytes chain → said book claim ≡ Ok answer → passes book claim chain ≡ true
     → Verified book (chain_text (record_at claim 0) answer chain)

@@ -1,12 +1,11 @@
 -- What the page of `why` with a claim comes to. Assumes nothing.
-use Rattle.std.specs.Prelude.{ℕ, ◌*◌, ◌≤◌, ◌≡◌, true, false, List, [], length, take}
+use Rattle.chain_writing.specs.Reply.{Reply}
+use Rattle.std.specs.Prelude.{ℕ, ◌*◌, ◌≤◌, ◌≡◌, true, false, List, [], length, take, Ok}
 use Rattle.records.specs.declared.Record.{Record}
 use Rattle.verdicts.specs.declared.Answer.{Answer}
 use Rattle.chain_check.specs.Call.{passes}
 use Rattle.chain_writing.specs.Call.{shown}
 use Rattle.chain_writing.specs.declared.Chain.{Chain}
-use Rattle.chain_writing.specs.declared.Reply.{Reply}
-use Rattle.chain_writing.specs.declared.Reply.TheVariants.{Answered}
 use Rattle.pages.specs.Written.{Page}
 use Rattle.pages.specs.declared.Written.{Written}
 use Rattle.pages.specs.declared.Written.TheVariants.{Text}
@@ -52,7 +51,7 @@ WhyVerifies =
 
 -- a claim that is answered is six bytes
 abbrev pub Whole : List ℕ → Reply → Type 0
-Whole claim r = (a : Answer) → r ≡ Answered a → length claim ≡ 6
+Whole claim r = (a : Answer) → r ≡ Ok a → length claim ≡ 6
 
 -- the reply, and the steps at the front of the lent bytes
 pub record Shown (book claim : List ℕ) (r : Chain) (c' : List ℕ) : Type 0 where

@@ -1,8 +1,7 @@
 -- The text of `why` with a claim: the claim with its answer, then a line a step; or the line of the refusal. Assumes nothing.
-use Rattle.std.specs.Prelude.{ℕ, List, []}
+use Rattle.chain_writing.specs.Reply.{Reply}
+use Rattle.std.specs.Prelude.{ℕ, List, [], Err, Ok}
 use Rattle.records.specs.Record.{record_at}
-use Rattle.chain_writing.specs.declared.Reply.{Reply}
-use Rattle.chain_writing.specs.declared.Reply.TheVariants.{Answered, Refused}
 use Rattle.text.specs.declared.Form.TheVariants.{Claims}
 use Rattle.text.specs.Entry.{six_bytes}
 use Rattle.sentences.specs.Refusals.{refused}
@@ -13,8 +12,8 @@ use Rattle.chain_pages.specs.Verified.{said}
 
 -- of a reply to a claim, with the steps c, where the book was read from a source
 unfoldable pub why_text : (source claim : List ℕ) → Reply → (c : List ℕ) → List ℕ
-why_text source claim (Answered a) c = chain_text (record_at claim 0) a c
-why_text source claim (Refused r i) c = refused r i source []
+why_text source claim (Ok a) c = chain_text (record_at claim 0) a c
+why_text source claim (Err r) c = refused r.refusal r.place source []
 
 -- of the claim that the words say, about the book of a source
 unfoldable pub why_page : (source words c : List ℕ) → List ℕ

@@ -1,4 +1,6 @@
 -- The answer of a reply is what is derived, and what the models say. Assumes nothing.
+use Rattle.std.specs.Prelude.{Err, Ok}
+use Rattle.outcomes.specs.Accepted.{Outcome, accepted_with}
 use Prim.Native.Nat.{ℕ}
 use mathlib.Core.Path.{◌≡◌, refl, sym, subst}
 use mathlib.Core.Bool.{Bool, true, false}
@@ -16,8 +18,6 @@ use Rattle.records.specs.Claimed.{claimed, picked_facts}
 use Rattle.claims.proofs.Counts.{own-count}
 use Rattle.outcomes.specs.Demands.{Derived, Entailed}
 use Rattle.outcomes.specs.One.{refuse_if}
-use Rattle.outcomes.specs.declared.Outcome.{Outcome}
-use Rattle.outcomes.specs.declared.Outcome.TheVariants as call
 use Rattle.outcomes.proofs.Counts.{derived, entailed}
 use Rattle.chain_check.specs.Call.{asked}
 use Rattle.chain_check.proofs.Asking.{asked-passed, runs-consistent}
@@ -32,15 +32,15 @@ module _ (s cs : List ℕ) where
 
   by-outcome : (o : Outcome) → asked s cs ≡ o → number (reply_of (record_at cs 0) s o) ≡ 0 → Right (piece_count s) (answer (reply_of (record_at cs 0) s o))
   unfolding reply_of claimed
-  by-outcome (call.Refused r i) e z = absurd (refused-positive r z)
-  by-outcome (call.Accepted n v h) e z =
-      let P = asked-passed s cs n v h e in
+  by-outcome (Err r) e z = absurd (refused-positive r.refusal z)
+  by-outcome (Ok n) e z =
+      let P = asked-passed s cs n.pieces n.nodes n.shadows e in
       let C = own-count P.sound in
-      let ok = runs-consistent s n v h P.sound P.runs in
-      let w : Right n (verdict (marked s) n (picked_facts s cs 0) (claimed cs 0)) =
+      let ok = runs-consistent s n.pieces n.nodes n.shadows P.sound P.runs in
+      let w : Right n.pieces (verdict (marked s) n.pieces (picked_facts s cs 0) (claimed cs 0)) =
       (derived s C cs P.fit 0 (omega (arith, P.six)) ok, entailed s C cs P.fit 0 (omega (arith, P.six)) ok) in
-      subst (λ (m : ℕ). Right m (answer (reply_of (record_at cs 0) s (call.Accepted n v h)))) (accepted s n P.sound).count
-      (subst (Right n) (sym (answered_byte n (record_at cs 0) s)) w)
+      subst (λ (m : ℕ). Right m (answer (reply_of (record_at cs 0) s (accepted_with n.pieces n.nodes n.shadows)))) (accepted s n.pieces P.sound).count
+      (subst (Right n.pieces) (sym (answered_byte n.pieces (record_at cs 0) s)) w)
 
   -- 15 comes first
   by-room : (b : Bool) → number (reply_of (record_at cs 0) s (refuse_if b ShortSteps (asked s cs))) ≡ 0

@@ -1,4 +1,5 @@
 -- An answer that one step shows. Assumes nothing.
+use Rattle.std.specs.Prelude.{Ok}
 use Prim.Native.Nat.{ℕ, ◌-◌, ◌*◌, ◌≤◌, ◌<◌}
 use mathlib.Core.Path.{◌≡◌, refl, sym, ◌∙◌}
 use mathlib.Core.Logic.{inl, inr}
@@ -14,7 +15,6 @@ use Rattle.rules.proofs.Facts.{opposite-within}
 use Rattle.rules.proofs.Decides.{follows-iff}
 use Rattle.rules.proofs.Models.{clash-iff}
 use Rattle.records.specs.declared.Record.{Record}
-use Rattle.records.specs.declared.BookCheck.TheVariants as book
 use Rattle.records.specs.Pieces.{stated}
 use Rattle.records.specs.Facts.{saying, facts}
 use Rattle.records.specs.Kept.{picked}
@@ -33,7 +33,6 @@ use Rattle.derivations.proofs.Composed.{writes_one}
 use Rattle.derivations.specs.declared.search.Single.{Single}
 use Rattle.derivations.specs.Found.{Singly}
 use Rattle.derivations.proofs.Grounds.{written-follows}
-use Rattle.chain_writing.specs.declared.Reply.TheVariants.{Answered}
 use Rattle.chain_writing.specs.Call.{answer_for, Answering}
 use Rattle.chain_writing.proofs.Replies.{is-answer, spoken}
 use Rattle.chain_format.proofs.Showing.{shows-opposite}
@@ -41,7 +40,7 @@ use Rattle.chain_format.proofs.Showing.{shows-opposite}
 alone : (c : List ℕ) → Differ c 0 1
 alone c i j a b h = absurd (omega arith)
 
-module _ (n : ℕ) (claim : Record) (s c : List ℕ) (room : 164000 ≤ length c) (sound : book_check s ≡ book.Accepted n) (all : claim.origin ≡ 0) (t : stated claim ≡ true) (inside : Within n (saying claim)) where
+module _ (n : ℕ) (claim : Record) (s c : List ℕ) (room : 164000 ≤ length c) (sound : book_check s ≡ Ok n) (all : claim.origin ≡ 0) (t : stated claim ≡ true) (inside : Within n (saying claim)) where
   within : AllWithin n (facts (picked s claim))
   within = rw (picked_all s claim all) (accepted-within (accepted s n sound))
 
@@ -56,14 +55,14 @@ module _ (n : ℕ) (claim : Record) (s c : List ℕ) (room : 164000 ≤ length c
         let W = writes_one P (G.holds _ _ _) g q in
         record { more = W.more; few = omega (arith, W.few); edited = W.edited; shown = W.shown; ok = W.ok }
 
-    pub single-follows : Singly n (citing claim s) claim.kind claim.a claim.b x → Answering n claim s c (record { reply = Answered Follows; steps = 1 }) c'
+    pub single-follows : Singly n (citing claim s) claim.kind claim.a claim.b x → Answering n claim s c (record { reply = Ok Follows; steps = 1 }) c'
     unfolding answer_for
     single-follows S =
         let W = one (saying claim) S (rw (says-kind claim t, says-left claim, says-right claim) (S.shown found)) in
         spoken n claim s c room Follows (is-answer n claim s c room true _ (written-follows claim s within positive (saying claim) inside W, refl)) (saying claim) (inl refl) W (alone c') refl
 
     pub single-denied :
-        false ≡ clash (marked s) n (facts s) → Singly n (citing claim s) (5 - claim.kind) claim.a claim.b x → Answering n claim s c (record { reply = Answered Denied; steps = 1 }) c'
+        false ≡ clash (marked s) n (facts s) → Singly n (citing claim s) (5 - claim.kind) claim.a claim.b x → Answering n claim s c (record { reply = Ok Denied; steps = 1 }) c'
     unfolding answer_for
     single-denied free S =
         let z = kind-of claim t in

@@ -1,5 +1,8 @@
 -- What the writer of chains comes to: the reply by an equation; of the steps, which of several chains is written is free. Assumes nothing.
-use Rattle.std.specs.Prelude.{ℕ, ◌*◌, ◌≤◌, ◌≡◌, Bool, true, false, List, ltb, length, take}
+use Rattle.records.specs.Refused.{refused_at}
+use Rattle.outcomes.specs.Accepted.{Outcome, accepted_with}
+use Rattle.chain_writing.specs.Reply.{Reply}
+use Rattle.std.specs.Prelude.{ℕ, ◌*◌, ◌≤◌, ◌≡◌, Bool, true, false, List, ltb, length, take, Err, Ok}
 use Rattle.lists.specs.Front.{front}
 use Rattle.rules.specs.Fact.{opposite}
 use Rattle.rules.specs.Follows.{follows}
@@ -13,14 +16,10 @@ use Rattle.verdicts.specs.declared.Answer.{Answer}
 use Rattle.verdicts.specs.declared.Answer.TheVariants.{Follows, Denied, Open}
 use Rattle.outcomes.specs.Call.{by_runs}
 use Rattle.outcomes.specs.One.{refuse_if}
-use Rattle.outcomes.specs.declared.Outcome.{Outcome}
-use Rattle.outcomes.specs.declared.Outcome.TheVariants as call
 use Rattle.chain_format.specs.Citing.{citing}
 use Rattle.chain_format.specs.Chain.{chain_ok}
 use Rattle.chain_format.specs.Twice.{NoneTwice}
 use Rattle.chain_check.specs.Call.{asked, passes}
-use Rattle.chain_writing.specs.declared.Reply.{Reply}
-use Rattle.chain_writing.specs.declared.Reply.TheVariants.{Answered, Refused}
 use Rattle.chain_writing.specs.declared.Chain.{Chain}
 
 -- ---- the reply
@@ -37,8 +36,8 @@ answer_to n claim s =
     answer_for (follows (marked s) n (facts (picked s claim)) (saying claim)) (follows (marked s) n (facts (picked s claim)) (opposite (saying claim)))
 
 unfoldable pub reply_of : Record → List ℕ → Outcome → Reply
-reply_of claim s (call.Refused r i) = Refused r i
-reply_of claim s (call.Accepted n nodes shadows) = Answered (answer_to n claim s)
+reply_of claim s (Err r) = Err r
+reply_of claim s (Ok n) = Ok (answer_to n.pieces claim s)
 
 -- 15 for a buffer below 16,400 steps, then the rows of a book and its one claim
 unfoldable pub reply : List ℕ → List ℕ → ℕ → Reply
@@ -46,10 +45,10 @@ reply s cs room = reply_of (record_at cs 0) s (refuse_if (ltb room 164000) Short
 
 -- FOLLOWS and DENIED come with steps
 abbrev pub shown : Reply → Bool
-shown (Answered Follows) = true
-shown (Answered Denied) = true
-shown (Answered Open) = false
-shown (Refused r i) = false
+shown (Ok Follows) = true
+shown (Ok Denied) = true
+shown (Ok Open) = false
+shown (Err r) = false
 
 -- ---- the steps
 
@@ -70,7 +69,7 @@ pub record Written (s cs c : List ℕ) (r : Chain) (c' : List ℕ) : Type 0 wher
 
 -- the steps behind the answer in a book of n pieces without a contradiction
 pub record Answering (n : ℕ) (claim : Record) (s c : List ℕ) (r : Chain) (c' : List ℕ) : Type 0 where
-  pub reply-is : r.reply ≡ Answered (answer_to n claim s)
+  pub reply-is : r.reply ≡ Ok (answer_to n claim s)
   pub steps-are : shown r.reply ≡ true → (1 ≤ r.steps) × (r.steps ≤ 16400) × (chain_ok n (citing claim s) (saying claim) (take (10 * r.steps) c') ≡ true) × NoneTwice (take (10 * r.steps) c')
   pub none : shown r.reply ≡ false → r.steps ≡ 0
   pub behind : c' ≡ front (take (10 * r.steps) c') c
@@ -79,6 +78,6 @@ pub record Answering (n : ℕ) (claim : Record) (s c : List ℕ) (r : Chain) (c'
 pub record Judged (n : ℕ) (claim : Record) (s c : List ℕ) (r : Chain) (c' : List ℕ) : Type 0 where
   pub reply-is : r.reply ≡ reply_of claim s (by_runs s n)
   pub steps-are : shown r.reply ≡ true → (1 ≤ r.steps) × (r.steps ≤ 16400) × (chain_ok n (citing claim s) (saying claim) (take (10 * r.steps) c') ≡ true) × NoneTwice (take (10 * r.steps) c')
-  pub accepted : shown r.reply ≡ true → (nodes shadows : ℕ) × (by_runs s n ≡ call.Accepted n nodes shadows)
+  pub accepted : shown r.reply ≡ true → (nodes shadows : ℕ) × (by_runs s n ≡ accepted_with n nodes shadows)
   pub none : shown r.reply ≡ false → r.steps ≡ 0
   pub behind : c' ≡ front (take (10 * r.steps) c') c

@@ -1,3 +1,4 @@
 pub mod Call
 pub mod ReplyNumbers
 pub mod ReplyDemands
+pub mod Reply

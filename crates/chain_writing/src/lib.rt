@@ -1,17 +1,16 @@
 // The chain behind an answer, written: the call for one claim.
 #![tactic(auto)]
 
-ghost use Rattle.std.specs.Prelude.{◌≡◌, ◌<◌, ◌≤◌, length, true, false};
+ghost use Rattle.records.specs.Refused.{refused_at};
+ghost use Rattle.std.specs.Prelude.{◌≡◌, ◌<◌, ◌≤◌, length, true, false, Ok};
 ghost use Rattle.records.specs.Pieces.{stated};
 ghost use Rattle.rules.specs.Fact.{Within};
 ghost use Rattle.rules.specs.Follows.{clash};
 ghost use Rattle.records.specs.Facts.{saying, facts};
 ghost use Rattle.records.specs.Marked.{marked};
 ghost use Rattle.records.specs.Check.{book_check};
-ghost use Rattle.records.specs.declared.BookCheck.TheVariants as is;
 ghost use Rattle.closure.specs.Counted.{MarksOf};
 ghost use Rattle.derivations.specs.Found.{Ground};
-ghost use Rattle.chain_writing.specs.declared.Reply.TheVariants.{Refused};
 ghost use Rattle.contradiction.specs.Opened.{Opened};
 ghost use Rattle.closure.specs.Void.{void_of};
 ghost use Rattle.chain_writing.specs.Call.{Answering, Judged, Written};
@@ -92,7 +91,7 @@ fn write_whole(
     t: &Matrix,
     c: &mut [u8],
 ) -> Chain
-    requires { (book_check book.now ≡ is.Accepted n) × MarksOf book.now voids.now × Opened (void_of voids.now) n (facts book.now) d.now t.now false × (claim.origin ≡ 0) × (stated claim ≡ true) × Within n (saying claim) × (CHAIN-BYTES ≤ length c.old) }
+    requires { (book_check book.now ≡ Ok n) × MarksOf book.now voids.now × Opened (void_of voids.now) n (facts book.now) d.now t.now false × (claim.origin ≡ 0) × (stated claim ≡ true) × Within n (saying claim) × (CHAIN-BYTES ≤ length c.old) }
     ensures { Answering n claim book.now c.old result c.new }
 {
     let kind = claim.kind;
@@ -131,7 +130,7 @@ fn write_restricted(
     t: &mut Matrix,
     c: &mut [u8],
 ) -> Chain
-    requires { (book_check book.now ≡ is.Accepted n) × MarksOf book.now voids.now × (false ≡ clash (marked book.now) n (facts book.now)) × ((claim.origin ≡ 0) → ⊥) × (stated claim ≡ true) × Within n (saying claim) × (CHAIN-BYTES ≤ length c.old) }
+    requires { (book_check book.now ≡ Ok n) × MarksOf book.now voids.now × (false ≡ clash (marked book.now) n (facts book.now)) × ((claim.origin ≡ 0) → ⊥) × (stated claim ≡ true) × Within n (saying claim) × (CHAIN-BYTES ≤ length c.old) }
     ensures { Answering n claim book.now c.old result c.new }
 {
     let mut kept = [0u8; records::BOOK_BYTES];
@@ -143,7 +142,7 @@ fn write_restricted(
 }
 
 fn refuse(refusal: Refusal, place: usize) -> Chain
-    ensures { result ≡ record { reply = Refused refusal place; steps = 0 } }
+    ensures { result ≡ record { reply = refused_at refusal place; steps = 0 } }
 {
     Chain {
         reply: Reply::Refused(refusal, place),
@@ -161,7 +160,7 @@ fn judge(
     d: &mut Matrix,
     t: &mut Matrix,
 ) -> Chain
-    requires { (book_check book.now ≡ is.Accepted n) × (stated claim ≡ true) × Within n (saying claim) × (CHAIN-BYTES ≤ length c.old) }
+    requires { (book_check book.now ≡ Ok n) × (stated claim ≡ true) × Within n (saying claim) × (CHAIN-BYTES ≤ length c.old) }
     ensures { Judged n claim book.now c.old result c.new }
 {
     let mut voids = [0u64; matrices::ROW_WORDS];

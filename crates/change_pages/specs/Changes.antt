@@ -1,5 +1,7 @@
 -- The new books of `pack`, `convert`, `add` and `withdraw`, from the bytes of the file and the words. Assumes nothing.
-use Rattle.std.specs.Prelude.{ℕ, ◌+◌, ◌*◌, List, [], ◌++◌, leb, take, drop}
+use Rattle.records.specs.Refused.{refused_at}
+use Rattle.outcomes.specs.Accepted.{Outcome}
+use Rattle.std.specs.Prelude.{ℕ, ◌+◌, ◌*◌, List, [], ◌++◌, leb, take, drop, Err, Ok}
 use Rattle.records.specs.declared.Record.{Record}
 use Rattle.records.specs.Record.{records}
 use Rattle.records.specs.Refusal.{judge}
@@ -7,12 +9,8 @@ use Rattle.records.specs.Check.{book_length}
 use Rattle.records.specs.declared.Refusal.TheVariants.{NotStanding}
 use Rattle.outcomes.specs.Fresh.{fresh_call}
 use Rattle.outcomes.specs.One.{refuse_if}
-use Rattle.outcomes.specs.declared.Outcome.{Outcome}
-use Rattle.outcomes.specs.declared.Outcome.TheVariants as on
 use Rattle.convert.specs.Converted.{converted}
-use Rattle.convert.specs.Conversion.{conversion}
-use Rattle.convert.specs.declared.Conversion.{Conversion}
-use Rattle.convert.specs.declared.Conversion.TheVariants as to
+use Rattle.convert.specs.Conversion.{conversion, Conversion}
 use Rattle.text.specs.Tests.{if_true}
 use Rattle.text.specs.declared.Form.TheVariants.{Records, Log}
 use Rattle.text.specs.Entry.{six_bytes}
@@ -28,8 +26,8 @@ use Rattle.change_pages.specs.Change.{Change, New, Kept}
 
 -- a run that a fresh call accepts is the new book
 abbrev pub judged : (source run : List ℕ) → Outcome → Change
-judged source run (on.Accepted n nodes shadows) = New run
-judged source run (on.Refused r i) = Kept (refused r i source [])
+judged source run (Ok n) = New run
+judged source run (Err r) = Kept (refused r.refusal r.place source [])
 
 -- a source that is read, or told
 abbrev pub if_read : Reading → (List ℕ → Change) → Change
@@ -42,8 +40,8 @@ packing source = if_read (read_either Records source) (λ book. judged source bo
 
 -- R-7, with room for every book that is read
 abbrev pub by_conversion : (source book : List ℕ) → Conversion → Change
-by_conversion source book (to.Written k) = New (converted book)
-by_conversion source book (to.Refused r i) = Kept (refused r i source [])
+by_conversion source book (Ok k) = New (converted book)
+by_conversion source book (Err r) = Kept (refused r.refusal r.place source [])
 
 unfoldable pub converting : (source : List ℕ) → Change
 converting source = if_read (read_either Records source) (λ book. by_conversion source book (conversion book 49164))
@@ -68,7 +66,7 @@ without book i = take (6 * i) book ++ drop (6 * i + 6) book
 
 -- rows 3 and 4 of the book as it stands, 18, then a fresh call on what is left
 unfoldable pub withdrawn : (book : List ℕ) → ℕ → Outcome
-withdrawn book i = judge (λ r. on.Refused r 0) (refuse_if (leb (records book) i) NotStanding (fresh_call (without book i) [])) (book_length book)
+withdrawn book i = judge (λ r. refused_at r 0) (refuse_if (leb (records book) i) NotStanding (fresh_call (without book i) [])) (book_length book)
 
 unfoldable pub withdrawing : (source words : List ℕ) → Change
 withdrawing source words =

@@ -1,4 +1,5 @@
 -- The answers, claim after claim. Assumes nothing.
+use Rattle.std.specs.Prelude.{Ok}
 use Prim.Native.Nat.{ℕ, ◌+◌, ◌≤◌, ◌<◌}
 use mathlib.Core.Path.{◌≡◌, refl, sym, ap, ◌∙◌}
 use mathlib.Core.Bool.{Bool, true, false, false≢true}
@@ -20,7 +21,6 @@ use Rattle.records.specs.Facts.{saying, facts}
 use Rattle.records.specs.Marked.{marked}
 use Rattle.records.specs.Check.{claims_check}
 use Rattle.records.specs.declared.Record.{Record}
-use Rattle.records.specs.declared.ClaimsCheck.TheVariants as claims
 use Rattle.records.proofs.Accepted.{accepted-claims, says-left, says-right}
 use Rattle.records.specs.Kept.{sheets}
 use Rattle.records.proofs.Keeps.{picked_all, picked-sheets}
@@ -39,7 +39,7 @@ pub record Asked (cs : List ℕ) (n i : ℕ) : Type 0 where
   pub a : (record_at cs i).a < n
   pub b : (record_at cs i).b < n
 
-pub asked : (cs : List ℕ) (n i : ℕ) → claims_check n cs ≡ claims.Accepted → i < records cs → Asked cs n i
+pub asked : (cs : List ℕ) (n i : ℕ) → claims_check n cs ≡ Ok tt → i < records cs → Asked cs n i
 unfolding stated
 asked cs n i f h =
     let c = accepted-claims n cs f in
@@ -50,7 +50,7 @@ asked cs n i f h =
 -- the answers to the claims of one origin before claim i stand, and the others are as they were
 pub record Standing (void : ℕ → Bool) (origin : ℕ) (cs d u p t q before answers : List ℕ) (i : ℕ) : Type 0 where
   pub each :
-      (n : ℕ) (fs : List Fact) → Bounded n fs → Closed void n fs d u p t q → claims_check n cs ≡ claims.Accepted
+      (n : ℕ) (fs : List Fact) → Bounded n fs → Closed void n fs d u p t q → claims_check n cs ≡ Ok tt
       → (j : ℕ) → j < i → j < records cs → (record_at cs j).origin ≡ origin → get_or answers j 0 ≡ verdict void n fs (claimed cs j)
   pub others : (j : ℕ) → ((record_at cs j).origin ≡ origin → ⊥) → get_or answers j 0 ≡ get_or before j 0
 
@@ -65,7 +65,7 @@ module _ (void : ℕ → Bool) (origin : ℕ) (cs d u p t q before : List ℕ) w
   standing-skip answers i r e o S = record { each = λ n fs B C f j k h a. pick n fs B C f j k h a (ℕ_discrete j i); others = S.others }
     where
       pick :
-          (n : ℕ) (fs : List Fact) → Bounded n fs → Closed void n fs d u p t q → claims_check n cs ≡ claims.Accepted
+          (n : ℕ) (fs : List Fact) → Bounded n fs → Closed void n fs d u p t q → claims_check n cs ≡ Ok tt
           → (j : ℕ) → j < i + 1 → j < records cs → (record_at cs j).origin ≡ origin → Dec (j ≡ i) → get_or answers j 0 ≡ verdict void n fs (claimed cs j)
       pick n fs B C f j k h a (yes q) = absurd (o (ap (λ (x : Record). x.origin) e ∙ ap (λ (x : ℕ). (record_at cs x).origin) (sym q) ∙ a))
       pick n fs B C f j k h a (no q) = S.each n fs B C f j (omega arith) h a
@@ -81,7 +81,7 @@ module _ (void : ℕ → Bool) (origin : ℕ) (cs d u p t q before : List ℕ) w
       }
     where
       pick :
-          (n : ℕ) (fs : List Fact) → Bounded n fs → Closed void n fs d u p t q → claims_check n cs ≡ claims.Accepted
+          (n : ℕ) (fs : List Fact) → Bounded n fs → Closed void n fs d u p t q → claims_check n cs ≡ Ok tt
           → (j : ℕ) → j < i + 1 → j < records cs → (record_at cs j).origin ≡ origin → Dec (j ≡ i) → get_or (set answers i v) j 0 ≡ verdict void n fs (saying (record_at cs j))
       pick n fs B C f j k h a (yes e) =
           let w = asked cs n i f (rw e at h) in

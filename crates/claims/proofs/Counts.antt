@@ -1,4 +1,5 @@
 -- A book and a count of at least its pieces: it can be settled with that count. Assumes nothing.
+use Rattle.std.specs.Prelude.{Ok}
 use Prim.Native.Nat.{ℕ, ◌-◌, ◌/◌, ◌≤◌}
 use mathlib.Core.Path.{◌≡◌}
 use mathlib.Core.Bool.{true, false}
@@ -14,7 +15,6 @@ use Rattle.records.specs.Record.{records}
 use Rattle.records.specs.Facts.{entries, facts}
 use Rattle.records.specs.Marked.{marked}
 use Rattle.records.specs.Check.{book_check}
-use Rattle.records.specs.declared.BookCheck.TheVariants as book
 use Rattle.records.proofs.Accepted.{accepted, accepted-pieces}
 use Rattle.contradiction.specs.Settleable.{Settleable}
 use Rattle.contradiction.specs.Settled.{Clashed}
@@ -22,7 +22,7 @@ use Rattle.contradiction.proofs.SettlingLaws.{settleable, whole-unmarked, beyond
 use Rattle.closure.specs.Counted.{Counted}
 
 -- its own count
-pub own-count : {s : List ℕ} {n : ℕ} → book_check s ≡ book.Accepted n → Counted s n
+pub own-count : {s : List ℕ} {n : ℕ} → book_check s ≡ Ok n → Counted s n
 own-count {s} {n} e = record { own = n; sound = e; covered = omega arith; small = accepted-pieces (accepted s n e) }
 
 module _ (s : List ℕ) {n : ℕ} (C : Counted s n) where

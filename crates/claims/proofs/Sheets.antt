@@ -1,4 +1,6 @@
 -- The run of the cutting sheets of an accepted book: it is about the same pieces, and it is free where the book is. Assumes nothing.
+use Rattle.contradiction.specs.Row14.{Row14}
+use Rattle.std.specs.Prelude.{Ok, Err}
 use Prim.Native.Nat.{ℕ, ◌≤◌}
 use mathlib.Core.Path.{◌≡◌, refl, sym, ◌∙◌}
 use mathlib.Core.Bool.{Bool, true, false, false≢true}
@@ -15,7 +17,6 @@ use Rattle.rules.proofs.Models.{clash-iff}
 use Rattle.records.specs.Facts.{facts}
 use Rattle.records.specs.Kept.{sheets}
 use Rattle.records.specs.Check.{claims_check}
-use Rattle.records.specs.declared.ClaimsCheck.TheVariants as claims
 use Rattle.records.proofs.Accepted.{accepted}
 use Rattle.records.proofs.Keeps.{sheets-among}
 use Rattle.closure.specs.Closed.{Holds, whole_bit, away_bit, out_bit}
@@ -23,8 +24,6 @@ use Rattle.closure.specs.Bounded.{Bounded}
 use Rattle.closure.specs.Stepped.{Stepped}
 use Rattle.contradiction.specs.Opened.{Opened}
 use Rattle.contradiction.specs.Settled.{Settles, Steps}
-use Rattle.contradiction.specs.declared.row_14.Row14.{Row14}
-use Rattle.contradiction.specs.declared.row_14.Row14.TheVariants.{Free, Clash}
 use Rattle.contradiction.proofs.SettlingLaws.{free-consistent}
 use Rattle.closure.specs.Counted.{Counted}
 use Rattle.claims.specs.Answered.{Answers, AnsweredFrom}
@@ -56,19 +55,19 @@ module _ (s : List ℕ) {n : ℕ} (sound : Counted s n) where
       -- settling them finds no contradiction
       pub sheets-opened :
           {d t : List ℕ} (r : Row14) → Settles void n run d t r → Opened void n (facts run) d t false
-      sheets-opened Free S = S.free refl
-      sheets-opened (Clash k) S = absurd (false≢true (sheets-free ∙ sym (S.clash k refl).is))
+      sheets-opened (Ok _) S = S.free refl
+      sheets-opened (Err k) S = absurd (false≢true (sheets-free ∙ sym (S.clash k.place refl).is))
 
       pub sheets-stepped :
           {d t e order lead : List ℕ} (r : Row14) → Settles void n run d t r → Steps n run e order lead r
           → Stepped n (facts run) e order lead
-      sheets-stepped Free S W = W.free refl
-      sheets-stepped (Clash k) S W = absurd (false≢true (sheets-free ∙ sym (S.clash k refl).is))
+      sheets-stepped (Ok _) S W = W.free refl
+      sheets-stepped (Err k) S W = absurd (false≢true (sheets-free ∙ sym (S.clash k.place refl).is))
 
       -- and what the matrices of its closure tell of restricted claims is told of the sheets
       pub sheets-answered :
           {d u p t q cs before answers : List ℕ} (r : Row14) → Settles void n run d t r → Holds n u (whole_bit n (facts run)) → Holds n p (away_bit n (facts run)) → Holds n q (out_bit void n (facts run))
-          → claims_check n cs ≡ claims.Accepted → Answers void 1 cs d u p t q before answers → AnsweredFrom void 1 n (facts (sheets s)) cs before answers
+          → claims_check n cs ≡ Ok tt → Answers void 1 cs d u p t q before answers → AnsweredFrom void 1 n (facts (sheets s)) cs before answers
       sheets-answered r S wholes away outside fit A =
           let O = sheets-opened r S in
           rw (← are)

@@ -1,4 +1,5 @@
 -- What the inner functions hand each other: a count, a copy and a claim that are those of the book. Assumes nothing.
+use Rattle.contradiction.specs.Row14.{Row14}
 use Prim.Native.Nat.{ℕ, ◌-◌, ◌/◌, ◌≤◌, ◌<◌}
 use mathlib.Core.Path.{◌≡◌, sym, ◌∙◌}
 use mathlib.Core.Bool.{Bool, true, false}
@@ -16,7 +17,6 @@ use Rattle.closure.specs.Stored.{edge_bit}
 use Rattle.closure.specs.Closed.{Holds}
 use Rattle.closure.specs.Counted.{MarksOf}
 use Rattle.contradiction.specs.Settled.{Settles}
-use Rattle.contradiction.specs.declared.row_14.Row14.{Row14}
 use Rattle.chain_format.specs.declared.steps.Step.{Step}
 use Rattle.chain_format.specs.Step.{step_at, showing}
 use Rattle.chain_format.specs.Citing.{citing}

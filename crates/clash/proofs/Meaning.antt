@@ -1,4 +1,6 @@
 -- What steps that pass say of a contradiction. Assumes nothing.
+use Rattle.std.specs.Prelude.{Err, Ok}
+use Rattle.outcomes.specs.Accepted.{Outcome}
 use Prim.Native.Nat.{ℕ, ◌-◌, ◌*◌}
 use mathlib.Core.Path.{◌≡◌, refl}
 use mathlib.Core.Bool.{true, false≢true}
@@ -20,8 +22,6 @@ use Rattle.records.specs.Facts.{facts}
 use Rattle.records.specs.Marked.{marked}
 use Rattle.records.proofs.Keeps.{picked_all}
 use Rattle.outcomes.specs.Fresh.{fresh_call}
-use Rattle.outcomes.specs.declared.Outcome.{Outcome}
-use Rattle.outcomes.specs.declared.Outcome.TheVariants.{Accepted, Refused}
 use Rattle.chain_format.specs.Step.{step_at, steps, shows}
 use Rattle.chain_format.specs.Chain.{chain_ok, cited_by}
 use Rattle.chain_format.proofs.Sound.{Given, shown-derives, cited-listed}
@@ -76,10 +76,10 @@ module _ (s : List ℕ) (i : ℕ) (C : Clashes s i) (c : List ℕ) where
 
 by-outcome : (s c : List ℕ) (o : Outcome) → fresh_call s [] ≡ o → passing s c o ≡ true → Contradicted s c
 unfolding passing
-by-outcome s c (Accepted n nodes shadows) a e = absurd (false≢true e)
-by-outcome s c (Refused r i) a e =
-    let b = and_both (eqb (refusal_number r) 14) (clash_ok s i c) e in
-    proved s i (fresh-clashes s r i a (eqb-true _ _ b.0)) c b.1
+by-outcome s c (Ok n) a e = absurd (false≢true e)
+by-outcome s c (Err r) a e =
+    let b = and_both (eqb (refusal_number r.refusal) 14) (clash_ok s r.place c) e in
+    proved s r.place (fresh-clashes s r.refusal r.place a (eqb-true _ _ b.0)) c b.1
 
 pub clash-derives : ClashDerives
 unfolding passes

@@ -1,4 +1,7 @@
 -- A book that 14 refuses at a place: the run before it is free, the record there states a fact, and the silenced copy denies it. Assumes nothing.
+use Rattle.contradiction.specs.Row14.{Row14}
+use Rattle.std.specs.Prelude.{Ok, Err}
+use Rattle.records.specs.Refused.{refused_at}
 use Prim.Native.Nat.{ℕ, ◌+◌, ◌*◌, ◌≤◌}
 use mathlib.Core.Path.{◌≡◌, refl, sym, ap, subst, ◌∙◌}
 use mathlib.Core.Logic.{◌⊎◌, inl, inr}
@@ -18,7 +21,6 @@ use Rattle.rules.proofs.Models.{clash-iff, clash-denies}
 use Rattle.records.specs.declared.Refusal.{Refusal}
 use Rattle.records.specs.declared.Refusal.TheVariants.{Contradiction}
 use Rattle.records.specs.declared.Edition.TheVariants.{Current}
-use Rattle.records.specs.declared.BookCheck.TheVariants as book
 use Rattle.records.specs.Record.{record_at}
 use Rattle.records.specs.Refusal.{refusal_number}
 use Rattle.records.specs.Pieces.{stated, piece_count}
@@ -36,13 +38,10 @@ use Rattle.contradiction.specs.Opened.{Opened}
 use Rattle.contradiction.proofs.Halving.{run-bounded}
 use Rattle.contradiction.specs.Settled.{Clashed, Settles}
 use Rattle.records.specs.Contradiction as row14
-use Rattle.contradiction.specs.declared.row_14.Row14.{Row14}
-use Rattle.contradiction.specs.declared.row_14.Row14.TheVariants.{Free, Clash}
 use Rattle.contradiction.proofs.SettlingLaws.{settleable, whole-unmarked, clashed-first}
 use Rattle.claims.proofs.Counts.{own-count, counted-clashed}
 use Rattle.outcomes.specs.Lent.{lent}
 use Rattle.outcomes.specs.Fresh.{fresh_call}
-use Rattle.outcomes.specs.declared.Outcome.TheVariants as call
 use Rattle.outcomes.proofs.Outcomes.{Told, told}
 use Rattle.answers.proofs.Fresh.{fresh-is, fresh-runs, roomy-long}
 use Rattle.answers.proofs.Judges.{refuses}
@@ -53,15 +52,15 @@ use Rattle.clash.proofs.Silencing.{silenced-records, silenced-marks, silenced-am
 
 -- ---- from the outcome
 
-pub fresh-clashes : (s : List ℕ) (r : Refusal) (i : ℕ) → fresh_call s [] ≡ call.Refused r i → refusal_number r ≡ 14 → Clashes s i
+pub fresh-clashes : (s : List ℕ) (r : Refusal) (i : ℕ) → fresh_call s [] ≡ refused_at r i → refusal_number r ≡ 14 → Clashes s i
 fresh-clashes s r i e k =
     let l = lent (replicate 2560 0) (replicate 1280 0) (replicate 8192 0) (replicate 2048 0) [] in
-    let t : Told s [] l (call.Refused r i) = subst (Told s [] l) (fresh-is s [] l roomy-long ∙ e) (told s [] l) in
+    let t : Told s [] l (refused_at r i) = subst (Told s [] l) (fresh-is s [] l roomy-long ∙ e) (told s [] l) in
     let b = t k in
     let n = b.0 in
     let q : n ≡ piece_count s = (accepted s n b.1.sound).count in
     record {
-      sound = b.1.sound ∙ ap book.Accepted q;
+      sound = b.1.sound ∙ ap Ok q;
       clashed = subst (λ (m : ℕ). Clashed (marked s) m s i) q (subst (λ (j : ℕ). Clashed (marked s) n s j) (sym b.3) (counted-clashed s (own-count b.1.sound) b.2));
     }
 
@@ -72,7 +71,7 @@ module _ {s : List ℕ} {i : ℕ} (C : Clashes s i) where
   abbrev run : List ℕ
   run = take (6 * i) s
 
-  pub back : fresh_call s [] ≡ call.Refused Contradiction i
+  pub back : fresh_call s [] ≡ refused_at Contradiction i
   back = fresh-runs s n C.sound ∙ sym (refuses s n (own-count C.sound) i C.clashed)
 
   pub book-ok : AcceptedBook Current s n
@@ -168,9 +167,9 @@ module _ {s : List ℕ} {i : ℕ} (C : Clashes s i) where
 
   -- settling it finds no contradiction
   silenced-opened : {voids d t : List ℕ} → MarksOf s voids → (r : Row14) → Settles (void_of voids) n (silenced s i) d t r → Opened (void_of voids) n (facts (silenced s i)) d t false
-  silenced-opened M Free W = W.free refl
-  silenced-opened M (Clash k) W =
-      absurd (false≢true (silenced-free ∙ sym ((W.clash k refl).is ∙ ap (λ (v : ℕ → Bool). clash v n (facts (silenced s i))) M.1)))
+  silenced-opened M (Ok _) W = W.free refl
+  silenced-opened M (Err k) W =
+      absurd (false≢true (silenced-free ∙ sym ((W.clash k.place refl).is ∙ ap (λ (v : ℕ → Bool). clash v n (facts (silenced s i))) M.1)))
 
   pub silenced-marked : {voids : List ℕ} → MarksOf s voids → MarksOf (silenced s i) voids
   silenced-marked M = (M.0, M.1 ∙ sym (silenced-marks s i))

@@ -1,4 +1,8 @@
 -- The calls put together: the steps as a run of their own, what they show, and the reply. Assumes nothing.
+use Rattle.std.specs.Prelude.{Ok}
+use Rattle.records.specs.Refused.{refused_at}
+use Rattle.outcomes.specs.Accepted.{accepted_with}
+use Rattle.clash.specs.Reply.{Reply}
 use Prim.Native.Nat.{ℕ, ◌-◌, ◌*◌, ◌/◌, ◌≤◌, ◌<◌}
 use mathlib.Core.Path.{◌≡◌, refl, sym, ap, subst, ◌∙◌}
 use mathlib.Core.Logic.{inr}
@@ -17,7 +21,6 @@ use Rattle.rules.specs.Follows.{follows}
 use Rattle.records.specs.declared.Record.{Record}
 use Rattle.records.specs.declared.Refusal.{Refusal}
 use Rattle.records.specs.declared.Refusal.TheVariants.{ShortSteps, Contradiction}
-use Rattle.records.specs.declared.BookCheck.TheVariants as book
 use Rattle.records.specs.Record.{record_at}
 use Rattle.records.specs.Refusal.{refusal_number}
 use Rattle.records.specs.Pieces.{piece_count}
@@ -38,7 +41,6 @@ use Rattle.outcomes.proofs.Outcomes.{book-other}
 use Rattle.answers.proofs.Fresh.{fresh-runs}
 use Rattle.answers.proofs.Judges.{accepts}
 use Rattle.outcomes.specs.One.{refuse_if}
-use Rattle.outcomes.specs.declared.Outcome.TheVariants as call
 use Rattle.chain_format.specs.declared.steps.Step.{Step}
 use Rattle.chain_format.specs.Step.{step_at, steps, showing, shows}
 use Rattle.chain_format.specs.Citing.{Cited, citing}
@@ -53,8 +55,6 @@ use Rattle.derivations.proofs.Cuts.{cut-behind, cut-chain, cut_twice}
 use Rattle.chain_check.proofs.Meaning.{chain-ok}
 use Rattle.clash.specs.Clash.{fact_at, unrestricted, cited_before, clash_ok, passing, passes, reply_of, reply, shown, Written}
 use Rattle.clash.specs.Silenced.{silenced, Clashes, Placed, Behind}
-use Rattle.clash.specs.declared.Reply.{Reply}
-use Rattle.clash.specs.declared.Reply.TheVariants.{Free, Refused}
 use Rattle.clash.specs.declared.Clash.{Clash}
 use Rattle.clash.proofs.Silencing.{silenced-marks, silenced-citing}
 use Rattle.clash.proofs.Places.{back, states, silenced-follows}
@@ -136,11 +136,11 @@ module _ {s : List ℕ} {i : ℕ} (C : Clashes s i) where
 
 -- ---- the book's rows
 
-pub placed : (s : List ℕ) (n : ℕ) → book_check s ≡ book.Accepted n → {voids : List ℕ} → MarksOf s voids → (place : ℕ) → Clashed (void_of voids) n s place → Placed s place n voids
+pub placed : (s : List ℕ) (n : ℕ) → book_check s ≡ Ok n → {voids : List ℕ} → MarksOf s voids → (place : ℕ) → Clashed (void_of voids) n s place → Placed s place n voids
 placed s n sound M place K =
     let q : n ≡ piece_count s = (accepted s n sound).count in
     record {
-      clashes = record { sound = sound ∙ ap book.Accepted q; clashed = subst (λ (m : ℕ). Clashed (marked s) m s place) q (rw M.1 at K) };
+      clashes = record { sound = sound ∙ ap Ok q; clashed = subst (λ (m : ℕ). Clashed (marked s) m s place) q (rw M.1 at K) };
       count = q;
       void = M;
     }
@@ -148,28 +148,28 @@ placed s n sound M place K =
 module _ (s : List ℕ) where
   -- a row before 14
   abbrev Earlier : Refusal → ℕ → Type 0
-  Earlier x i = (fresh_call s [] ≡ call.Refused x i) × (refusal_number x ≡ 14 → ⊥)
+  Earlier x i = (fresh_call s [] ≡ refused_at x i) × (refusal_number x ≡ 14 → ⊥)
 
-  earlier : (x : Refusal) (i : ℕ) → book_check s ≡ book.Refused x i → Earlier x i
+  earlier : (x : Refusal) (i : ℕ) → book_check s ≡ refused_at x i → Earlier x i
   unfolding fresh_call by_book
   earlier x i e = (ap (by_book s []) e, rw e at (book-other s))
 
   -- row 14, in a book of n pieces
-  module _ (n : ℕ) (sound : book_check s ≡ book.Accepted n) {voids : List ℕ} (M : MarksOf s voids) where
-    fresh-clash : (place : ℕ) → Clashed (void_of voids) n s place → fresh_call s [] ≡ call.Refused Contradiction place
+  module _ (n : ℕ) (sound : book_check s ≡ Ok n) {voids : List ℕ} (M : MarksOf s voids) where
+    fresh-clash : (place : ℕ) → Clashed (void_of voids) n s place → fresh_call s [] ≡ refused_at Contradiction place
     fresh-clash place K = back (placed s n sound M place K).clashes
 
-    fresh-free : {d t : List ℕ} → Opened (void_of voids) n (facts s) d t false → (nodes shadows : ℕ) × (fresh_call s [] ≡ call.Accepted n nodes shadows)
+    fresh-free : {d t : List ℕ} → Opened (void_of voids) n (facts s) d t false → (nodes shadows : ℕ) × (fresh_call s [] ≡ accepted_with n nodes shadows)
     fresh-free O = (_, _, fresh-runs s n sound ∙ sym (accepts s n (own-count sound) _ _ (rw M.1 at O.is) refl refl))
 
 -- ---- what the check comes to, by the row at which it ends
 
 module _ (s c : List ℕ) where
-  passes-free : (n nodes shadows : ℕ) → fresh_call s [] ≡ call.Accepted n nodes shadows → false ≡ passes s c
+  passes-free : (n nodes shadows : ℕ) → fresh_call s [] ≡ accepted_with n nodes shadows → false ≡ passes s c
   unfolding passes passing
   passes-free n nodes shadows e = ap (passing s c) (sym e)
 
-  module _ (r : Refusal) (i : ℕ) (e : fresh_call s [] ≡ call.Refused r i) where
+  module _ (r : Refusal) (i : ℕ) (e : fresh_call s [] ≡ refused_at r i) where
     by_row : (eqb (refusal_number r) 14 && clash_ok s i c) ≡ passes s c
     unfolding passes passing
     by_row = ap (passing s c) (sym e)
@@ -180,10 +180,10 @@ module _ (s c : List ℕ) where
     passes_at : refusal_number r ≡ 14 → clash_ok s i c ≡ passes s c
     passes_at k = sym (ap (λ (b : Bool). b && clash_ok s i c) (eq-eqb (refusal_number r) 14 k)) ∙ by_row
 
-  pub checked-book : (x : Refusal) (i : ℕ) → book_check s ≡ book.Refused x i → false ≡ passes s c
+  pub checked-book : (x : Refusal) (i : ℕ) → book_check s ≡ refused_at x i → false ≡ passes s c
   checked-book x i e = let o = earlier s x i e in passes-other x i o.0 o.1
 
-  module _ (n : ℕ) (sound : book_check s ≡ book.Accepted n) {voids : List ℕ} (M : MarksOf s voids) where
+  module _ (n : ℕ) (sound : book_check s ≡ Ok n) {voids : List ℕ} (M : MarksOf s voids) where
     pub checked-clash : (place : ℕ) → Clashed (void_of voids) n s place → clash_ok s place c ≡ passes s c
     checked-clash place K = passes_at Contradiction place (fresh-clash s n sound M place K) refl
 
@@ -196,28 +196,28 @@ module _ (s c : List ℕ) where
   stepless : (o : Reply) → shown o ≡ false → (r : Clash) → r ≡ record { reply = o; steps = 0 } → o ≡ reply s (length c) → Written s c r c
   stepless o t r q e = rw q (record { reply-is = e; steps-are = λ z. absurd (false≢true (sym t ∙ z)); none = λ z. refl; behind = sym (front-none c) })
 
-  pub call-short : (r : Clash) → r ≡ record { reply = Refused ShortSteps 0; steps = 0 } → length c < 164000 → Written s c r c
+  pub call-short : (r : Clash) → r ≡ record { reply = refused_at ShortSteps 0; steps = 0 } → length c < 164000 → Written s c r c
   unfolding reply reply_of refuse_if
-  call-short r q l = stepless (Refused ShortSteps 0) refl r q (rw (lt-ltb (length c) 164000 l, refuse_if))
+  call-short r q l = stepless (refused_at ShortSteps 0) refl r q (rw (lt-ltb (length c) 164000 l, refuse_if))
 
   module _ (room : 164000 ≤ length c) where
     by-fresh : reply_of (fresh_call s []) ≡ reply s (length c)
     unfolding reply refuse_if
     by-fresh = rw (le-ltb (length c) 164000 room, refuse_if)
 
-    call-free : (n nodes shadows : ℕ) → fresh_call s [] ≡ call.Accepted n nodes shadows → Written s c (record { reply = Free; steps = 0 }) c
+    call-free : (n nodes shadows : ℕ) → fresh_call s [] ≡ accepted_with n nodes shadows → Written s c (record { reply = (Ok tt); steps = 0 }) c
     unfolding reply_of
-    call-free n nodes shadows e = stepless Free refl _ refl (ap reply_of (sym e) ∙ by-fresh)
+    call-free n nodes shadows e = stepless (Ok tt) refl _ refl (ap reply_of (sym e) ∙ by-fresh)
 
-    module _ (x : Refusal) (i : ℕ) (e : fresh_call s [] ≡ call.Refused x i) where
-      said : Refused x i ≡ reply s (length c)
+    module _ (x : Refusal) (i : ℕ) (e : fresh_call s [] ≡ refused_at x i) where
+      said : refused_at x i ≡ reply s (length c)
       unfolding reply_of
       said = ap reply_of (sym e) ∙ by-fresh
 
-      call-other : (r : Clash) → r ≡ record { reply = Refused x i; steps = 0 } → (refusal_number x ≡ 14 → ⊥) → Written s c r c
-      call-other r q k = stepless (Refused x i) (ne_eqb (refusal_number x) 14 k) r q said
+      call-other : (r : Clash) → r ≡ record { reply = refused_at x i; steps = 0 } → (refusal_number x ≡ 14 → ⊥) → Written s c r c
+      call-other r q k = stepless (refused_at x i) (ne_eqb (refusal_number x) 14 k) r q said
 
-      call-clash : refusal_number x ≡ 14 → {c' : List ℕ} {m : ℕ} → Behind s i c m c' → Written s c (record { reply = Refused x i; steps = m }) c'
+      call-clash : refusal_number x ≡ 14 → {c' : List ℕ} {m : ℕ} → Behind s i c m c' → Written s c (record { reply = refused_at x i; steps = m }) c'
       call-clash k {c'} {m} B =
           record {
             reply-is = said;
@@ -226,13 +226,13 @@ module _ (s c : List ℕ) where
             behind = B.rest;
           }
 
-    pub call-book : (x : Refusal) (i : ℕ) (r : Clash) → r ≡ record { reply = Refused x i; steps = 0 } → book_check s ≡ book.Refused x i → Written s c r c
+    pub call-book : (x : Refusal) (i : ℕ) (r : Clash) → r ≡ record { reply = refused_at x i; steps = 0 } → book_check s ≡ refused_at x i → Written s c r c
     call-book x i r q e = let o = earlier s x i e in call-other x i o.0 r q o.1
 
-    module _ (n : ℕ) (sound : book_check s ≡ book.Accepted n) {voids : List ℕ} (M : MarksOf s voids) where
+    module _ (n : ℕ) (sound : book_check s ≡ Ok n) {voids : List ℕ} (M : MarksOf s voids) where
       pub judged-clash :
-          (place : ℕ) → Clashed (void_of voids) n s place → {c' : List ℕ} {m : ℕ} → Behind s place c m c' → Written s c (record { reply = Refused Contradiction place; steps = m }) c'
+          (place : ℕ) → Clashed (void_of voids) n s place → {c' : List ℕ} {m : ℕ} → Behind s place c m c' → Written s c (record { reply = refused_at Contradiction place; steps = m }) c'
       judged-clash place K B = call-clash Contradiction place (fresh-clash s n sound M place K) refl B
 
-      pub judged-free : {d t : List ℕ} → Opened (void_of voids) n (facts s) d t false → Written s c (record { reply = Free; steps = 0 }) c
+      pub judged-free : {d t : List ℕ} → Opened (void_of voids) n (facts s) d t false → Written s c (record { reply = (Ok tt); steps = 0 }) c
       judged-free O = let o = fresh-free s n sound M O in call-free n o.0 o.1 o.2

@@ -1,5 +1,8 @@
 -- The chain behind a contradiction: what its steps may cite, when it passes, and what the writer of one comes to. Assumes nothing.
-use Rattle.std.specs.Prelude.{ℕ, ◌-◌, ◌*◌, ◌≤◌, ◌≡◌, Bool, true, false, ◌&&◌, ◌||◌, List, [], eqb, ltb, length, take}
+use Rattle.records.specs.Refused.{refused_at}
+use Rattle.outcomes.specs.Accepted.{Outcome}
+use Rattle.clash.specs.Reply.{Reply}
+use Rattle.std.specs.Prelude.{ℕ, ◌-◌, ◌*◌, ◌≤◌, ◌≡◌, Bool, true, false, ◌&&◌, ◌||◌, List, [], eqb, ltb, length, take, Err, Ok}
 use Rattle.lists.specs.Tab.{tab}
 use Rattle.lists.specs.Front.{front}
 use Rattle.rules.specs.Fact.{Fact, opposite}
@@ -11,14 +14,10 @@ use Rattle.records.specs.Pieces.{marking, piece_count}
 use Rattle.records.specs.Facts.{saying}
 use Rattle.outcomes.specs.Fresh.{fresh_call}
 use Rattle.outcomes.specs.One.{refuse_if}
-use Rattle.outcomes.specs.declared.Outcome.{Outcome}
-use Rattle.outcomes.specs.declared.Outcome.TheVariants as call
 use Rattle.chain_format.specs.Step.{step_at, steps, shows}
 use Rattle.chain_format.specs.Citing.{Cited, none, cited_of}
 use Rattle.chain_format.specs.Chain.{chain_ok}
 use Rattle.chain_format.specs.Twice.{NoneTwice}
-use Rattle.clash.specs.declared.Reply.{Reply}
-use Rattle.clash.specs.declared.Reply.TheVariants.{Free, Refused}
 use Rattle.clash.specs.declared.Clash.{Clash}
 
 -- ---- the check, of a book and lent steps, whoever wrote them
@@ -44,8 +43,8 @@ clash_ok s i c = chain_ok (piece_count s) (cited_before s i) (fact_at s i) c && 
 
 -- steps pass only on a book that 14 refuses, at its place
 unfoldable pub passing : List ℕ → List ℕ → Outcome → Bool
-passing s c (call.Accepted n nodes shadows) = false
-passing s c (call.Refused r i) = eqb (refusal_number r) 14 && clash_ok s i c
+passing s c (Ok n) = false
+passing s c (Err r) = eqb (refusal_number r.refusal) 14 && clash_ok s r.place c
 
 unfoldable pub passes : List ℕ → List ℕ → Bool
 passes s c = passing s c (fresh_call s [])
@@ -53,8 +52,8 @@ passes s c = passing s c (fresh_call s [])
 -- ---- the writer: the reply by an equation; of the steps, which of several chains is written is free
 
 unfoldable pub reply_of : Outcome → Reply
-reply_of (call.Accepted n nodes shadows) = Free
-reply_of (call.Refused r i) = Refused r i
+reply_of (Ok n) = (Ok tt)
+reply_of (Err r) = Err r
 
 -- 15 for a buffer below 16,400 steps, then the rows of a book
 unfoldable pub reply : List ℕ → ℕ → Reply
@@ -62,8 +61,8 @@ reply s room = reply_of (refuse_if (ltb room 164000) ShortSteps (fresh_call s []
 
 -- 14 comes with steps
 abbrev pub shown : Reply → Bool
-shown Free = false
-shown (Refused r i) = eqb (refusal_number r) 14
+shown (Ok _) = false
+shown (Err r) = eqb (refusal_number r.refusal) 14
 
 -- the first r steps of c', 1 to 16,400 of them, pass, and no two of them show the same
 pub record Steps (s c' : List ℕ) (r : ℕ) : Type 0 where

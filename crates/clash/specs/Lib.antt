@@ -1,3 +1,4 @@
 pub mod Clash
 pub mod Silenced
 pub mod Derived
+pub mod Reply

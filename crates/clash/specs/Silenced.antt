@@ -1,12 +1,11 @@
 -- A copy of a book in which no record from number i on states a fact: these have kind 5. Numbers and marks stay. And what the inner functions promise each
 -- other. Assumes nothing.
-use Rattle.std.specs.Prelude.{ℕ, ◌*◌, ◌/◌, ◌%◌, ◌≤◌, ◌≡◌, Bool, true, false, ◌&&◌, List, eqb, leb, length, get_or, take}
+use Rattle.std.specs.Prelude.{ℕ, ◌*◌, ◌/◌, ◌%◌, ◌≤◌, ◌≡◌, Bool, true, false, ◌&&◌, List, eqb, leb, length, get_or, take, Ok}
 use Rattle.lists.specs.Tab.{tab}
 use Rattle.lists.specs.Front.{front}
 use Rattle.records.specs.Pieces.{piece_count}
 use Rattle.records.specs.Marked.{marked}
 use Rattle.records.specs.Check.{book_check}
-use Rattle.records.specs.declared.BookCheck.TheVariants as book
 use Rattle.closure.specs.Counted.{MarksOf}
 use Rattle.contradiction.specs.Settled.{Clashed}
 use Rattle.chain_format.specs.Twice.{NoneTwice}
@@ -24,7 +23,7 @@ silenced s i = tab (λ p. silenced_byte i p (get_or s p 0)) 0 (length s)
 
 -- a book that 14 refuses at this place
 pub record Clashes (s : List ℕ) (place : ℕ) : Type 0 where
-  pub sound : book_check s ≡ book.Accepted (piece_count s)
+  pub sound : book_check s ≡ Ok (piece_count s)
   pub clashed : Clashed (marked s) (piece_count s) s place
 
 -- its piece count and its marks

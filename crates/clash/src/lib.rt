@@ -1,11 +1,10 @@
 // The chain behind a contradiction: from the facts of the records before the place of 14, and all marks, to the opposite of what the record there states.
 #![tactic(auto)]
 
-ghost use Rattle.std.specs.Prelude.{◌≡◌, ◌+◌, ◌*◌, ◌<◌, ◌≤◌, length, get_or, take};
+ghost use Rattle.records.specs.Refused.{refused_at};
+ghost use Rattle.std.specs.Prelude.{◌≡◌, ◌+◌, ◌*◌, ◌<◌, ◌≤◌, length, get_or, take, Ok};
 ghost use Rattle.records.specs.Record.{record_at};
 ghost use Rattle.records.specs.Check.{book_check};
-ghost use Rattle.records.specs.declared.BookCheck.TheVariants as is;
-ghost use Rattle.clash.specs.declared.Reply.TheVariants.{Refused};
 ghost use Rattle.clash.specs.Clash.{unrestricted, clash_ok, passes, Written};
 ghost use Rattle.clash.specs.Silenced.{silenced_byte, silenced, Placed, Behind};
 ghost use Rattle.chain_format.specs.Sizes.{CHAIN-BYTES};
@@ -117,7 +116,7 @@ fn judge(
     d: &mut Matrix,
     t: &mut Matrix,
 ) -> Clash
-    requires { (book_check book.now ≡ is.Accepted n) × (CHAIN-BYTES ≤ length c.old) }
+    requires { (book_check book.now ≡ Ok n) × (CHAIN-BYTES ≤ length c.old) }
     ensures { Written book.now c.old result c.new }
 {
     let mut voids = [0u64; matrices::ROW_WORDS];
@@ -138,7 +137,7 @@ fn judge(
 }
 
 fn refuse(refusal: Refusal, place: usize) -> Clash
-    ensures { result ≡ record { reply = Refused refusal place; steps = 0 } }
+    ensures { result ≡ record { reply = refused_at refusal place; steps = 0 } }
 {
     Clash {
         reply: Reply::Refused(refusal, place),
@@ -192,7 +191,7 @@ fn check_sound(
     d: &mut Matrix,
     t: &mut Matrix,
 ) -> bool
-    requires { book_check book.now ≡ is.Accepted n }
+    requires { book_check book.now ≡ Ok n }
     ensures { result ≡ passes book.now steps.now }
 {
     let mut voids = [0u64; matrices::ROW_WORDS];

@@ -1,4 +1,8 @@
 -- A determined comparison keeps demands 2 and 3 of both books, and its joint answer is that of a model of both. Assumes nothing.
+use Rattle.std.specs.Prelude.{Err, Ok}
+use Rattle.records.specs.Refused.{ClaimsCheck}
+use Rattle.outcomes.specs.Accepted.{Outcome, accepted_with}
+use Rattle.compare.specs.Refused.{Comparison}
 use Prim.Native.Nat.{ℕ, max, ◌+◌, ◌*◌, ◌<◌, ◌≤◌}
 use mathlib.Core.Path.{◌≡◌, refl, sym, ap, ap₂, subst, ◌∙◌}
 use mathlib.Core.Logic.{◌↔◌}
@@ -20,9 +24,6 @@ use Rattle.records.specs.Record.{records}
 use Rattle.records.specs.Facts.{entries, facts}
 use Rattle.records.specs.Marked.{marked}
 use Rattle.records.specs.Check.{book_check, claims_check}
-use Rattle.records.specs.declared.BookCheck.TheVariants as book
-use Rattle.records.specs.declared.ClaimsCheck.{ClaimsCheck}
-use Rattle.records.specs.declared.ClaimsCheck.TheVariants as claims
 use Rattle.records.proofs.Rows.{refused-positive}
 use Rattle.compare.specs.Joint.{pieces, consistent, either_marked}
 use Rattle.compare.specs.Agreement.{agreement}
@@ -33,13 +34,9 @@ use Rattle.outcomes.specs.Call.{by_runs}
 use Rattle.outcomes.specs.Fresh.{fresh_call}
 use Rattle.closure.specs.Counted.{Counted}
 use Rattle.outcomes.specs.Outcome as of
-use Rattle.outcomes.specs.declared.Outcome.{Outcome}
-use Rattle.outcomes.specs.declared.Outcome.TheVariants as on
 use Rattle.answers.proofs.Fresh.{fresh-sound, fresh-runs}
 use Rattle.claims.proofs.Counts.{own-count, counted-settleable, counted-unmarked, counted-free}
 use Rattle.outcomes.proofs.Counts.{runs-refused, derived, entailed}
-use Rattle.compare.specs.declared.Comparison.{Comparison}
-use Rattle.compare.specs.declared.Comparison.TheVariants.{Compared, Refused}
 use Rattle.compare.specs.Answers.{answer_of, bytes_of}
 use Rattle.compare.specs.Call.{by_book, by_claims, by_rows, outcome, left, Determined}
 use Rattle.compare.specs.Outcome.{number, together}
@@ -51,14 +48,14 @@ use Rattle.compare.proofs.Rows.{runs-clash, runs-free, behind, first_counted, se
 -- ---- a book that is accepted is free, whatever count it is judged with
 
 module _ (s : List ℕ) where
-  not-clashed : (n v h : ℕ) → by_runs s n ≡ on.Accepted n v h → leb (shortest_clash (marked s) n (entries s)) (records s) ≡ false
+  not-clashed : (n v h : ℕ) → by_runs s n ≡ accepted_with n v h → leb (shortest_clash (marked s) n (entries s)) (records s) ≡ false
   not-clashed n v h e = pick (known (leb (shortest_clash (marked s) n (entries s)) (records s)))
     where
       pick : Known (leb (shortest_clash (marked s) n (entries s)) (records s)) → leb (shortest_clash (marked s) n (entries s)) (records s) ≡ false
       pick (is_false t) = t
       pick (is_true t) = let q = sym (runs-clash s n t) ∙ e in let z : ◌≡◌ {A = ℕ} 0 1 = cc in absurd (omega arith)
 
-  pub still-free : {a v h n : ℕ} → fresh_call s [] ≡ on.Accepted a v h → a ≤ n → false ≡ clash (marked s) n (facts s)
+  pub still-free : {a v h n : ℕ} → fresh_call s [] ≡ accepted_with a v h → a ≤ n → false ≡ clash (marked s) n (facts s)
   still-free {a} {v} {h} {n} e l =
       let sound = fresh-sound s e in
       let C = own-count sound in
@@ -71,41 +68,41 @@ module _ (s : List ℕ) where
 pub record Passed (s t cs : List ℕ) : Type 0 where
   pub a : ℕ
   pub b : ℕ
-  pub first : book_check s ≡ book.Accepted a
-  pub second : book_check t ≡ book.Accepted b
-  pub fit : claims_check (max a b) cs ≡ claims.Accepted
+  pub first : book_check s ≡ Ok a
+  pub second : book_check t ≡ Ok b
+  pub fit : claims_check (max a b) cs ≡ Ok tt
   pub first-free : false ≡ clash (marked s) (max a b) (facts s)
   pub second-free : false ≡ clash (marked t) (max a b) (facts t)
 
 module _ (s t cs : List ℕ) where
   abbrev pub Told : Comparison → Type 0
-  Told (Compared c) = Passed s t cs × (c ≡ consistent s t)
-  Told (Refused k r i) = Unit {0}
+  Told (Ok c) = Passed s t cs × (c ≡ consistent s t)
+  Told (Err k) = Unit {0}
 
-  claims-told : (a b : ℕ) → ((n : ℕ) → n ≡ max a b → claims_check n cs ≡ claims.Accepted → Passed s t cs) → pieces s t ≡ max a b → (c : ClaimsCheck) → claims_check (pieces s t) cs ≡ c → Told (by_claims (consistent s t) c)
+  claims-told : (a b : ℕ) → ((n : ℕ) → n ≡ max a b → claims_check n cs ≡ Ok tt → Passed s t cs) → pieces s t ≡ max a b → (c : ClaimsCheck) → claims_check (pieces s t) cs ≡ c → Told (by_claims (consistent s t) c)
   unfolding by_claims
-  claims-told a b f q (claims.Refused r i) e = tt
-  claims-told a b f q claims.Accepted e = (f (pieces s t) q e, refl)
+  claims-told a b f q (Err r) e = tt
+  claims-told a b f q (Ok _) e = (f (pieces s t) q e, refl)
 
   second-told : (o : Outcome) → fresh_call s [] ≡ o → (u : Outcome) → fresh_call t [] ≡ u → Told (by_book 1 o (by_book 2 u (by_claims (consistent s t) (claims_check (pieces s t) cs))))
   unfolding by_book
-  second-told (on.Refused r i) e u f = tt
-  second-told (on.Accepted a v h) e (on.Refused r i) f = tt
-  second-told (on.Accepted a v h) e (on.Accepted b w k) f =
+  second-told (Err r) e u f = tt
+  second-told (Ok a) e (Err r) f = tt
+  second-told (Ok a) e (Ok b) f =
       let x = fresh-sound s e in
       let y = fresh-sound t f in
-      claims-told a b
+      claims-told a.pieces b.pieces
       (λ n q fit.
       record {
-        a = a;
-        b = b;
+        a.pieces = a.pieces;
+        b.pieces = b.pieces;
         first = x;
         second = y;
         fit = rw q at fit;
         first-free = still-free s e (omega arith);
         second-free = still-free t f (omega arith);
       })
-      (sym (joint-pieces s t a b x y)) (claims_check (pieces s t) cs) refl
+      (sym (joint-pieces s t a.pieces b.pieces x y)) (claims_check (pieces s t) cs) refl
 
   pub rows_told : Told (by_rows s t cs)
   unfolding by_rows
@@ -121,7 +118,7 @@ module _ (s t cs : List ℕ) where
 
 -- ---- the answers
 
-right : (s : List ℕ) (n : ℕ) (C : Counted s n) (cs : List ℕ) → claims_check n cs ≡ claims.Accepted → false ≡ clash (marked s) n (facts s) → (i : ℕ) → i < records cs → Right s n cs i (answer_of s n cs i)
+right : (s : List ℕ) (n : ℕ) (C : Counted s n) (cs : List ℕ) → claims_check n cs ≡ Ok tt → false ≡ clash (marked s) n (facts s) → (i : ℕ) → i < records cs → Right s n cs i (answer_of s n cs i)
 unfolding answer_of
 right s n C cs fit free i h =
     let ok = free-consistent s (counted-settleable s C).bounded (marked s) (counted-unmarked s C) free in
@@ -173,21 +170,21 @@ fourteen :
     (k : ℕ) (o : Outcome) (rest : Comparison) → (numbers.book rest ≡ k → ⊥)
     → ((number (by_book k o rest) ≡ 14) × (numbers.book (by_book k o rest) ≡ k)) ↔ (of.number o ≡ 14)
 unfolding by_book
-fourteen k (on.Refused r i) rest other = (λ x. x.0, λ e. (e, refl))
-fourteen k (on.Accepted a b c) rest other = (λ x. absurd (other x.1), λ e. absurd (omega arith))
+fourteen k (Err r) rest other = (λ x. x.0, λ e. (e, refl))
+fourteen k (Ok a) rest other = (λ x. absurd (other x.1), λ e. absurd (omega arith))
 
 claims-other : (c : Bool) (x : ClaimsCheck) (k : ℕ) → 0 < k → numbers.book (by_claims c x) ≡ k → ⊥
 unfolding by_claims
-claims-other c (claims.Refused r i) k l e = omega arith
-claims-other c claims.Accepted k l e = omega arith
+claims-other c (Err r) k l e = omega arith
+claims-other c (Ok _) k l e = omega arith
 
 second-other : (u : Outcome) (rest : Comparison) → (numbers.book rest ≡ 1 → ⊥) → numbers.book (by_book 2 u rest) ≡ 1 → ⊥
 unfolding by_book
-second-other (on.Refused r i) rest other e = omega arith
-second-other (on.Accepted a b c) rest other e = other e
+second-other (Err r) rest other e = omega arith
+second-other (Ok a) rest other e = other e
 
 module _ (s t cs : List ℕ) where
-  first-14 : (n : ℕ) → book_check s ≡ book.Accepted n → ((number (by_rows s t cs) ≡ 14) × (numbers.book (by_rows s t cs) ≡ 1)) ↔ NoModel s n
+  first-14 : (n : ℕ) → book_check s ≡ Ok n → ((number (by_rows s t cs) ≡ 14) × (numbers.book (by_rows s t cs) ≡ 1)) ↔ NoModel s n
   unfolding by_rows
   first-14 n e =
       iff-trans
@@ -195,7 +192,7 @@ module _ (s t cs : List ℕ) where
       (rw (fresh-runs s n e) (runs-refused s (own-count e)))
 
   -- with a model of the first the second is looked at
-  behind-is : (n : ℕ) → book_check s ≡ book.Accepted n → (NoModel s n → ⊥) → by_rows s t cs ≡ (behind s t cs)
+  behind-is : (n : ℕ) → book_check s ≡ Ok n → (NoModel s n → ⊥) → by_rows s t cs ≡ (behind s t cs)
   unfolding by_rows by_book
   behind-is n e model = ap (λ (o : Outcome). by_book 1 o (behind s t cs)) (fresh-runs s n e) ∙ pick (known (leb (shortest_clash (marked s) n (entries s)) (records s)))
     where
@@ -203,7 +200,7 @@ module _ (s t cs : List ℕ) where
       pick (is_false q) = ap (λ (o : Outcome). by_book 1 o (behind s t cs)) (runs-free s n q)
       pick (is_true q) = absurd (model ((runs-refused s (own-count e)).0 (ap of.number (runs-clash s n q))))
 
-  second-14 : (n m : ℕ) → book_check s ≡ book.Accepted n → (NoModel s n → ⊥) → book_check t ≡ book.Accepted m → ((number (by_rows s t cs) ≡ 14) × (numbers.book (by_rows s t cs) ≡ 2)) ↔ NoModel t m
+  second-14 : (n m : ℕ) → book_check s ≡ Ok n → (NoModel s n → ⊥) → book_check t ≡ Ok m → ((number (by_rows s t cs) ≡ 14) × (numbers.book (by_rows s t cs) ≡ 2)) ↔ NoModel t m
   second-14 n m e model f =
       rw (behind-is n e model)
       (iff-trans
@@ -219,14 +216,14 @@ num-true false = (λ e. absurd (omega arith), λ e. absurd (false≢true e))
 module _ (s t cs out : List ℕ) where
   answered-all : (r : Comparison) → Told s t cs r → number r ≡ 0 → (i : ℕ) → i < records cs → Answered s t cs (left s t cs out r) i
   unfolding left
-  answered-all (Compared c) T z i h = answered s t cs out i h T.0
-  answered-all (Refused k r j) T z i h = absurd (refused-positive r z)
+  answered-all (Ok c) T z i h = answered s t cs out i h T.0
+  answered-all (Err k) T z i h = absurd (refused-positive k.refusal z)
 
   joint-all :
       (r : Comparison) → Told s t cs r → number r ≡ 0
       → (together r ≡ 1) ↔ ((M : Model (either_marked s t) (pieces s t)) × keeps_all M (facts s) × keeps_all M (facts t))
-  joint-all (Compared c) T z = iff-trans (num-true c) (rw T.1 (joint-models s t cs T.0))
-  joint-all (Refused k r j) T z = absurd (refused-positive r z)
+  joint-all (Ok c) T z = iff-trans (num-true c) (rw T.1 (joint-models s t cs T.0))
+  joint-all (Err k) T z = absurd (refused-positive k.refusal z)
 
   pub demanded : (r : Comparison) (out' : List ℕ) → Determined s t cs out r out' → Demanded s t cs (length out) out' r
   demanded r out' D =

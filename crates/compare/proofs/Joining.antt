@@ -1,4 +1,5 @@
 -- The records of two accepted books together: which pieces they are about, and that they can be laid exactly when a model keeps them. Assumes nothing.
+use Rattle.std.specs.Prelude.{Ok}
 use Prim.Native.Nat.{ℕ, max, ◌*◌}
 use mathlib.Core.Path.{◌≡◌, sym, ap, ap₂, ◌∙◌}
 use mathlib.Core.Logic.{inl, inr, ◌↔◌}
@@ -16,7 +17,6 @@ use Rattle.records.specs.Record.{records}
 use Rattle.records.specs.Facts.{facts}
 use Rattle.records.specs.Marked.{marked}
 use Rattle.records.specs.Check.{book_check}
-use Rattle.records.specs.declared.BookCheck.TheVariants as book
 use Rattle.records.proofs.Orders.{found_before, found-behind, facts-found}
 use Rattle.records.proofs.Marks.{marked_append}
 use Rattle.records.proofs.Accepted.{accepted, accepted-positive, accepted-pieces}
@@ -28,7 +28,7 @@ use Rattle.compare.specs.Joint.{pieces, joint_run, consistent, either_marked}
 use Rattle.compare.proofs.JointJoining.{either-marked, fact-split, joint-clash, joint-pieces, within}
 use Rattle.compare.specs.Judging.{Judgeable}
 
-module _ (s t : List ℕ) (a b : ℕ) (first : book_check s ≡ book.Accepted a) (second : book_check t ≡ book.Accepted b) where
+module _ (s t : List ℕ) (a b : ℕ) (first : book_check s ≡ Ok a) (second : book_check t ≡ Ok b) where
   whole : length s ≡ 6 * records s
   whole = (accepted s a first).whole
 

@@ -1,4 +1,5 @@
 -- The records of two books together: what stands in the joint run, that a shared record may stand twice, and what it is about. Assumes nothing.
+use Rattle.std.specs.Prelude.{Ok}
 use Prim.Native.Nat.{ℕ, max, ◌+◌, ◌-◌, ◌*◌, ◌≤◌, ◌<◌}
 use mathlib.Core.Path.{◌≡◌, sym, ap, ap₂, subst, ◌∙◌, fun_ext}
 use mathlib.Core.Logic.{◌⊎◌, inl, inr}
@@ -21,7 +22,6 @@ use Rattle.records.specs.Facts.{saying, facts}
 use Rattle.records.specs.Kept.{kept}
 use Rattle.records.specs.Marked.{marked}
 use Rattle.records.specs.Check.{book_check}
-use Rattle.records.specs.declared.BookCheck.TheVariants as book
 use Rattle.records.proofs.Runs.{fact-here, fact-from}
 use Rattle.records.proofs.Keeps.{kept-records, kept_from, record-there}
 use Rattle.records.proofs.Orders.{Found, record-early, record-late, found_before, found-behind, found-both, found-through, facts-found}
@@ -107,7 +107,7 @@ module _ (s t : List ℕ) (w : length s ≡ 6 * records s) where
 
 -- ---- two accepted books
 
-module _ (s t : List ℕ) (a b : ℕ) (first : book_check s ≡ book.Accepted a) (second : book_check t ≡ book.Accepted b) where
+module _ (s t : List ℕ) (a b : ℕ) (first : book_check s ≡ Ok a) (second : book_check t ≡ Ok b) where
   whole : length s ≡ 6 * records s
   whole = (accepted s a first).whole
 

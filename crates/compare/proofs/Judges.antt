@@ -1,4 +1,8 @@
 -- The steps of two books that are judged, among n pieces, the count of the larger. Assumes nothing.
+use Rattle.std.specs.Prelude.{Ok}
+use Rattle.records.specs.Refused.{refused_at}
+use Rattle.outcomes.specs.Accepted.{Outcome, accepted_with}
+use Rattle.compare.specs.Refused.{refused_of}
 use Prim.Native.Nat.{ℕ, max, ◌*◌, ◌≤◌}
 use mathlib.Core.Path.{◌≡◌, sym, ap, ap₂, subst, ◌∙◌}
 use mathlib.Core.Bool.{Bool, not}
@@ -14,9 +18,6 @@ use Rattle.records.specs.Marked.{marked}
 use Rattle.records.specs.declared.Refusal.{Refusal}
 use Rattle.records.proofs.Accepted.{accepted-claims}
 use Rattle.compare.specs.Agreement.{threes}
-use Rattle.outcomes.specs.declared.Outcome.{Outcome}
-use Rattle.outcomes.specs.declared.Outcome.TheVariants as on
-use Rattle.compare.specs.declared.Comparison.TheVariants.{Compared, Refused}
 use Rattle.compare.specs.Judging.{Judgeable, Answered, Ready, Judged}
 use Rattle.answers.specs.Judging.{Answerable}
 use Rattle.compare.proofs.JointJoining.{short-books}
@@ -63,16 +64,16 @@ module _ {s t cs : List ℕ} {n : ℕ} (R : Ready s t cs n) where
       (rw R.larger (judgeable s t R.own R.other R.first R.second), short.0, short.1)
 
   module _ {o : Outcome} {ours : List ℕ} (A : Answered s n cs o ours) where
-    pub first-refuses : {r : Refusal} {i : ℕ} {out : List ℕ} → o ≡ on.Refused r i → Judged s t cs out (Refused 1 r i) out
+    pub first-refuses : {r : Refusal} {i : ℕ} {out : List ℕ} → o ≡ refused_at r i → Judged s t cs out (refused_of 1 r i) out
     first-refuses {out = out} q = first-clashed s t cs out R.first R.second R.fit (rw R.larger at A.outcome-is) q
 
-    module _ {x y z : ℕ} (q : o ≡ on.Accepted x y z) {p : Outcome} {theirs : List ℕ} (B : Answered t n cs p theirs) where
-      pub second-refuses : {r : Refusal} {i : ℕ} {out : List ℕ} → p ≡ on.Refused r i → Judged s t cs out (Refused 2 r i) out
+    module _ {x y z : ℕ} (q : o ≡ accepted_with x y z) {p : Outcome} {theirs : List ℕ} (B : Answered t n cs p theirs) where
+      pub second-refuses : {r : Refusal} {i : ℕ} {out : List ℕ} → p ≡ refused_at r i → Judged s t cs out (refused_of 2 r i) out
       second-refuses {out = out} h = second-clashed s t cs out R.first R.second R.fit (rw R.larger at A.outcome-is) q (rw R.larger at B.outcome-is) h
 
       pub both-answer :
-          {u v w : ℕ} {c : Bool} {ours' theirs' : List ℕ} (out : List ℕ) {out' : List ℕ} → p ≡ on.Accepted u v w → c ≡ not (clash (marked (s ++ t)) n (facts (s ++ t))) → ours' ≡ ours → theirs' ≡ theirs
-          → out' ≡ front (threes (λ i. get_or ours' i 0) (λ i. get_or theirs' i 0) (length ours')) out → Judged s t cs out (Compared c) out'
+          {u v w : ℕ} {c : Bool} {ours' theirs' : List ℕ} (out : List ℕ) {out' : List ℕ} → p ≡ accepted_with u v w → c ≡ not (clash (marked (s ++ t)) n (facts (s ++ t))) → ours' ≡ ours → theirs' ≡ theirs
+          → out' ≡ front (threes (λ i. get_or ours' i 0) (λ i. get_or theirs' i 0) (length ours')) out → Judged s t cs out (Ok c) out'
       both-answer {c = c} out {out' = out'} h d x y f =
           both-judged s t cs out R.first R.second R.fit ours theirs out' c (rw R.larger at A) (rw R.larger at B) q h (rw R.larger at d)
           (f ∙ ap₂ (λ (x y : List ℕ). front (threes (λ i. get_or x i 0) (λ i. get_or y i 0) (length x)) out) x y)

@@ -1,4 +1,5 @@
 -- Books that can be laid together and mark the same pieces never oppose each other; with other marks they can. Assumes nothing.
+use Rattle.std.specs.Prelude.{Ok}
 use Prim.Native.Nat.{ℕ, ◌+◌, ◌*◌, ◌<◌}
 use mathlib.Core.Path.{◌≡◌, refl, sym, subst, ◌∙◌, fun_ext}
 use mathlib.Core.Bool.{Bool, true, false, ◌||◌}
@@ -37,7 +38,6 @@ use Rattle.records.specs.Claimed.{claimed, picked_facts}
 use Rattle.outcomes.specs.Call.{by_runs}
 use Rattle.outcomes.specs.Fresh.{fresh_call}
 use Rattle.outcomes.proofs.Counts.{claim-within}
-use Rattle.compare.specs.declared.Comparison.TheVariants.{Compared}
 use Rattle.compare.specs.Answers.{answer_of, bytes_of}
 use Rattle.compare.specs.Call.{by_book, by_claims, by_rows, outcome}
 use Rattle.compare.specs.Opposed.{NeverOpposed, MarksOppose}
@@ -119,7 +119,7 @@ module _ (s t cs : List ℕ) (P : Passed s t cs) (marks-same : (g : ℕ) → mar
 pub never-opposed : NeverOpposed
 unfolding bytes_of
 never-opposed s t cs room e same i h q =
-    let T : Told s t cs (Compared true) = subst (Told s t cs) e (told s t cs room) in
+    let T : Told s t cs (Ok true) = subst (Told s t cs) e (told s t cs room) in
     let x = threes-at (answer_of s (pieces s t) cs) (answer_of t (pieces s t) cs) (records cs) i 2 h (omega arith) in
     never s t cs T.0 same (sym T.1) i h (opposed _ _ (answer s (pieces s t) cs i) (answer t (pieces s t) cs i) (sym x ∙ q))
 

@@ -1,16 +1,15 @@
 -- Demands 2 and 3 of two books: the answers, the joint answer and refusal 14 by derivations and by models. Assumes nothing.
-use Rattle.std.specs.Prelude.{ℕ, ◌+◌, ◌*◌, ◌<◌, ◌≤◌, ◌≡◌, ◌↔◌, List, get_or}
+use Rattle.compare.specs.Refused.{Comparison}
+use Rattle.std.specs.Prelude.{ℕ, ◌+◌, ◌*◌, ◌<◌, ◌≤◌, ◌≡◌, ◌↔◌, List, get_or, Ok}
 use Rattle.rules.specs.Model.{Model, keeps_all}
 use Rattle.records.specs.Record.{records}
 use Rattle.records.specs.Facts.{facts}
 use Rattle.records.specs.Marked.{marked}
 use Rattle.records.specs.Check.{book_check}
-use Rattle.records.specs.declared.BookCheck.TheVariants as on
 use Rattle.compare.specs.Joint.{pieces, either_marked}
 use Rattle.compare.specs.Agreement.{agreement}
 use Rattle.records.specs.Claimed.{claimed, picked_facts}
 use Rattle.outcomes.specs.Demands.{Derived, Entailed}
-use Rattle.compare.specs.declared.Comparison.{Comparison}
 use Rattle.compare.specs.Outcome.{number, book, together}
 
 -- a book's answer to claim i among n pieces: by derivations from the facts of the book that the claim picks and its own marks, and by the models of these
@@ -33,7 +32,7 @@ NoModel s n = (M : Model (marked s) n) → keeps_all M (facts s) → ⊥
 pub record Demanded (s t cs : List ℕ) (room : ℕ) (out : List ℕ) (r : Comparison) : Type 0 where
   pub answered : number r ≡ 0 → (i : ℕ) → i < records cs → Answered s t cs out i
   pub joint : number r ≡ 0 → (together r ≡ 1) ↔ ((M : Model (either_marked s t) (pieces s t)) × keeps_all M (facts s) × keeps_all M (facts t))
-  pub first : (n : ℕ) → 3 * records cs ≤ room → book_check s ≡ on.Accepted n → ((number r ≡ 14) × (book r ≡ 1)) ↔ NoModel s n
+  pub first : (n : ℕ) → 3 * records cs ≤ room → book_check s ≡ Ok n → ((number r ≡ 14) × (book r ≡ 1)) ↔ NoModel s n
   pub second :
-      (n m : ℕ) → 3 * records cs ≤ room → book_check s ≡ on.Accepted n → (NoModel s n → ⊥) → book_check t ≡ on.Accepted m
+      (n m : ℕ) → 3 * records cs ≤ room → book_check s ≡ Ok n → (NoModel s n → ⊥) → book_check t ≡ Ok m
       → ((number r ≡ 14) × (book r ≡ 2)) ↔ NoModel t m

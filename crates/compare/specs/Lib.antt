@@ -7,3 +7,4 @@ pub mod Outcome
 pub mod Demands
 pub mod Opposed
 pub mod Judging
+pub mod Refused

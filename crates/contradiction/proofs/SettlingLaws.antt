@@ -1,4 +1,6 @@
 -- Which runs can be settled, and what a settled run is: the room of its index, its contradiction or its model. Assumes nothing.
+use Rattle.contradiction.specs.Row14.{Row14, Settled, clashed_at, free_with}
+use Rattle.std.specs.Prelude.{Ok}
 use Prim.Native.Nat.{ℕ, ◌+◌, ◌-◌, ◌*◌, ◌/◌, ◌≤◌, ◌<◌}
 use mathlib.Core.Path.{◌≡◌, sym, ap, ◌∙◌}
 use mathlib.Core.Bool.{Bool, true, false, false≢true}
@@ -19,7 +21,6 @@ use Rattle.records.specs.Check.{book_check}
 use Rattle.records.specs.Marked.{marked}
 use Rattle.records.proofs.Marks.{accepted-whole-unmarked}
 use Rattle.records.specs.Facts.{entries, facts}
-use Rattle.records.specs.declared.BookCheck.TheVariants as book
 use Rattle.records.proofs.Accepted.{accepted, accepted-within, accepted-positive, accepted-pieces}
 use Rattle.groups.specs.Groups.{groups}
 use Rattle.groups.specs.Index.{edges, BookIndex}
@@ -28,10 +29,6 @@ use Rattle.index.specs.Index.{Room}
 use Rattle.contradiction.specs.Opened.{Opened}
 use Rattle.contradiction.specs.Settleable.{Settleable}
 use Rattle.contradiction.specs.Settled.{row, Clashed, Settles, Steps, Indexes, Counts}
-use Rattle.contradiction.specs.declared.row_14.Row14.{Row14}
-use Rattle.contradiction.specs.declared.row_14.Row14.TheVariants.{Free, Clash}
-use Rattle.contradiction.specs.declared.row_14.Settled.{Settled}
-use Rattle.contradiction.specs.declared.row_14.Settled.TheVariants as counted
 use Rattle.closure.specs.Bounded.{Bounded}
 use Rattle.closure.specs.Stepped.{Stepped}
 use Rattle.closure.proofs.VoidRows.{accepted-markable}
@@ -40,7 +37,7 @@ use Rattle.contradiction.proofs.Halving.{facts-roomy}
 use Rattle.contradiction.proofs.GroupIndex.{room}
 
 -- every book that rows 2 to 9 accept, in parts of document 01's lengths
-pub settleable : (s : List ℕ) (n : ℕ) → book_check s ≡ book.Accepted n → Settleable n s 2560 1280 8192 2048
+pub settleable : (s : List ℕ) (n : ℕ) → book_check s ≡ Ok n → Settleable n s 2560 1280 8192 2048
 settleable s n e =
     let A = accepted s n e in
     let few : length s / 6 ≤ 8192 = A.few in
@@ -52,15 +49,15 @@ settleable s n e =
     }
 
 -- piece 0 of which is not marked
-pub whole-unmarked : (s : List ℕ) (n : ℕ) → book_check s ≡ book.Accepted n → marked s 0 ≡ false
+pub whole-unmarked : (s : List ℕ) (n : ℕ) → book_check s ≡ Ok n → marked s 0 ≡ false
 whole-unmarked s n e = accepted-whole-unmarked (accepted s n e)
 
 -- what settling gives back
 module _ {void : ℕ → Bool} {n : ℕ} {run d t : List ℕ} where
-  pub settles-free : Opened void n (facts run) d t false → Settles void n run d t Free
+  pub settles-free : Opened void n (facts run) d t false → Settles void n run d t (Ok tt)
   settles-free O = record { free = λ q. O; clash = λ p q. let z : ◌≡◌ {A = ℕ} 0 1 = cc in absurd (omega arith) }
 
-  pub settles-clash : {place : ℕ} → Clashed void n run place → Settles void n run d t (Clash place)
+  pub settles-clash : {place : ℕ} → Clashed void n run place → Settles void n run d t (clashed_at place)
   settles-clash {place} C =
       record {
         free = λ q. let z : ◌≡◌ {A = ℕ} 0 1 = cc in absurd (omega arith);
@@ -70,11 +67,11 @@ module _ {void : ℕ → Bool} {n : ℕ} {run d t : List ℕ} where
 pub steps-free : {n : ℕ} {run e order lead : List ℕ} (r : Row14) → Stepped n (facts run) e order lead → Steps n run e order lead r
 steps-free r W = record { free = λ q. W }
 
-pub steps-clash : {n place : ℕ} {run e order lead : List ℕ} → Steps n run e order lead (Clash place)
+pub steps-clash : {n place : ℕ} {run e order lead : List ℕ} → Steps n run e order lead (clashed_at place)
 steps-clash = record { free = λ q. let z : ◌≡◌ {A = ℕ} 0 1 = cc in absurd (omega arith) }
 
 module _ {n : ℕ} {run parens marks shadows places : List ℕ} where
-  pub indexes-free : {nodes shadowed : ℕ} → BookIndex n (part_in (facts run)) parens marks shadows places nodes shadowed → Indexes n run parens marks shadows places (counted.Free nodes shadowed)
+  pub indexes-free : {nodes shadowed : ℕ} → BookIndex n (part_in (facts run)) parens marks shadows places nodes shadowed → Indexes n run parens marks shadows places (free_with nodes shadowed)
   indexes-free {nodes} {shadowed} I =
       record {
         free = λ a b q.
@@ -83,18 +80,18 @@ module _ {n : ℕ} {run parens marks shadows places : List ℕ} where
             rw (x, y) at I;
       }
 
-  pub indexes-clash : {place : ℕ} → Indexes n run parens marks shadows places (counted.Clash place)
+  pub indexes-clash : {place : ℕ} → Indexes n run parens marks shadows places (clashed_at place)
   indexes-clash = record { free = λ a b q. let z : ◌≡◌ {A = ℕ} 0 1 = cc in absurd (omega arith) }
 
   pub counts : {r : Settled} → Indexes n run parens marks shadows places r → Counts n run r
   counts I = record { free = λ a b q. let J = I.free a b q in (J.nodes-are, J.shadowed-are) }
 
 -- row 14 of what was settled with an index
-pub row-free : {r : Settled} {nodes shadowed : ℕ} → r ≡ counted.Free nodes shadowed → row r ≡ Free
+pub row-free : {r : Settled} {nodes shadowed : ℕ} → r ≡ free_with nodes shadowed → row r ≡ Ok tt
 unfolding row
 row-free q = ap row q
 
-pub row-clash : {r : Settled} {place : ℕ} → r ≡ counted.Clash place → row r ≡ Clash place
+pub row-clash : {r : Settled} {place : ℕ} → r ≡ clashed_at place → row r ≡ clashed_at place
 unfolding row
 row-clash q = ap row q
 

@@ -1,5 +1,6 @@
 -- Row 14 of a run with the marks of its book: what settling it finds. Assumes nothing.
-use Rattle.std.specs.Prelude.{ℕ, ◌+◌, ◌≡◌, Bool, true, false, List, length}
+use Rattle.contradiction.specs.Row14.{Row14, Settled, clashed_at, free_with}
+use Rattle.std.specs.Prelude.{ℕ, ◌+◌, ◌≡◌, Bool, true, false, List, length, Err, Ok}
 use Rattle.rules.specs.Follows as on
 use Rattle.rules.specs.Entries.{shortest_clash}
 use Rattle.records.specs.Facts.{entries, facts}
@@ -8,15 +9,11 @@ use Rattle.groups.specs.Index.{book_visits, BookIndex}
 use Rattle.records.specs.PartIn.{part_in}
 use Rattle.closure.specs.Stepped.{Stepped}
 use Rattle.contradiction.specs.Opened.{Opened}
-use Rattle.contradiction.specs.declared.row_14.Row14.{Row14}
-use Rattle.contradiction.specs.declared.row_14.Row14.TheVariants.{Free, Clash}
-use Rattle.contradiction.specs.declared.row_14.Settled.{Settled}
-use Rattle.contradiction.specs.declared.row_14.Settled.TheVariants as counted
 
 -- row 14 of a run that was settled with its index
 unfoldable pub row : Settled → Row14
-row (counted.Free nodes shadowed) = Free
-row (counted.Clash place) = Clash place
+row (Ok nodes) = (Ok tt)
+row (Err place) = clashed_at place.place
 
 -- a contradictory run, and the last record of its shortest contradictory run from the start
 pub record Clashed (void : ℕ → Bool) (n : ℕ) (run : List ℕ) (place : ℕ) : Type 0 where
@@ -25,17 +22,17 @@ pub record Clashed (void : ℕ → Bool) (n : ℕ) (run : List ℕ) (place : ℕ
 
 -- a free run has its D and T in what was lent; of a contradictory run the matrices say nothing
 pub record Settles (void : ℕ → Bool) (n : ℕ) (run d t : List ℕ) (r : Row14) : Type 0 where
-  pub free : r ≡ Free → Opened void n (facts run) d t false
-  pub clash : (place : ℕ) → r ≡ Clash place → Clashed void n run place
+  pub free : r ≡ Ok tt → Opened void n (facts run) d t false
+  pub clash : (place : ℕ) → r ≡ clashed_at place → Clashed void n run place
 
 -- its steps too, in the order in which rows are joined
 pub record Steps (n : ℕ) (run e order lead : List ℕ) (r : Row14) : Type 0 where
-  pub free : r ≡ Free → Stepped n (facts run) e order lead
+  pub free : r ≡ Ok tt → Stepped n (facts run) e order lead
 
 -- and its index, where there is one
 pub record Indexes (n : ℕ) (run parens marks shadows places : List ℕ) (r : Settled) : Type 0 where
-  pub free : (nodes shadowed : ℕ) → r ≡ counted.Free nodes shadowed → BookIndex n (part_in (facts run)) parens marks shadows places nodes shadowed
+  pub free : (nodes shadowed : ℕ) → r ≡ free_with nodes shadowed → BookIndex n (part_in (facts run)) parens marks shadows places nodes shadowed
 
 -- or its counts alone
 pub record Counts (n : ℕ) (run : List ℕ) (r : Settled) : Type 0 where
-  pub free : (nodes shadowed : ℕ) → r ≡ counted.Free nodes shadowed → (nodes ≡ length (book_visits n (part_in (facts run)))) × (shadowed ≡ length (shadows (book_visits n (part_in (facts run)))))
+  pub free : (nodes shadowed : ℕ) → r ≡ free_with nodes shadowed → (nodes ≡ length (book_visits n (part_in (facts run)))) × (shadowed ≡ length (shadows (book_visits n (part_in (facts run)))))

@@ -1,10 +1,9 @@
 // Row 14 of a run: whether it is contradictory, and at which record; with its first two matrices, its steps, and its index where one is asked for.
-ghost use Rattle.std.specs.Prelude.{◌≡◌, true, ◌+◌, ◌/◌, length};
+ghost use Rattle.std.specs.Prelude.{◌≡◌, true, ◌+◌, ◌/◌, length, Ok};
 ghost use Rattle.rules.specs.Follows.{clash};
 ghost use Rattle.rules.specs.Entries.{shortest_clash};
 ghost use Rattle.records.specs.Check.{book_check};
 ghost use Rattle.records.specs.Facts.{entries, facts};
-ghost use Rattle.records.specs.declared.BookCheck.TheVariants as is;
 ghost use Rattle.matrices.specs.Sizes.{ROW-WORDS};
 ghost use Rattle.closure.specs.Counted.{MarksOf};
 ghost use Rattle.closure.specs.Void.{void_of, Voids};
@@ -100,7 +99,7 @@ pub fn settle_counted(
     d: &mut Matrix,
     t: &mut Matrix,
 ) -> Settled
-    requires { (book_check book.now ≡ is.Accepted n) × (length voids.old ≡ ROW-WORDS) }
+    requires { (book_check book.now ≡ Ok n) × (length voids.old ≡ ROW-WORDS) }
     ensures { MarksOf book.now voids.new × Settles (void_of voids.new) n book.now d.new t.new (row result) × Steps n book.now e.new order.new lead.new (row result) × Counts n book.now result }
 {
     let mut parens = [0u8; index::PARENTHESES_BYTES];
@@ -169,7 +168,7 @@ pub fn settle_book(
     d: &mut Matrix,
     t: &mut Matrix,
 ) -> Row14
-    requires { (book_check book.now ≡ is.Accepted n) × (length voids.old ≡ ROW-WORDS) }
+    requires { (book_check book.now ≡ Ok n) × (length voids.old ≡ ROW-WORDS) }
     ensures { MarksOf book.now voids.new × Settles (void_of voids.new) n book.now d.new t.new result }
 {
     closure::marking::mark_voids(book, voids);

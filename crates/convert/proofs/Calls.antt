@@ -1,4 +1,5 @@
 -- A converted book in the calls in force: accepted with any claims and buffers that fit, and the answers are those of the former book. Assumes nothing.
+use Rattle.std.specs.Prelude.{Ok}
 use Prim.Native.Nat.{ℕ, ◌<◌}
 use mathlib.Core.Path.{◌≡◌, sym, ap, ◌∙◌, fun_ext}
 use mathlib.Core.Bool.{false}
@@ -18,8 +19,6 @@ use Rattle.records.specs.Pieces.{piece_count}
 use Rattle.records.specs.Facts.{entries, facts}
 use Rattle.records.specs.Marked.{marked}
 use Rattle.records.specs.Check.{former_check, claims_check}
-use Rattle.records.specs.declared.BookCheck.TheVariants as book
-use Rattle.records.specs.declared.ClaimsCheck.TheVariants as claims
 use Rattle.records.proofs.Accepted.{accepted-claims}
 use Rattle.contradiction.proofs.SettlingLaws.{settleable, whole-unmarked, free-beyond}
 use Rattle.outcomes.specs.Lent.{Lent, short_lent}
@@ -31,7 +30,7 @@ use Rattle.convert.specs.Same.{InForce, SameAnswers}
 use Rattle.convert.specs.Called.{ConvertedAccepted, ConvertedAnswers}
 use Rattle.convert.proofs.Markless.{former-markless}
 
-module _ (s t cs : List ℕ) (l : Lent) (F : InForce s t) (lent : short_lent cs l ≡ false) (fit : claims_check (piece_count s) cs ≡ claims.Accepted) where
+module _ (s t cs : List ℕ) (l : Lent) (F : InForce s t) (lent : short_lent cs l ≡ false) (fit : claims_check (piece_count s) cs ≡ Ok tt) where
   free : false ≡ clash (marked t) (piece_count s) (facts t)
   free =
       let S = settleable t (piece_count s) F.sound in
@@ -43,7 +42,7 @@ module _ (s t cs : List ℕ) (l : Lent) (F : InForce s t) (lent : short_lent cs 
       ap number (passed-outcome t cs l (piece_count s) (record { lent = lent; sound = F.sound; fit = fit }))
       ∙ rw (lt-leb (shortest_clash (marked t) (piece_count s) (entries t)) (records t) (free-beyond t (settleable t (piece_count s) F.sound).bounded (marked t) (whole-unmarked t (piece_count s) F.sound) free), by_runs)
 
-  module _ (former : former_check s ≡ book.Accepted (piece_count s)) (same : SameAnswers s t) where
+  module _ (former : former_check s ≡ Ok (piece_count s)) (same : SameAnswers s t) where
     at : ℕ → List ℕ → ℕ
     at i u = verdict (marked u) (piece_count s) (picked_facts u cs i) (claimed cs i)
 

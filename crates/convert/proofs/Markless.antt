@@ -1,4 +1,5 @@
 -- A former book marks no piece, and neither does the new one. Assumes nothing.
+use Rattle.std.specs.Prelude.{Ok}
 use Prim.Native.Nat.{ℕ, ◌<◌}
 use mathlib.Core.Path.{◌≡◌, ap, ◌∙◌}
 use mathlib.Core.Logic.{inl, inr}
@@ -6,7 +7,6 @@ use mathlib.Core.Bool.{true, false}
 use mathlib.Core.List.{List}
 use lib.ListN.{get_or}
 use Rattle.records.specs.declared.Edition.TheVariants.{Former}
-use Rattle.records.specs.declared.BookCheck.TheVariants as book
 use Rattle.records.specs.Record.{record_at, records}
 use Rattle.records.specs.Pieces.{stated}
 use Rattle.records.specs.Check.{former_check}
@@ -16,7 +16,7 @@ use Rattle.records.proofs.Marks.{former-unmarked, marks-stated}
 use Rattle.convert.specs.Converted.{converted}
 use Rattle.convert.proofs.Made.{speaks, last-stated, From, Made, made}
 
-module _ (s : List ℕ) (n : ℕ) (former : former_check s ≡ book.Accepted n) where
+module _ (s : List ℕ) (n : ℕ) (former : former_check s ≡ Ok n) where
   A : AcceptedBook Former s n
   A = accepted-by Former s n former
 

@@ -1,4 +1,5 @@
 -- A converted book passes the rows in force, is consistent, and gives every claim the answer that it had. Assumes nothing.
+use Rattle.std.specs.Prelude.{Ok}
 use Prim.Native.Nat.{ℕ, ◌-◌, ◌≤◌, ◌<◌}
 use mathlib.Core.Path.{◌≡◌, refl, sym, ap, subst, ◌∙◌, fun_ext}
 use mathlib.Core.Logic.{◌⊎◌, inl, inr}
@@ -16,7 +17,6 @@ use Rattle.rules.proofs.Models.{clash-iff}
 use Rattle.rules.proofs.More.{Among, weaken-contradictory}
 use Rattle.records.specs.declared.Record.{Record}
 use Rattle.records.specs.declared.Edition.TheVariants.{Former, Current}
-use Rattle.records.specs.declared.BookCheck.TheVariants as book
 use Rattle.records.specs.Record.{record_at, records}
 use Rattle.records.specs.Pieces.{stated, piece_count}
 use Rattle.records.specs.Facts.{saying, facts}
@@ -33,7 +33,7 @@ use Rattle.convert.proofs.Made.{speaks, Last, last-stated, last-largest, From, M
 use Rattle.convert.proofs.Markless.{converted-markless}
 use Rattle.convert.proofs.Answers.{Extended, still-consistent, same_answer}
 
-module _ (s : List ℕ) (n : ℕ) (former : former_check s ≡ book.Accepted n) (bytes : (k : ℕ) → get_or s k 0 < 256) where
+module _ (s : List ℕ) (n : ℕ) (former : former_check s ≡ Ok n) (bytes : (k : ℕ) → get_or s k 0 < 256) where
   A : AcceptedBook Former s n
   A = accepted-by Former s n former
 

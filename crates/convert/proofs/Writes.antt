@@ -1,4 +1,6 @@
 -- What the converter writes, what row 14 says, and the outcome. Assumes nothing.
+use Rattle.std.specs.Prelude.{Ok}
+use Rattle.records.specs.Refused.{refused_at}
 use Prim.Native.Nat.{ℕ, ◌+◌, ◌-◌, ◌≤◌, ◌<◌, ◌%◌, ◌/◌}
 use mathlib.Core.Path.{◌≡◌, refl, sym, ap, ◌∙◌, fun_ext}
 use mathlib.Core.Bool.{true, false}
@@ -13,7 +15,6 @@ use Rattle.rules.specs.Fact.{unmarked}
 use Rattle.rules.specs.Follows.{clash}
 use Rattle.rules.specs.Entries.{shortest_clash}
 use Rattle.records.specs.declared.Edition.TheVariants.{Former}
-use Rattle.records.specs.declared.BookCheck.TheVariants as book
 use Rattle.records.specs.declared.Refusal.{Refusal}
 use Rattle.records.specs.declared.Refusal.TheVariants.{ShortBuffer, Contradiction}
 use Rattle.records.specs.Record.{records}
@@ -31,10 +32,8 @@ use Rattle.closure.proofs.VoidRows.{cleared-voids}
 use Rattle.contradiction.proofs.SettlingLaws.{free-beyond, clashed-within}
 use Rattle.convert.specs.Converted.{no_tray, no_trays, in_whole, converted}
 use Rattle.convert.specs.Writing.{FormerBook}
-use Rattle.convert.specs.Conversion.{number, by_runs, by_book, conversion, left, Determined}
+use Rattle.convert.specs.Conversion.{number, by_runs, by_book, conversion, left, Determined, Conversion}
 use Rattle.convert.specs.Same.{InForce, SameAnswers}
-use Rattle.convert.specs.declared.Conversion.{Conversion}
-use Rattle.convert.specs.declared.Conversion.TheVariants as to
 use Rattle.convert.proofs.Theorems.{in-force, same-answers}
 
 pub written-trays :
@@ -99,16 +98,16 @@ abbrev pub Promised : List ℕ → List ℕ → Conversion → List ℕ → Type
 Promised s out r out' = Determined s out r out' × ((number r ≡ 0 → InForce s (converted s)) × (number r ≡ 0 → SameAnswers s (converted s)))
 
 module _ (s out : List ℕ) where
-  refused : (r : Refusal) (i : ℕ) → to.Refused r i ≡ conversion s (length out) → Promised s out (to.Refused r i) out
+  refused : (r : Refusal) (i : ℕ) → refused_at r i ≡ conversion s (length out) → Promised s out (refused_at r i) out
   unfolding left
   refused r i e = ((e, refl), (λ z. absurd (refused-positive r z), λ z. absurd (refused-positive r z)))
 
-  pub by-short : length out < length s → Promised s out (to.Refused ShortBuffer 0) out
+  pub by-short : length out < length s → Promised s out (refused_at ShortBuffer 0) out
   unfolding conversion
   by-short h = refused ShortBuffer 0 (rw (lt-ltb (length out) (length s) h, conversion))
 
   module _ (h : length s ≤ length out) where
-    pub by_rows : (r : Refusal) (i : ℕ) → former_check s ≡ book.Refused r i → Promised s out (to.Refused r i) out
+    pub by_rows : (r : Refusal) (i : ℕ) → former_check s ≡ refused_at r i → Promised s out (refused_at r i) out
     unfolding conversion by_book
     by_rows r i e = refused r i (rw (le-ltb (length out) (length s) h, conversion, e, by_book))
 
@@ -117,19 +116,19 @@ module _ (s out : List ℕ) where
       unfolding conversion by_book
       judged = rw (le-ltb (length out) (length s) h, conversion, former, by_book)
 
-      pub by-clash : (place : ℕ) → Clashed unmarked n s place → Promised s out (to.Refused Contradiction place) out
+      pub by-clash : (place : ℕ) → Clashed unmarked n s place → Promised s out (refused_at Contradiction place) out
       unfolding by_runs
       by-clash place C =
           let q = C.last in
           let k : place ≡ shortest_clash unmarked n (entries s) - 1 = omega arith in
           refused Contradiction place
-          (rw (le-leb (shortest_clash unmarked n (entries s)) (records s) (clashed-within s (former-bounded s n former) unmarked refl C), by_runs) (ap (to.Refused Contradiction) k) ∙ judged)
+          (rw (le-leb (shortest_clash unmarked n (entries s)) (records s) (clashed-within s (former-bounded s n former) unmarked refl C), by_runs) (ap (refused_at Contradiction) k) ∙ judged)
 
       pub by-free :
           ((k : ℕ) → get_or s k 0 < 256) → false ≡ clash unmarked n (facts s) → (k : ℕ) (out' : List ℕ) → k ≡ length (converted s) → out' ≡ front (converted s) out
-          → Promised s out (to.Written k) out'
+          → Promised s out (Ok k) out'
       unfolding by_runs left
       by-free bytes c k out' e f = (
-        ((rw (lt-leb (shortest_clash unmarked n (entries s)) (records s) (free-beyond s (former-bounded s n former) unmarked refl c), by_runs) (ap to.Written e)) ∙ judged, f),
+        ((rw (lt-leb (shortest_clash unmarked n (entries s)) (records s) (free-beyond s (former-bounded s n former) unmarked refl c), by_runs) (ap Ok e)) ∙ judged, f),
         (λ z. in-force s n former bytes c, λ z. same-answers s n former bytes c),
       )

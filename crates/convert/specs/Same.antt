@@ -1,10 +1,9 @@
 -- What a converted book t is to the book s that it comes from. Assumes nothing.
-use Rattle.std.specs.Prelude.{ℕ, ◌≡◌, List}
+use Rattle.std.specs.Prelude.{ℕ, ◌≡◌, List, Ok}
 use Rattle.rules.specs.Fact.{Within, unmarked}
 use Rattle.rules.specs.Derives.{Contradictory}
 use Rattle.rules.specs.Verdict.{verdict}
 use Rattle.records.specs.declared.Record.{Record}
-use Rattle.records.specs.declared.BookCheck.TheVariants as book
 use Rattle.records.specs.Check.{book_check}
 use Rattle.records.specs.Facts.{saying, facts}
 use Rattle.records.specs.Kept.{picked}
@@ -13,7 +12,7 @@ use Rattle.records.specs.Pieces.{piece_count}
 
 -- no row of the edition in force refuses t, and it has the pieces of s
 pub record InForce (s t : List ℕ) : Type 0 where
-  pub sound : book_check t ≡ book.Accepted (piece_count s)
+  pub sound : book_check t ≡ Ok (piece_count s)
   pub counted : piece_count t ≡ piece_count s
   pub consistent : Contradictory (marked t) (piece_count t) (facts t) → ⊥
 

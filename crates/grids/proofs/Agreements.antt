@@ -1,4 +1,6 @@
 -- The bit of a claim is the question call's answer to it. Assumes nothing.
+use Rattle.std.specs.Prelude.{Err, Ok}
+use Rattle.outcomes.specs.Accepted.{Outcome, accepted_with}
 use Prim.Native.Nat.{ℕ, ◌≤◌}
 use mathlib.Core.Path.{◌≡◌, refl, sym, ap, subst, ◌∙◌}
 use mathlib.Core.Bool.{Bool, true, false}
@@ -13,15 +15,12 @@ use Rattle.records.specs.Record.{record_at}
 use Rattle.records.specs.Facts.{facts}
 use Rattle.records.specs.Marked.{marked}
 use Rattle.records.specs.Check.{book_check}
-use Rattle.records.specs.declared.BookCheck.TheVariants as book
 use Rattle.records.proofs.Keeps.{picked_all}
 use Rattle.records.proofs.Rows.{refused-positive}
 use Rattle.records.specs.Claimed.{claimed}
 use Rattle.outcomes.specs.Call.{outcome, left, indexed, Passed}
 use Rattle.outcomes.specs.Fresh.{fresh_call}
 use Rattle.outcomes.specs.Outcome.{number}
-use Rattle.outcomes.specs.declared.Outcome.{Outcome}
-use Rattle.outcomes.specs.declared.Outcome.TheVariants.{Accepted, Refused}
 use Rattle.outcomes.proofs.Outcomes.{Told, told}
 use Rattle.answers.proofs.Fresh.{fresh-sound}
 use Rattle.outcomes.proofs.Kept.{claim-in, answer_at}
@@ -34,12 +33,12 @@ use Rattle.grids.proofs.Agrees.{bit-verdict}
 
 -- accepted grids hold the answers of a book of at most 64 pieces
 abbrev Filled : List ℕ → Grids → Type 0
-Filled s g = (n : ℕ) × (book_check s ≡ book.Accepted n) × (n ≤ 64) × Answers (marked s) n (facts s) g
+Filled s g = (n : ℕ) × (book_check s ≡ Ok n) × (n ≤ 64) × Answers (marked s) n (facts s) g
 
 module _ (s : List ℕ) (g : Grids) where
   by-size :
-      (n v h : ℕ) (t : Bool) → ltb 64 n ≡ t → fresh_call s [] ≡ Accepted n v h → number (sized t (Accepted n v h)) ≡ 0
-      → ((f : Fact) → Within 64 f → holds g f ≡ bit_for s (sized t (Accepted n v h)) f) → Filled s g
+      (n v h : ℕ) (t : Bool) → ltb 64 n ≡ t → fresh_call s [] ≡ accepted_with n v h → number (sized t (accepted_with n v h)) ≡ 0
+      → ((f : Fact) → Within 64 f → holds g f ≡ bit_for s (sized t (accepted_with n v h)) f) → Filled s g
   unfolding bit_for
   by-size n v h true q e z b = absurd (omega arith)
   by-size n v h false q e z b = (n, fresh-sound s e, ltb-false 64 n q, record { bits = b })
@@ -47,8 +46,8 @@ module _ (s : List ℕ) (g : Grids) where
   by-outcome :
       (o : Outcome) → fresh_call s [] ≡ o → number (by_size o) ≡ 0 → ((f : Fact) → Within 64 f → holds g f ≡ bit_for s (by_size o) f) → Filled s g
   unfolding by_size
-  by-outcome (Refused r i) e z b = absurd (refused-positive r z)
-  by-outcome (Accepted n v h) e z b = by-size n v h (ltb 64 n) refl e z b
+  by-outcome (Err r) e z b = absurd (refused-positive r.refusal z)
+  by-outcome (Ok n) e z b = by-size n.pieces n.nodes n.shadows (ltb 64 n.pieces) refl e z b
 
   filled : (o : Outcome) → Gridded s o g → number o ≡ 0 → Filled s g
   unfolding grid_outcome
@@ -69,5 +68,5 @@ grid-agrees s cs l o g G z y i h origin = pick (outcome s cs l) (told s cs l) y 
         ∙ ap (λ (x : ℕ). eqb x 1) (sym (answer_at s cs l m p i h))
 
     pick : (r : Outcome) → Told s cs l r → number r ≡ 0 → Filled s g → holds g (claimed cs i) ≡ eqb (get_or (left s cs l r).answers i 0) 1
-    pick (Accepted n v x) t q f = at n t.0 f
-    pick (Refused r j) t q f = absurd (refused-positive r q)
+    pick (Ok n) t q f = at n.pieces t.0 f
+    pick (Err r) t q f = absurd (refused-positive r.refusal q)

@@ -1,4 +1,7 @@
 -- The call: its outcome, and the grids of an accepted book. Assumes nothing.
+use Rattle.std.specs.Prelude.{Ok}
+use Rattle.records.specs.Refused.{refused_at}
+use Rattle.outcomes.specs.Accepted.{Outcome, accepted_with}
 use Prim.Native.Nat.{ℕ, ◌<◌, ◌≤◌}
 use mathlib.Core.Path.{◌≡◌, sym, ap, ap₂, ◌∙◌}
 use mathlib.Core.Bool.{Bool, false}
@@ -14,12 +17,9 @@ use Rattle.records.specs.Marked.{marked}
 use Rattle.records.specs.Check.{book_check}
 use Rattle.records.specs.declared.Refusal.{Refusal}
 use Rattle.records.specs.declared.Refusal.TheVariants.{TooManyPieces}
-use Rattle.records.specs.declared.BookCheck.TheVariants as book
 use Rattle.records.proofs.Accepted.{accepted, accepted-within, accepted-positive}
 use Rattle.closure.specs.Void.{void_of}
 use Rattle.outcomes.specs.Fresh.{fresh_call}
-use Rattle.outcomes.specs.declared.Outcome.{Outcome}
-use Rattle.outcomes.specs.declared.Outcome.TheVariants.{Accepted, Refused}
 use Rattle.grids.specs.declared.rounds.Grids.{Grids}
 use Rattle.grids.specs.Grid.{bit_at}
 use Rattle.grids.specs.Loaded.{Loadable}
@@ -31,18 +31,18 @@ module _ (s : List ℕ) (g : Grids) where
   gridded : (o : Outcome) → grid_outcome s ≡ o → ((f : Fact) → Within 64 f → holds g f ≡ bit_for s o f) → Gridded s o g
   gridded o p h = record { outcome-is = sym p; bits = λ f w. h f w ∙ ap (λ (x : Outcome). bit_for s x f) (sym p) }
 
-  pub refused-grid : {r : Refusal} {i : ℕ} → fresh_call s [] ≡ Refused r i → Blank g → Gridded s (Refused r i) g
+  pub refused-grid : {r : Refusal} {i : ℕ} → fresh_call s [] ≡ refused_at r i → Blank g → Gridded s (refused_at r i) g
   unfolding grid_outcome by_size bit_for
-  refused-grid {r} {i} e b = gridded (Refused r i) (ap by_size e) b
+  refused-grid {r} {i} e b = gridded (refused_at r i) (ap by_size e) b
 
-  module _ {n v h : ℕ} (e : fresh_call s [] ≡ Accepted n v h) where
-    pub large-grid : 64 < n → Blank g → Gridded s (Refused TooManyPieces 0) g
+  module _ {n v h : ℕ} (e : fresh_call s [] ≡ accepted_with n v h) where
+    pub large-grid : 64 < n → Blank g → Gridded s (refused_at TooManyPieces 0) g
     unfolding grid_outcome by_size bit_for
-    large-grid l b = gridded (Refused TooManyPieces 0) (ap by_size e ∙ ap (λ (t : Bool). sized t (Accepted n v h)) (lt-ltb 64 n l)) b
+    large-grid l b = gridded (refused_at TooManyPieces 0) (ap by_size e ∙ ap (λ (t : Bool). sized t (accepted_with n v h)) (lt-ltb 64 n l)) b
 
-    pub small-grid : n ≤ 64 → Answers (marked s) n (facts s) g → Gridded s (Accepted n v h) g
+    pub small-grid : n ≤ 64 → Answers (marked s) n (facts s) g → Gridded s (accepted_with n v h) g
     unfolding grid_outcome by_size bit_for
-    small-grid l a = gridded (Accepted n v h) (ap by_size e ∙ ap (λ (t : Bool). sized t (Accepted n v h)) (le-ltb 64 n l)) a.bits
+    small-grid l a = gridded (accepted_with n v h) (ap by_size e ∙ ap (λ (t : Bool). sized t (accepted_with n v h)) (le-ltb 64 n l)) a.bits
 
 -- grids of words 0
 pub no_bits : (g : Grids) → g.part ≡ replicate 64 0 → g.apart ≡ replicate 64 0 → g.meets ≡ replicate 64 0 → g.notpart ≡ replicate 64 0 → Blank g
@@ -58,7 +58,7 @@ no_bits g p a m n = go
     go (MEETS x y) w = none g.meets x y w.0 m
     go (NOTPART x y) w = none g.notpart x y w.0 n
 
-pub loadable : (s : List ℕ) (n : ℕ) → book_check s ≡ book.Accepted n → n ≤ 64 → Loadable n s
+pub loadable : (s : List ℕ) (n : ℕ) → book_check s ≡ Ok n → n ≤ 64 → Loadable n s
 loadable s n e l =
     let A = accepted s n e in
     record { some = accepted-positive A; few = l; whole = A.whole; within = accepted-within A }

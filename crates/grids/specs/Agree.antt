@@ -1,11 +1,11 @@
 -- The grids and the question call. Assumes nothing.
+use Rattle.outcomes.specs.Accepted.{Outcome}
 use Rattle.std.specs.Prelude.{ℕ, ◌<◌, ◌≡◌, List, eqb, get_or}
 use Rattle.records.specs.Record.{record_at, records}
 use Rattle.outcomes.specs.Lent.{Lent}
 use Rattle.records.specs.Claimed.{claimed}
 use Rattle.outcomes.specs.Call.{outcome, left}
 use Rattle.outcomes.specs.Outcome.{number}
-use Rattle.outcomes.specs.declared.Outcome.{Outcome}
 use Rattle.grids.specs.declared.rounds.Grids.{Grids}
 use Rattle.grids.specs.Closed.{holds}
 use Rattle.grids.specs.Gridded.{Gridded}

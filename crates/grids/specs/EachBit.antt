@@ -1,11 +1,11 @@
 -- The grids and the question call, bit by bit. Assumes nothing.
+use Rattle.outcomes.specs.Accepted.{Outcome}
 use Rattle.std.specs.Prelude.{ℕ, ◌≡◌, false, List, [], ◌∷◌, eqb, get_or}
 use Rattle.rules.specs.Fact.{Fact, kind, left, right, Within}
 use Rattle.records.specs.Pieces.{piece_count}
 use Rattle.outcomes.specs.Lent.{Lent, short_lent}
 use Rattle.outcomes.specs.Call as call
 use Rattle.outcomes.specs.Outcome.{number}
-use Rattle.outcomes.specs.declared.Outcome.{Outcome}
 use Rattle.grids.specs.declared.rounds.Grids.{Grids}
 use Rattle.grids.specs.Closed.{holds}
 use Rattle.grids.specs.Gridded.{Gridded}

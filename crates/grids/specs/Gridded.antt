@@ -1,32 +1,32 @@
 -- What the grid call comes to, and the bits of its four grids. Assumes nothing.
-use Rattle.std.specs.Prelude.{ℕ, ◌≡◌, Bool, true, false, List, [], ltb}
+use Rattle.records.specs.Refused.{refused_at}
+use Rattle.outcomes.specs.Accepted.{Outcome, accepted_with}
+use Rattle.std.specs.Prelude.{ℕ, ◌≡◌, Bool, true, false, List, [], ltb, Err, Ok}
 use Rattle.rules.specs.Fact.{Fact, Within}
 use Rattle.records.specs.Facts.{facts}
 use Rattle.records.specs.Marked.{marked}
 use Rattle.records.specs.declared.Refusal.TheVariants.{TooManyPieces}
 use Rattle.outcomes.specs.Fresh.{fresh_call}
-use Rattle.outcomes.specs.declared.Outcome.{Outcome}
-use Rattle.outcomes.specs.declared.Outcome.TheVariants.{Accepted, Refused}
 use Rattle.grids.specs.declared.rounds.Grids.{Grids}
 use Rattle.grids.specs.Closed.{holds}
 use Rattle.grids.specs.Answers.{claimed}
 
 -- 16, behind the rows of the call that writes the index alone
 abbrev pub sized : Bool → Outcome → Outcome
-sized true o = Refused TooManyPieces 0
+sized true o = refused_at TooManyPieces 0
 sized false o = o
 
 unfoldable pub by_size : Outcome → Outcome
-by_size (Refused r i) = Refused r i
-by_size (Accepted n nodes shadows) = sized (ltb 64 n) (Accepted n nodes shadows)
+by_size (Err r) = Err r
+by_size (Ok n) = sized (ltb 64 n.pieces) (accepted_with n.pieces n.nodes n.shadows)
 
 unfoldable pub grid_outcome : List ℕ → Outcome
 grid_outcome s = by_size (fresh_call s [])
 
 -- whether the bit of a claim is set: where it is about pieces of the book and follows from all facts, and nowhere for a refusal
 unfoldable pub bit_for : List ℕ → Outcome → Fact → Bool
-bit_for s (Accepted n nodes shadows) f = claimed (marked s) n (facts s) f
-bit_for s (Refused r i) f = false
+bit_for s (Ok n) f = claimed (marked s) n.pieces (facts s) f
+bit_for s (Err r) f = false
 
 -- no bit is set
 abbrev pub Blank : Grids → Type 0

@@ -1,4 +1,6 @@
 -- Lent buffers and their fronts. Assumes nothing.
+use Rattle.std.specs.Prelude.{Err, Ok}
+use Rattle.outcomes.specs.Accepted.{Outcome}
 use Prim.Native.Nat.{ℕ, ◌≤◌}
 use mathlib.Core.Path.{◌≡◌, sym, ap, ◌∙◌}
 use mathlib.Core.Bool.{Bool, true, false}
@@ -16,8 +18,6 @@ use Rattle.outcomes.specs.Lent.{Lent, lent}
 use Rattle.outcomes.specs.Fitting.{Fits}
 use Rattle.records.specs.Claimed.{answers_to}
 use Rattle.outcomes.specs.Call.{indexed, cleared, left}
-use Rattle.outcomes.specs.declared.Outcome.{Outcome}
-use Rattle.outcomes.specs.declared.Outcome.TheVariants.{Accepted, Refused}
 
 -- a buffer that is all front
 pub front-whole : (xs l : List ℕ) → length xs ≡ length l → front xs l ≡ xs
@@ -67,20 +67,20 @@ same-lent p q r s t = rw (p, q, r, s, t)
 
 -- what acceptance writes fits
 abbrev pub Fitted : List ℕ → Outcome → Type 0
-Fitted s (Accepted n nodes shadows) = Fits n s nodes
-Fitted s (Refused r i) = Unit {0}
+Fitted s (Ok n) = Fits n.pieces s n.nodes
+Fitted s (Err r) = Unit {0}
 
 -- what is left in the parts, put back, is what is left in the buffers
 pub left_back : (s cs : List ℕ) (l : Lent) (r : Outcome) → Long cs l → Fitted s r → put_back (records cs) l (left s cs (cut (records cs) l) r) ≡ left s cs l r
 unfolding left indexed cleared
-left_back s cs l (Accepted n nodes shadows) L F =
+left_back s cs l (Ok n) L F =
     same-lent
     (front-part 2560 _ l.parens L.parens (packed-long 2560 _))
     (front-part 1280 _ l.marks L.marks (packed-long 1280 _))
     (front-part 8192 _ l.shadows L.shadows (padded-length 0 8192 _ F.shadows-fit))
     (front-part 2048 _ l.places L.places (padded-length 0 2048 _ F.places-fit))
-    (front-part (records cs) _ l.answers L.answers (answers-long s n cs))
-left_back s cs l (Refused x i) L F = pick (eqb (refusal_number x) 14)
+    (front-part (records cs) _ l.answers L.answers (answers-long s n.pieces cs))
+left_back s cs l (Err x) L F = pick (eqb (refusal_number x.refusal) 14)
   where
     pick :
         (b : Bool) → put_back (records cs) l (elim b [ true ↦ cleared (cut (records cs) l) | false ↦ cut (records cs) l ]) ≡ elim b [ true ↦ cleared l | false ↦ l ]

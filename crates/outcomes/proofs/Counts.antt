@@ -1,4 +1,5 @@
 -- What row 14 and the answers say of a book with a count of at least its pieces. Assumes nothing.
+use Rattle.std.specs.Prelude.{Ok}
 use Prim.Native.Nat.{ℕ, ◌<◌}
 use mathlib.Core.Path.{◌≡◌, refl}
 use mathlib.Core.Logic.{◌↔◌}
@@ -16,7 +17,6 @@ use Rattle.records.specs.Record.{record_at, records}
 use Rattle.records.specs.Facts.{entries, facts}
 use Rattle.records.specs.Marked.{marked}
 use Rattle.records.specs.Check.{claims_check}
-use Rattle.records.specs.declared.ClaimsCheck.TheVariants as claims
 use Rattle.records.proofs.Keeps.{picked-among}
 use Rattle.records.proofs.Accepted.{accepted-claims}
 use Rattle.contradiction.proofs.SettlingLaws.{free-model, clashed-no-model}
@@ -40,7 +40,7 @@ module _ (s : List ℕ) {n : ℕ} (C : Counted s n) where
 
   -- ---- claims
 
-  module _ (cs : List ℕ) (fit : claims_check n cs ≡ claims.Accepted) (i : ℕ) (h : i < records cs) where
+  module _ (cs : List ℕ) (fit : claims_check n cs ≡ Ok tt) (i : ℕ) (h : i < records cs) where
     pub claim-within : Within n (claimed cs i)
     unfolding claimed
     claim-within = (accepted-claims n cs fit).within i h

@@ -1,4 +1,6 @@
 -- A determined call keeps demands 2 and 3, names the place of a contradiction, and fits. Assumes nothing.
+use Rattle.std.specs.Prelude.{Err, Ok}
+use Rattle.outcomes.specs.Accepted.{Outcome}
 use Prim.Native.Nat.{ℕ, ◌-◌, ◌<◌}
 use mathlib.Core.Path.{◌≡◌, subst, ◌∙◌}
 use mathlib.Core.Bool.{true, false}
@@ -35,8 +37,6 @@ use Rattle.outcomes.specs.Call.{pairs_of, outcome, Passed, indexed, left, Determ
 use Rattle.outcomes.specs.Demands.{Entailed, Demand2, Demand3, Contradicted}
 use Rattle.outcomes.specs.Agree.{Agree, SheetsAgree}
 use Rattle.outcomes.specs.Fitting.{Fits, Fitting}
-use Rattle.outcomes.specs.declared.Outcome.{Outcome}
-use Rattle.outcomes.specs.declared.Outcome.TheVariants.{Accepted, Refused}
 use Rattle.outcomes.proofs.Outcomes.{Told, told, passed-outcome}
 use Rattle.outcomes.proofs.Buffers.{Fitted}
 use Rattle.claims.proofs.Fewer.{fewer-follows, fewer-denied}
@@ -88,42 +88,42 @@ module _ (s cs : List ℕ) (l : Lent) (n : ℕ) (p : Passed s cs l n) where
 
 module _ (s cs : List ℕ) (l : Lent) where
   pub fitted : (r : Outcome) → Told s cs l r → Fitted s r
-  fitted (Accepted n nodes shadows) t = fits s cs l n t.0 nodes t.2
-  fitted (Refused r i) t = tt
+  fitted (Ok n) t = fits s cs l n.pieces t.0 n.nodes t.2
+  fitted (Err r) t = tt
 
   -- ---- by the outcome
 
   two : (r : Outcome) → Told s cs l r → Demand2 s cs (left s cs l r).answers (of.number r)
   unfolding left
-  two (Accepted n nodes shadows) t q i h =
-      let ok = free-consistent s (settles s cs l n t.0).bounded (marked s) (unmarked s cs l n t.0) (free s cs l n t.0 t.1) in
-      rw (← counted s cs l n t.0, answer_at s cs l n t.0 i h) (derived s (own-count t.0.sound) cs t.0.fit i h ok)
-  two (Refused r i) t q j h = absurd (refused-positive r q)
+  two (Ok n) t q i h =
+      let ok = free-consistent s (settles s cs l n.pieces t.0).bounded (marked s) (unmarked s cs l n.pieces t.0) (free s cs l n.pieces t.0 t.1) in
+      rw (← counted s cs l n.pieces t.0, answer_at s cs l n.pieces t.0 i h) (derived s (own-count t.0.sound) cs t.0.fit i h ok)
+  two (Err r) t q j h = absurd (refused-positive r.refusal q)
 
   three : (r : Outcome) → Told s cs l r → of.number r ≡ 0 → (i : ℕ) → i < records cs → Entailed (marked s) (piece_count s) (picked_facts s cs i) (claimed cs i) (get_or (left s cs l r).answers i 0)
   unfolding left
-  three (Accepted n nodes shadows) t q i h =
-      let ok = free-consistent s (settles s cs l n t.0).bounded (marked s) (unmarked s cs l n t.0) (free s cs l n t.0 t.1) in
-      rw (← counted s cs l n t.0, answer_at s cs l n t.0 i h) (entailed s (own-count t.0.sound) cs t.0.fit i h ok)
-  three (Refused r i) t q j h = absurd (refused-positive r q)
+  three (Ok n) t q i h =
+      let ok = free-consistent s (settles s cs l n.pieces t.0).bounded (marked s) (unmarked s cs l n.pieces t.0) (free s cs l n.pieces t.0 t.1) in
+      rw (← counted s cs l n.pieces t.0, answer_at s cs l n.pieces t.0 i h) (entailed s (own-count t.0.sound) cs t.0.fit i h ok)
+  three (Err r) t q j h = absurd (refused-positive r.refusal q)
 
   modelled : (r : Outcome) → Told s cs l r → of.number r ≡ 0 → (M : Model (marked s) (piece_count s)) × keeps_all M (facts s)
-  modelled (Accepted n nodes shadows) t q =
-      subst (λ (m : ℕ). (M : Model (marked s) m) × keeps_all M (facts s)) (counted s cs l n t.0) (free-model s (settles s cs l n t.0).bounded (marked s) (unmarked s cs l n t.0) (free s cs l n t.0 t.1))
-  modelled (Refused r i) t q = absurd (refused-positive r q)
+  modelled (Ok n) t q =
+      subst (λ (m : ℕ). (M : Model (marked s) m) × keeps_all M (facts s)) (counted s cs l n.pieces t.0) (free-model s (settles s cs l n.pieces t.0).bounded (marked s) (unmarked s cs l n.pieces t.0) (free s cs l n.pieces t.0 t.1))
+  modelled (Err r) t q = absurd (refused-positive r.refusal q)
 
   placed : (r : Outcome) → Told s cs l r → Contradicted s (of.number r) (of.place r)
-  placed (Accepted n nodes shadows) t q = absurd (omega arith)
-  placed (Refused r i) t q = pick (t q)
+  placed (Ok n) t q = absurd (omega arith)
+  placed (Err r) t q = pick (t q)
     where
       pick :
-          (n : ℕ) × Passed s cs l n × (leb (shortest_clash (marked s) n (entries s)) (records s) ≡ true) × (i ≡ shortest_clash (marked s) n (entries s) - 1)
-          → Contradiction (marked s) (piece_count s) s i
+          (n : ℕ) × Passed s cs l n × (leb (shortest_clash (marked s) n (entries s)) (records s) ≡ true) × (r.place ≡ shortest_clash (marked s) n (entries s) - 1)
+          → Contradiction (marked s) (piece_count s) s r.place
       pick (n, p, e, k) = rw (← counted s cs l n p, k) (clashed-first s (settles s cs l n p).bounded (marked s) (unmarked s cs l n p) (counted-clashed s (own-count p.sound) e))
 
   sized : (r : Outcome) → Told s cs l r → Fitting s (of.number r) (of.node_count r)
-  sized (Accepted n nodes shadows) t q = rw (← counted s cs l n t.0) (fits s cs l n t.0 nodes t.2)
-  sized (Refused r i) t q = absurd (refused-positive r q)
+  sized (Ok n) t q = rw (← counted s cs l n.pieces t.0) (fits s cs l n.pieces t.0 n.nodes t.2)
+  sized (Err r) t q = absurd (refused-positive r.refusal q)
 
   -- all of it follows from the equations for the outcome and the answers
   module _ {r : Outcome} {l' : Lent} (d : Determined s cs l r l') where
@@ -152,7 +152,7 @@ pub sheets-agree : SheetsAgree
 sheets-agree s cs l q f c = pick (outcome s cs l) (told s cs l) q
   where
     pick : (r : Outcome) → Told s cs l r → of.number r ≡ 0 → Agree (piece_count s) s f
-    pick (Accepted n nodes shadows) t z =
-        let e = counted s cs l n t.0 in
-        rw (← e) (agree s cs l n t.0 (free-consistent s (settles s cs l n t.0).bounded (marked s) (unmarked s cs l n t.0) (free s cs l n t.0 t.1)) f (rw (← e) at c))
-    pick (Refused r i) t z = absurd (refused-positive r z)
+    pick (Ok n) t z =
+        let e = counted s cs l n.pieces t.0 in
+        rw (← e) (agree s cs l n.pieces t.0 (free-consistent s (settles s cs l n.pieces t.0).bounded (marked s) (unmarked s cs l n.pieces t.0) (free s cs l n.pieces t.0 t.1)) f (rw (← e) at c))
+    pick (Err r) t z = absurd (refused-positive r.refusal z)

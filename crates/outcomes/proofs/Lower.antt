@@ -1,4 +1,5 @@
 -- Where containers have lower numbers, the index is that of the pieces. Assumes nothing.
+use Rattle.std.specs.Prelude.{Ok}
 use Prim.Native.Nat.{ℕ, ◌<◌}
 use mathlib.Core.Path.{◌≡◌, sym, ap, ◌∙◌}
 use mathlib.Core.Bool.{true}
@@ -7,7 +8,6 @@ use native.Mathlib.Omega.{arith}
 use Rattle.rules.specs.Fact.{PART, kind, left, right}
 use Rattle.records.specs.Record.{record_at, records}
 use Rattle.records.specs.Check.{book_check}
-use Rattle.records.specs.declared.BookCheck.TheVariants as book
 use Rattle.records.specs.Facts.{facts}
 use Rattle.records.proofs.Runs.{fact-from}
 use Rattle.records.proofs.Accepted.{says-kind, says-left, says-right}
@@ -18,7 +18,7 @@ use Rattle.contradiction.proofs.SettlingLaws.{settleable}
 use Rattle.outcomes.specs.Call.{pairs_of, indexed}
 use Rattle.outcomes.specs.Lower.{edges, by_pieces, Kept, LowerIndex}
 
-module _ (s : List ℕ) (n : ℕ) (sound : book_check s ≡ book.Accepted n) (lower : (i : ℕ) → i < records s → (record_at s i).kind ≡ 1 → (record_at s i).b < (record_at s i).a) where
+module _ (s : List ℕ) (n : ℕ) (sound : book_check s ≡ Ok n) (lower : (i : ℕ) → i < records s → (record_at s i).kind ≡ 1 → (record_at s i).b < (record_at s i).a) where
   low : (p c : ℕ) → pairs_of s p c ≡ true → c < p
   low p c e =
       let o = fact-from s (PART p c) (part-stored (facts s) p c e) in

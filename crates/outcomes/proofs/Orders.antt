@@ -1,4 +1,7 @@
 -- The same records in another order: every call comes to the same. Assumes nothing.
+use Rattle.std.specs.Prelude.{Err, Ok}
+use Rattle.records.specs.Refused.{ClaimsCheck, refused_at}
+use Rattle.outcomes.specs.Accepted.{Outcome, accepted_with}
 use Prim.Native.Nat.{ℕ, ◌-◌, ◌<◌}
 use mathlib.Core.Path.{◌≡◌, refl, sym, ap, ◌∙◌, fun_ext}
 use mathlib.Core.Logic.{◌⊎◌, inl, inr}
@@ -20,9 +23,6 @@ use Rattle.records.specs.Reordered.{Reordered}
 use Rattle.records.specs.Facts.{entries, facts}
 use Rattle.records.specs.Check.{book_check, claims_check}
 use Rattle.records.specs.declared.Refusal.TheVariants.{Contradiction}
-use Rattle.records.specs.declared.BookCheck.TheVariants as book
-use Rattle.records.specs.declared.ClaimsCheck.{ClaimsCheck}
-use Rattle.records.specs.declared.ClaimsCheck.TheVariants as claims
 use Rattle.records.proofs.Accepted.{accepted-claims}
 use Rattle.records.proofs.Marks.{marked-moved}
 use Rattle.records.proofs.Keeps.{picked-among}
@@ -37,26 +37,24 @@ use Rattle.outcomes.specs.Outcome.{number}
 use Rattle.records.specs.Claimed.{claimed, picked_facts, answers_to}
 use Rattle.outcomes.specs.Call.{pairs_of, by_runs, by_claims, by_book, outcome, indexed, left}
 use Rattle.outcomes.specs.Order.{OrderFree}
-use Rattle.outcomes.specs.declared.Outcome.{Outcome}
-use Rattle.outcomes.specs.declared.Outcome.TheVariants.{Accepted, Refused}
 
 -- row 14 looks at the facts alone: only its place turns on their order
-module _ (s : List ℕ) (n : ℕ) (sound : book_check s ≡ book.Accepted n) where
-  runs-clash : clash (marked s) n (facts s) ≡ true → by_runs s n ≡ Refused Contradiction (shortest_clash (marked s) n (entries s) - 1)
+module _ (s : List ℕ) (n : ℕ) (sound : book_check s ≡ Ok n) where
+  runs-clash : clash (marked s) n (facts s) ≡ true → by_runs s n ≡ refused_at Contradiction (shortest_clash (marked s) n (entries s) - 1)
   unfolding by_runs
   runs-clash e = pick (dec_lt (records s) (shortest_clash (marked s) n (entries s)))
     where
-      pick : Dec (records s < shortest_clash (marked s) n (entries s)) → by_runs s n ≡ Refused Contradiction (shortest_clash (marked s) n (entries s) - 1)
+      pick : Dec (records s < shortest_clash (marked s) n (entries s)) → by_runs s n ≡ refused_at Contradiction (shortest_clash (marked s) n (entries s) - 1)
       pick (yes h) = absurd (false≢true (beyond-free s (settleable s n sound).bounded (marked s) (whole-unmarked s n sound) h ∙ e))
       pick (no h) = rw (le-leb (shortest_clash (marked s) n (entries s)) (records s) (omega arith), by_runs)
 
-  runs-free : clash (marked s) n (facts s) ≡ false → by_runs s n ≡ Accepted n (length (book_visits n (pairs_of s))) (length (on.shadows (book_visits n (pairs_of s))))
+  runs-free : clash (marked s) n (facts s) ≡ false → by_runs s n ≡ accepted_with n (length (book_visits n (pairs_of s))) (length (on.shadows (book_visits n (pairs_of s))))
   unfolding by_runs
   runs-free e = rw (lt-leb (shortest_clash (marked s) n (entries s)) (records s) (free-beyond s (settleable s n sound).bounded (marked s) (whole-unmarked s n sound) (sym e)), by_runs)
 
 -- the facts of t are those of s, and so are those that a claim picks, and the marks
-module _ (s t : List ℕ) (R : Reordered s t) (n : ℕ) (sound : book_check s ≡ book.Accepted n) where
-  sound' : book_check t ≡ book.Accepted n
+module _ (s t : List ℕ) (R : Reordered s t) (n : ℕ) (sound : book_check s ≡ Ok n) where
+  sound' : book_check t ≡ Ok n
   sound' = reordered-accepted s t R n sound
 
   same-marks : marked t ≡ marked s
@@ -75,7 +73,7 @@ module _ (s t : List ℕ) (R : Reordered s t) (n : ℕ) (sound : book_check s �
       (λ e. stored-part (facts t) p c (facts-found s t (found-moved s t R) _ (part-stored (facts s) p c e)))
       (λ e. stored-part (facts s) p c (facts-found t s (found_back s t R) _ (part-stored (facts t) p c e)))))
 
-  module _ (cs : List ℕ) (fit : claims_check n cs ≡ claims.Accepted) where
+  module _ (cs : List ℕ) (fit : claims_check n cs ≡ Ok tt) where
     same_answer : (i : ℕ) → i < records cs → verdict (marked s) n (picked_facts s cs i) (claimed cs i) ≡ verdict (marked t) n (picked_facts t cs i) (claimed cs i)
     unfolding claimed
     same_answer i l =
@@ -98,7 +96,7 @@ module _ (s t : List ℕ) (R : Reordered s t) (n : ℕ) (sound : book_check s �
     abbrev Same : Outcome → Outcome → Type 0
     Same x y = ((x ≡ y) ⊎ ((number x ≡ 14) × (number y ≡ 14))) × (left s cs l x ≡ left t cs l y)
 
-    same_runs : claims_check n cs ≡ claims.Accepted → Same (by_runs s n) (by_runs t n)
+    same_runs : claims_check n cs ≡ Ok tt → Same (by_runs s n) (by_runs t n)
     unfolding left
     same_runs fit = pick (known (clash (marked s) n (facts s)))
       where
@@ -108,8 +106,8 @@ module _ (s t : List ℕ) (R : Reordered s t) (n : ℕ) (sound : book_check s �
 
     same-claims : (c : ClaimsCheck) → claims_check n cs ≡ c → Same (by_claims s n c) (by_claims t n c)
     unfolding by_claims left
-    same-claims claims.Accepted e = same_runs e
-    same-claims (claims.Refused r i) e = (inl refl, refl)
+    same-claims (Ok _) e = same_runs e
+    same-claims (Err r) e = (inl refl, refl)
 
     same-calls : Same (outcome s cs l) (outcome t cs l)
     unfolding outcome by_book left

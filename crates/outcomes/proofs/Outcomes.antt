@@ -1,4 +1,7 @@
 -- What an outcome tells of the rows. Assumes nothing.
+use Rattle.std.specs.Prelude.{Err, None, Ok, Some}
+use Rattle.records.specs.Refused.{BookCheck, Claim, ClaimsCheck, Finding, refused_at}
+use Rattle.outcomes.specs.Accepted.{Outcome}
 use Prim.Native.Nat.{ℕ, zero, suc, ◌-◌}
 use mathlib.Core.Path.{◌≡◌, refl}
 use mathlib.Core.Bool.{Bool, true, false}
@@ -18,20 +21,10 @@ use Rattle.groups.specs.Index.{book_visits}
 use Rattle.records.specs.declared.Record.{Record}
 use Rattle.records.specs.declared.Refusal.{Refusal}
 use Rattle.records.specs.declared.Refusal.TheVariants.{BookLength, TooManyRecords, Kind, Origin, PieceNumber, VoidForm, Order, Repeat, ClaimsLength, TooManyClaims, ClaimFormat, ClaimPiece}
-use Rattle.records.specs.declared.Finding.{Finding}
 use Rattle.records.specs.declared.Edition.{Edition}
 use Rattle.records.specs.declared.Edition.TheVariants.{Current}
-use Rattle.records.specs.declared.Finding.TheVariants.{Fit, Unfit}
-use Rattle.records.specs.declared.Claim.{Claim}
-use Rattle.records.specs.declared.Claim.TheVariants.{Sound, Unsound}
-use Rattle.records.specs.declared.BookCheck.{BookCheck}
-use Rattle.records.specs.declared.BookCheck.TheVariants as book
-use Rattle.records.specs.declared.ClaimsCheck.{ClaimsCheck}
-use Rattle.records.specs.declared.ClaimsCheck.TheVariants as claims
 use Rattle.outcomes.specs.Lent.{Lent, short_lent}
 use Rattle.outcomes.specs.Call.{pairs_of, by_runs, by_claims, by_book, outcome, Passed}
-use Rattle.outcomes.specs.declared.Outcome.{Outcome}
-use Rattle.outcomes.specs.declared.Outcome.TheVariants.{Accepted, Refused}
 
 -- ---- no row but the last gives number 14
 
@@ -39,18 +32,18 @@ abbrev pub Other : Refusal → Type 0
 Other r = refusal_number r ≡ 14 → ⊥
 
 abbrev Others : Finding → Type 0
-Others f = (r : Refusal) → f ≡ Unfit r → Other r
+Others f = (r : Refusal) → f ≡ Err r → Other r
 
-fit-other : Others Fit
+fit-other : Others (Ok tt)
 fit-other r e = let z : ◌≡◌ {A = ℕ} 0 1 = cc in absurd (omega arith)
 
 row_other : (b : Bool) (x : Refusal) (f : Finding) → Other x → Others f → Others (row b x f)
 row_other true x f o h r e = let q : x ≡ r = cc in rw q at o
 row_other false x f o h r e = h r e
 
-judge-other : (f g : Finding) → Others f → Others g → Others (judge Unfit g f)
-judge-other Fit g h k = k
-judge-other (Unfit x) g h k = h
+judge-other : (f g : Finding) → Others f → Others g → Others (judge Err g f)
+judge-other (Ok _) g h k = k
+judge-other (Err x) g h k = h
 
 form-other : (e : Edition) (r : Record) → Others (form_finding e r)
 unfolding form_finding
@@ -61,14 +54,14 @@ unfolding record_finding
 record-other e s i = judge-other (form_finding e (record_at s i)) _ (form-other e (record_at s i)) (row_other (repeat_row s i) Repeat _ (omega arith) fit-other)
 
 claim-other : (n : ℕ) (c : Claim) → Others (claim_finding n c)
-claim-other n Unsound = row_other true ClaimFormat Fit (omega arith) fit-other
-claim-other n (Sound r) = row_other (beyond_row n r) ClaimPiece _ (omega arith) fit-other
+claim-other n None = row_other true ClaimFormat (Ok tt) (omega arith) fit-other
+claim-other n (Some r) = row_other (beyond_row n r) ClaimPiece _ (omega arith) fit-other
 
 -- so nothing that a scan gives has it
 module _ {A : Type 0} (Q : A → Type 0) (refused : Refusal → ℕ → A) (q : (r : Refusal) (i : ℕ) → Other r → Q (refused r i)) where
   judged : (i : ℕ) (rest : A) → Q rest → (f : Finding) → Others f → Q (judge (λ r. refused r i) rest f)
-  judged i rest p Fit h = p
-  judged i rest p (Unfit r) h = q r i (h r refl)
+  judged i rest p (Ok _) h = p
+  judged i rest p (Err r) h = q r i (h r refl)
 
   scanned : (accepted : A) → Q accepted → (find : ℕ → Finding) → ((i : ℕ) → Others (find i)) → (i n : ℕ) → Q (scan refused accepted find i n)
   unfolding scan
@@ -76,23 +69,23 @@ module _ {A : Type 0} (Q : A → Type 0) (refused : Refusal → ℕ → A) (q : 
   scanned accepted p find h i (suc n) = judged i _ (scanned accepted p find h (suc i) n) (find i) (h i)
 
 abbrev pub BookOther : BookCheck → Type 0
-BookOther (book.Accepted n) = Unit {0}
-BookOther (book.Refused r i) = Other r
+BookOther (Ok n) = Unit {0}
+BookOther (Err r) = Other r.refusal
 
 pub book-other : (s : List ℕ) → BookOther (book_check s)
 unfolding check_by
 book-other s =
-    judged BookOther book.Refused (λ r i o. o) 0 _ (scanned BookOther book.Refused (λ r i o. o) _ tt (record_finding Current s) (record-other Current s) 0 (records s)) _
+    judged BookOther refused_at (λ r i o. o) 0 _ (scanned BookOther refused_at (λ r i o. o) _ tt (record_finding Current s) (record-other Current s) 0 (records s)) _
     (row_other (ragged s) BookLength _ (omega arith) (row_other (more_than 8192 s) TooManyRecords _ (omega arith) fit-other))
 
 abbrev pub ClaimsOther : ClaimsCheck → Type 0
-ClaimsOther claims.Accepted = Unit {0}
-ClaimsOther (claims.Refused r i) = Other r
+ClaimsOther (Ok _) = Unit {0}
+ClaimsOther (Err r) = Other r.refusal
 
 pub claims-other : (n : ℕ) (cs : List ℕ) → ClaimsOther (claims_check n cs)
 unfolding claims_check
 claims-other n cs =
-    judged ClaimsOther claims.Refused (λ r i o. o) 0 _ (scanned ClaimsOther claims.Refused (λ r i o. o) _ tt _ (λ i. claim-other n (claim_at cs i)) 0 (records cs)) _
+    judged ClaimsOther refused_at (λ r i o. o) 0 _ (scanned ClaimsOther refused_at (λ r i o. o) _ tt _ (λ i. claim-other n (claim_at cs i)) 0 (records cs)) _
     (row_other (ragged cs) ClaimsLength _ (omega arith) (row_other (more_than 4096 cs) TooManyClaims _ (omega arith) fit-other))
 
 -- ---- from an outcome to the rows
@@ -100,9 +93,9 @@ claims-other n cs =
 module _ (s cs : List ℕ) (l : Lent) where
   -- what the outcome says of the rows
   abbrev pub Told : Outcome → Type 0
-  Told (Accepted n nodes shadows) = Passed s cs l n × (leb (shortest_clash (marked s) n (entries s)) (records s) ≡ false) × (nodes ≡ length (book_visits n (pairs_of s)))
-  Told (Refused r i) =
-      refusal_number r ≡ 14 → (n : ℕ) × Passed s cs l n × (leb (shortest_clash (marked s) n (entries s)) (records s) ≡ true) × (i ≡ shortest_clash (marked s) n (entries s) - 1)
+  Told (Ok n) = Passed s cs l n.pieces × (leb (shortest_clash (marked s) n.pieces (entries s)) (records s) ≡ false) × (n.nodes ≡ length (book_visits n.pieces (pairs_of s)))
+  Told (Err r) =
+      refusal_number r.refusal ≡ 14 → (n : ℕ) × Passed s cs l n × (leb (shortest_clash (marked s) n (entries s)) (records s) ≡ true) × (r.place ≡ shortest_clash (marked s) n (entries s) - 1)
 
   pub runs-told : (n : ℕ) → Passed s cs l n → Told (by_runs s n)
   unfolding by_runs
@@ -112,15 +105,15 @@ module _ (s cs : List ℕ) (l : Lent) where
       pick (is_true e) = rw (e, by_runs) (λ q. (n, p, e, refl))
       pick (is_false e) = rw (e, by_runs) (p, e, refl)
 
-  claims-told : (n : ℕ) → short_lent cs l ≡ false → book_check s ≡ book.Accepted n → (c : ClaimsCheck) → claims_check n cs ≡ c → Told (by_claims s n c)
+  claims-told : (n : ℕ) → short_lent cs l ≡ false → book_check s ≡ Ok n → (c : ClaimsCheck) → claims_check n cs ≡ c → Told (by_claims s n c)
   unfolding by_claims
-  claims-told n a b claims.Accepted e = runs-told n (record { lent = a; sound = b; fit = e })
-  claims-told n a b (claims.Refused r i) e = λ q. absurd ((rw e at (claims-other n cs)) q)
+  claims-told n a b (Ok _) e = runs-told n (record { lent = a; sound = b; fit = e })
+  claims-told n a b (Err r) e = λ q. absurd ((rw e at (claims-other n cs)) q)
 
   book-told : short_lent cs l ≡ false → (b : BookCheck) → book_check s ≡ b → Told (by_book s cs b)
   unfolding by_book
-  book-told a (book.Accepted n) e = claims-told n a e (claims_check n cs) refl
-  book-told a (book.Refused r i) e = λ q. absurd ((rw e at (book-other s)) q)
+  book-told a (Ok n) e = claims-told n a e (claims_check n cs) refl
+  book-told a (Err r) e = λ q. absurd ((rw e at (book-other s)) q)
 
   pub told : Told (outcome s cs l)
   unfolding outcome

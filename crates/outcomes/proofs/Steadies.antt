@@ -1,5 +1,8 @@
 -- Records that are added alter no FOLLOWS and no DENIED, but for marks; an order that moves the place of 14; and a mark that turns answers. Assumes
 -- nothing.
+use Rattle.std.specs.Prelude.{Err, Ok}
+use Rattle.records.specs.Refused.{refused_at}
+use Rattle.outcomes.specs.Accepted.{Outcome, accepted_with}
 use Prim.Native.Nat.{ℕ, zero, suc, ◌-◌, ◌*◌, ◌<◌}
 use mathlib.Core.Path.{◌≡◌, refl, ap, ◌∙◌, fun_ext}
 use mathlib.Core.List.{List, [], ◌∷◌, ◌++◌}
@@ -34,8 +37,6 @@ use Rattle.records.specs.Check.{form_finding, record_finding, check_by, book_che
 use Rattle.records.specs.Facts.{entry_of, entries}
 use Rattle.records.specs.Kept.{bytes_at, picked}
 use Rattle.records.specs.declared.Refusal.TheVariants.{Contradiction}
-use Rattle.records.specs.declared.BookCheck.TheVariants as book
-use Rattle.records.specs.declared.ClaimsCheck.TheVariants as claims
 use Rattle.records.proofs.Rows.{refused-positive}
 use Rattle.records.proofs.Accepted.{accepted}
 use Rattle.records.proofs.Examples.{bytes}
@@ -46,8 +47,6 @@ use Rattle.outcomes.specs.Outcome.{number}
 use Rattle.records.specs.Claimed.{claimed, answers_to}
 use Rattle.outcomes.specs.Call.{by_runs, outcome, indexed, left}
 use Rattle.outcomes.specs.Order.{PlaceDiffers, Steady, MarksTurn}
-use Rattle.outcomes.specs.declared.Outcome.{Outcome}
-use Rattle.outcomes.specs.declared.Outcome.TheVariants.{Accepted, Refused}
 use Rattle.outcomes.proofs.Outcomes.{Told, told, passed-outcome}
 use Rattle.outcomes.proofs.Kept.{kept2}
 
@@ -56,8 +55,8 @@ ended : (s cs : List ℕ) (l : Lent) → number (outcome s cs l) ≡ 0 → lengt
 ended s cs l = pick (outcome s cs l) (told s cs l)
   where
     pick : (r : Outcome) → Told s cs l r → number r ≡ 0 → length s ≡ 6 * records s
-    pick (Accepted n nodes shadows) t q = (accepted s n t.0.sound).whole
-    pick (Refused r i) t q = absurd (refused-positive r q)
+    pick (Ok n) t q = (accepted s n.pieces t.0.sound).whole
+    pick (Err r) t q = absurd (refused-positive r.refusal q)
 
 -- what has a derivation has one from more facts, of more pieces
 pub steady : Steady
@@ -96,15 +95,15 @@ two-orders = record {
   same = swapped;
 }
 
-checks : (book_check early ≡ book.Accepted 3) × (book_check late ≡ book.Accepted 3)
+checks : (book_check early ≡ Ok 3) × (book_check late ≡ Ok 3)
 unfolding check_by scan record_finding form_finding admitted order_row record_at stated largest pieces_up_to same_bytes any_below
 checks = (refl, refl)
 
-no-claims : claims_check 3 [] ≡ claims.Accepted
+no-claims : claims_check 3 [] ≡ Ok tt
 unfolding claims_check scan
 no-claims = refl
 
-places : (by_runs early 3 ≡ Refused Contradiction 0) × (by_runs late 3 ≡ Refused Contradiction 1)
+places : (by_runs early 3 ≡ refused_at Contradiction 0) × (by_runs late 3 ≡ refused_at Contradiction 1)
 unfolding by_runs entries entry_of stated record_at fact_of facts_of shortest_clash first clash any any_below tab table entry storing turned parting marks marked step rounds containment meets
 places = (refl, refl)
 
@@ -131,15 +130,15 @@ mark = bytes 6 0 3 0
 abbrev six : List ℕ
 six = bytes 3 0 1 2 ++ bytes 3 0 3 1 ++ bytes 2 0 1 2 ++ bytes 2 0 3 1 ++ bytes 4 0 1 3 ++ bytes 1 0 1 3
 
-six-fit : claims_check 4 six ≡ claims.Accepted
+six-fit : claims_check 4 six ≡ Ok tt
 unfolding claims_check scan claim_at record_at stated largest
 six-fit = refl
 
-overlaps : (book_check overlap ≡ book.Accepted 4) × (book_check (overlap ++ mark) ≡ book.Accepted 4)
+overlaps : (book_check overlap ≡ Ok 4) × (book_check (overlap ++ mark) ≡ Ok 4)
 unfolding check_by scan record_finding form_finding admitted order_row record_at stated largest pieces_up_to same_bytes any_below
 overlaps = (refl, refl)
 
-overlap-runs : (by_runs overlap 4 ≡ Accepted 4 5 1) × (by_runs (overlap ++ mark) 4 ≡ Accepted 4 5 1)
+overlap-runs : (by_runs overlap 4 ≡ accepted_with 4 5 1) × (by_runs (overlap ++ mark) 4 ≡ accepted_with 4 5 1)
 unfolding by_runs entries entry_of stated record_at fact_of facts_of shortest_clash first clash any any_below tab table entry storing turned parting marks marked step rounds containment meets book_visits edges joined groups.groups groups.pair groups.number groups.lowest groups.first_of groups.same groups.lies tally part_in visits_of whole under hang parts keep range parent order breadth find visits shadows is_shadow
 overlap-runs = (refl, refl)
 

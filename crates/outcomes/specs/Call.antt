@@ -1,6 +1,8 @@
 -- What a call comes to, from its input alone: the outcome, and every buffer at exit. The call that writes the index alone is the call with no claims
 -- and no answers. Assumes nothing.
-use Rattle.std.specs.Prelude.{◌≡◌, ℕ, ◌-◌, Bool, true, false, List, eqb, leb, length, replicate}
+use Rattle.records.specs.Refused.{BookCheck, ClaimsCheck, refused_at}
+use Rattle.outcomes.specs.Accepted.{Outcome, accepted_with}
+use Rattle.std.specs.Prelude.{◌≡◌, ℕ, ◌-◌, Bool, true, false, List, eqb, leb, length, replicate, Err, Ok}
 use Rattle.lists.specs.Front.{front}
 use Rattle.rules.specs.Entries.{shortest_clash}
 use Rattle.records.specs.Record.{records}
@@ -9,18 +11,12 @@ use Rattle.records.specs.Check.{book_check, claims_check}
 use Rattle.records.specs.Facts.{entries, facts}
 use Rattle.records.specs.Marked.{marked}
 use Rattle.records.specs.declared.Refusal.TheVariants.{ShortBuffer, Contradiction}
-use Rattle.records.specs.declared.BookCheck.{BookCheck}
-use Rattle.records.specs.declared.BookCheck.TheVariants as book
-use Rattle.records.specs.declared.ClaimsCheck.{ClaimsCheck}
-use Rattle.records.specs.declared.ClaimsCheck.TheVariants as claims
 use Rattle.groups.specs.Index.{book_parens, book_visits, book_places}
 use Rattle.records.specs.PartIn.{part_in}
 use Rattle.parentheses.specs.Padded.{padded}
 use Rattle.index.specs.Parts as on
 use Rattle.records.specs.Claimed.{answers_to}
 use Rattle.outcomes.specs.Lent.{Lent, short_lent}
-use Rattle.outcomes.specs.declared.Outcome.{Outcome}
-use Rattle.outcomes.specs.declared.Outcome.TheVariants.{Accepted, Refused}
 
 -- the pairs (part, container) of a book
 abbrev pub pairs_of : List ℕ → ℕ → ℕ → Bool
@@ -32,26 +28,26 @@ pairs_of s = part_in (facts s)
 unfoldable pub by_runs : List ℕ → ℕ → Outcome
 by_runs s n =
     elim (leb (shortest_clash (marked s) n (entries s)) (records s)) [
-      | true ↦ Refused Contradiction (shortest_clash (marked s) n (entries s) - 1)
-      | false ↦ Accepted n (length (book_visits n (pairs_of s))) (length (on.shadows (book_visits n (pairs_of s))))
+      | true ↦ refused_at Contradiction (shortest_clash (marked s) n (entries s) - 1)
+      | false ↦ accepted_with n (length (book_visits n (pairs_of s))) (length (on.shadows (book_visits n (pairs_of s))))
     ]
 
 unfoldable pub by_claims : List ℕ → ℕ → ClaimsCheck → Outcome
-by_claims s n (claims.Refused r i) = Refused r i
-by_claims s n claims.Accepted = by_runs s n
+by_claims s n (Err r) = Err r
+by_claims s n (Ok _) = by_runs s n
 
 unfoldable pub by_book : List ℕ → List ℕ → BookCheck → Outcome
-by_book s cs (book.Refused r i) = Refused r i
-by_book s cs (book.Accepted n) = by_claims s n (claims_check n cs)
+by_book s cs (Err r) = Err r
+by_book s cs (Ok n) = by_claims s n (claims_check n cs)
 
 unfoldable pub outcome : List ℕ → List ℕ → Lent → Outcome
-outcome s cs l = elim (short_lent cs l) [ true ↦ Refused ShortBuffer 0 | false ↦ by_book s cs (book_check s) ]
+outcome s cs l = elim (short_lent cs l) [ true ↦ refused_at ShortBuffer 0 | false ↦ by_book s cs (book_check s) ]
 
 -- no row before 14 refuses a book of n pieces
 pub record Passed (s cs : List ℕ) (l : Lent) (n : ℕ) : Type 0 where
   pub lent : short_lent cs l ≡ false
-  pub sound : book_check s ≡ book.Accepted n
-  pub fit : claims_check n cs ≡ claims.Accepted
+  pub sound : book_check s ≡ Ok n
+  pub fit : claims_check n cs ≡ Ok tt
 
 -- ---- the buffers at exit
 
@@ -75,8 +71,8 @@ cleared l = record {
 
 -- acceptance writes the index and the answers, refusal 14 zeroes the index, and any other refusal writes nowhere
 unfoldable pub left : List ℕ → List ℕ → Lent → Outcome → Lent
-left s cs l (Accepted n nodes shadows) = indexed s cs n l
-left s cs l (Refused r i) = elim (eqb (refusal_number r) 14) [ true ↦ cleared l | false ↦ l ]
+left s cs l (Ok n) = indexed s cs n.pieces l
+left s cs l (Err r) = elim (eqb (refusal_number r.refusal) 14) [ true ↦ cleared l | false ↦ l ]
 
 -- a call is determined: its outcome and what it leaves in the buffers
 abbrev pub Determined : List ℕ → List ℕ → Lent → Outcome → Lent → Type 0

@@ -8,3 +8,4 @@ pub mod Order
 pub mod Lower
 pub mod Fresh
 pub mod One
+pub mod Accepted

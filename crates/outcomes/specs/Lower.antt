@@ -1,11 +1,10 @@
 -- A book whose containers have lower numbers than their parts keeps the index that it had before pieces could be one: that of its pieces and their
 -- pairs, every byte of it. Assumes nothing.
-use Rattle.std.specs.Prelude.{ℕ, ◌<◌, ◌≡◌, Bool, List, length}
+use Rattle.std.specs.Prelude.{ℕ, ◌<◌, ◌≡◌, Bool, List, length, Ok}
 use Rattle.lists.specs.Front.{front}
 use Rattle.parentheses.specs.Padded.{padded}
 use Rattle.records.specs.Record.{record_at, records}
 use Rattle.records.specs.Check.{book_check}
-use Rattle.records.specs.declared.BookCheck.TheVariants as book
 use Rattle.index.specs.Pairs.{joined}
 use Rattle.index.specs.Index.{parentheses_of, visits_of}
 use Rattle.index.specs.Parts as on
@@ -35,5 +34,5 @@ pub record Kept (s : List ℕ) (n : ℕ) : Type 0 where
 
 abbrev pub LowerIndex : Type 0
 LowerIndex =
-    (s : List ℕ) (n : ℕ) → book_check s ≡ book.Accepted n → ((i : ℕ) → i < records s → (record_at s i).kind ≡ 1 → (record_at s i).b < (record_at s i).a)
+    (s : List ℕ) (n : ℕ) → book_check s ≡ Ok n → ((i : ℕ) → i < records s → (record_at s i).kind ≡ 1 → (record_at s i).b < (record_at s i).a)
     → Kept s n

@@ -1,16 +1,15 @@
 -- Entry order has no influence, and records that are added alter no FOLLOWS and no DENIED, but for marks. Assumes nothing.
-use Rattle.std.specs.Prelude.{ℕ, ◌<◌, ◌≡◌, ◌⊎◌, false, List, [], ◌∷◌, ◌++◌, get_or}
+use Rattle.records.specs.Refused.{refused_at}
+use Rattle.std.specs.Prelude.{ℕ, ◌<◌, ◌≡◌, ◌⊎◌, false, List, [], ◌∷◌, ◌++◌, get_or, Ok}
 use Rattle.records.specs.Record.{record_at, records}
 use Rattle.records.specs.Marked.{marked}
 use Rattle.records.specs.Reordered.{Reordered}
 use Rattle.records.specs.Check.{book_check}
-use Rattle.records.specs.declared.BookCheck.TheVariants as book
 use Rattle.records.specs.declared.Refusal.TheVariants.{Contradiction}
 use Rattle.lists.specs.Front.{front}
 use Rattle.outcomes.specs.Lent.{Lent, short_lent}
 use Rattle.outcomes.specs.Outcome.{number}
 use Rattle.outcomes.specs.Call.{outcome, left}
-use Rattle.outcomes.specs.declared.Outcome.TheVariants.{Refused}
 
 -- ---- order
 
@@ -24,14 +23,14 @@ pub record Alike (s t cs : List ℕ) (l : Lent) : Type 0 where
 -- claims, restricted ones included, and the lent buffers
 abbrev pub OrderFree : Type 0
 OrderFree =
-    (s t : List ℕ) → Reordered s t → (n : ℕ) → book_check s ≡ book.Accepted n
-    → (book_check t ≡ book.Accepted n) × ((cs : List ℕ) (l : Lent) → Alike s t cs l)
+    (s t : List ℕ) → Reordered s t → (n : ℕ) → book_check s ≡ Ok n
+    → (book_check t ≡ Ok n) × ((cs : List ℕ) (l : Lent) → Alike s t cs l)
 
 -- the place of 14 may differ: it does for some two such books
 abbrev pub PlaceDiffers : Type 0
 PlaceDiffers =
     (s t : List ℕ) × Reordered s t
-    × ((l : Lent) → short_lent [] l ≡ false → (outcome s [] l ≡ Refused Contradiction 0) × (outcome t [] l ≡ Refused Contradiction 1))
+    × ((l : Lent) → short_lent [] l ≡ false → (outcome s [] l ≡ refused_at Contradiction 0) × (outcome t [] l ≡ refused_at Contradiction 1))
 
 -- ---- more records
 

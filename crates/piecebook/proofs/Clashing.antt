@@ -1,4 +1,7 @@
 -- The result of the chain behind a contradiction that C gets, from what it comes to. Assumes nothing.
+use Rattle.std.specs.Prelude.{Ok}
+use Rattle.records.specs.Refused.{refused_at}
+use Rattle.clash.specs.Reply.{Reply}
 use Prim.Native.Nat.{ℕ, ◌*◌}
 use mathlib.Core.Path.{◌≡◌, refl, sym, ap, subst, ◌∙◌}
 use mathlib.Core.List.{List}
@@ -7,16 +10,14 @@ use Rattle.lists.specs.Front.{front}
 use Rattle.records.specs.Refusal.{refusal_number}
 use Rattle.records.specs.declared.Refusal.{Refusal}
 use Rattle.clash.specs.Clash.{shown, Steps, Written}
-use Rattle.clash.specs.declared.Reply.{Reply}
-use Rattle.clash.specs.declared.Reply.TheVariants.{Free, Refused}
 use Rattle.clash.specs.declared.Clash.{Clash}
 use Rattle.piecebook.specs.Clashes.{number, place, Replied, Clashed}
 use Rattle.piecebook.specs.declared.chain_calls.PiecebookClashResult.{PiecebookClashResult}
 
-pub replied-free : (o : Reply) (steps : ℕ) → o ≡ Free → Replied o steps (record { number = 0; place = 0; steps = steps })
+pub replied-free : (o : Reply) (steps : ℕ) → o ≡ Ok tt → Replied o steps (record { number = 0; place = 0; steps = steps })
 replied-free o steps e = rw e (record { number_is = refl; place_is = refl; steps-are = refl })
 
-pub replied-refused : (o : Reply) (x : Refusal) (i steps n : ℕ) → o ≡ Refused x i → n ≡ refusal_number x → Replied o steps (record { number = n; place = i; steps = steps })
+pub replied-refused : (o : Reply) (x : Refusal) (i steps n : ℕ) → o ≡ refused_at x i → n ≡ refusal_number x → Replied o steps (record { number = n; place = i; steps = steps })
 replied-refused o x i steps n e f = rw e (record { number_is = f; place_is = refl; steps-are = refl })
 
 pub clashed-all : (s c : List ℕ) (w : Clash) (c' : List ℕ) (r : PiecebookClashResult) → Written s c w c' → Replied w.reply w.steps r → Clashed s c r c'

@@ -1,4 +1,5 @@
 -- What C gets of two books, from what the call promises. Assumes nothing.
+use Rattle.compare.specs.Refused.{Comparison, refused_of}
 use Prim.Native.Nat.{ℕ}
 use mathlib.Core.Path.{◌≡◌, refl, ap, subst, ◌∙◌}
 use mathlib.Core.List.{List}
@@ -7,8 +8,6 @@ use Rattle.records.specs.Refusal.{refusal_number}
 use Rattle.records.specs.declared.Refusal.{Refusal}
 use Rattle.compare.specs.Call.{outcome, left, Determined}
 use Rattle.compare.specs.Demands.{Demanded}
-use Rattle.compare.specs.declared.Comparison.{Comparison}
-use Rattle.compare.specs.declared.Comparison.TheVariants.{Refused}
 use Rattle.piecebook.specs.Compares.{Reported, Compares}
 use Rattle.piecebook.specs.declared.comparisons.PiecebookComparison.{PiecebookComparison}
 
@@ -20,5 +19,5 @@ module _ (s t cs out : List ℕ) {o : Comparison} {out' : List ℕ} (D : Determi
   still-demanded = subst (λ (x : Comparison). Demanded s t cs (length out) out' x) D.0
 
 pub reported-refused :
-    (o : Comparison) (k : ℕ) (r : Refusal) (i x : ℕ) → o ≡ Refused k r i → x ≡ refusal_number r → Reported o (record { number = x; place = i; book = k; together = 0 })
+    (o : Comparison) (k : ℕ) (r : Refusal) (i x : ℕ) → o ≡ refused_of k r i → x ≡ refusal_number r → Reported o (record { number = x; place = i; book = k; together = 0 })
 reported-refused o k r i x e q = rw e (record { number_is = q; place_is = refl; book-is = refl; together-is = refl })

@@ -1,11 +1,11 @@
 -- The calls of `working` as C gets them. Assumes nothing.
+use Rattle.records.specs.Refused.{refused_at}
+use Rattle.outcomes.specs.Accepted.{Outcome}
 use mathlib.Core.Path.{◌≡◌, refl, sym, subst}
 use mathlib.Core.List.{List}
 use Prim.Native.Nat.{ℕ}
 use Rattle.records.specs.Refusal.{refusal_number}
 use Rattle.records.specs.declared.Refusal.{Refusal}
-use Rattle.outcomes.specs.declared.Outcome.{Outcome}
-use Rattle.outcomes.specs.declared.Outcome.TheVariants.{Refused}
 use Rattle.working.specs.declared.keeping.Working.{Working}
 use Rattle.working.specs.declared.keeping.Asked.{Asked}
 use Rattle.working.specs.Kept as on
@@ -13,7 +13,7 @@ use Rattle.piecebook.specs.declared.PiecebookWorking.{PiecebookWorking}
 use Rattle.piecebook.specs.declared.PiecebookWorkingResult.{PiecebookWorkingResult}
 use Rattle.piecebook.specs.OpenBook.{state_of, begun_counts, Replied, Started, Added, Withdrawn, Answered}
 
-pub replied-refused : (o : Outcome) (x : Refusal) (i n a : ℕ) → o ≡ Refused x i → n ≡ refusal_number x → Replied o a (record { number = n; place = i; answer = a })
+pub replied-refused : (o : Outcome) (x : Refusal) (i n a : ℕ) → o ≡ refused_at x i → n ≡ refusal_number x → Replied o a (record { number = n; place = i; answer = a })
 replied-refused o x i n a e f = rw e (record { number_is = f; place_is = refl; answer-is = refl })
 
 module _ (w w' : PiecebookWorking) (was s : Working) (o : Outcome) (r : PiecebookWorkingResult) (before : was ≡ state_of w) (behind : state_of w' ≡ s) (told : Replied o 0 r) (area area' : List ℕ) where

@@ -1,4 +1,7 @@
 -- The result that C gets, from the outcome. Assumes nothing.
+use Rattle.convert.specs.Conversion.{Conversion}
+use Rattle.records.specs.Refused.{refused_at}
+use Rattle.outcomes.specs.Accepted.{Outcome}
 use Prim.Native.Nat.{ℕ}
 use mathlib.Core.Path.{◌≡◌, refl, ap, subst, ◌∙◌}
 use mathlib.Core.List.{List}
@@ -9,20 +12,16 @@ use Rattle.outcomes.specs.Call.{left}
 use Rattle.outcomes.specs.Demands.{Demand2, Demand3, Contradicted}
 use Rattle.outcomes.specs.Fitting.{Fitting}
 use Rattle.answers.proofs.Calls.{Promised}
-use Rattle.outcomes.specs.declared.Outcome.{Outcome}
-use Rattle.outcomes.specs.declared.Outcome.TheVariants.{Refused}
 use Rattle.convert.specs.Conversion as of
 use Rattle.convert.specs.Converted.{converted}
 use Rattle.convert.specs.Same.{InForce, SameAnswers}
-use Rattle.convert.specs.declared.Conversion.{Conversion}
-use Rattle.convert.specs.declared.Conversion.TheVariants as to
 use Rattle.convert.proofs.Writes as convert
 use Rattle.piecebook.specs.Converts.{Told, Converts}
 use Rattle.piecebook.specs.declared.results.PiecebookConverted.{PiecebookConverted}
 use Rattle.piecebook.specs.Exported.{Reported, Exported}
 use Rattle.piecebook.specs.declared.results.PiecebookResult.{PiecebookResult}
 
-pub reported-refused : (o : Outcome) (x : Refusal) (i n : ℕ) → o ≡ Refused x i → n ≡ refusal_number x → Reported o (record { number = n; place = i; pieces = 0; nodes = 0; shadows = 0 })
+pub reported-refused : (o : Outcome) (x : Refusal) (i n : ℕ) → o ≡ refused_at x i → n ≡ refusal_number x → Reported o (record { number = n; place = i; pieces = 0; nodes = 0; shadows = 0 })
 reported-refused o x i n e f = rw e (record { number_is = f; place_is = refl; pieces_are = refl; nodes-are = refl; shadows-are = refl })
 
 -- what a call promises of the outcome, of the result
@@ -41,7 +40,7 @@ handed s cs l o l' r (D, (a, (b, (c, f)))) R =
     )
 
 -- the same of a conversion
-pub told-refused : (c : Conversion) (x : Refusal) (i n : ℕ) → c ≡ to.Refused x i → n ≡ refusal_number x → Told c (record { number = n; place = i; length = 0 })
+pub told-refused : (c : Conversion) (x : Refusal) (i n : ℕ) → c ≡ refused_at x i → n ≡ refusal_number x → Told c (record { number = n; place = i; length = 0 })
 told-refused c x i n e f = rw e (record { number_is = f; place_is = refl; length-is = refl })
 
 abbrev Passed : List ℕ → List ℕ → PiecebookConverted → List ℕ → Type 0

@@ -1,11 +1,11 @@
 -- What the catalog calls of include/piecebook.h hand back: the promises of `catalog`, with document 01's numbers. Assumes nothing.
+use Rattle.catalog.specs.Listing.{Listing}
 use Rattle.std.specs.Prelude.{◌≡◌, Bool, not, List, ℕ, eqb}
 use Rattle.lists.specs.Tally.{num}
 use Rattle.catalog.specs.Lent.{Lent}
 use Rattle.catalog.specs.Call.{outcome, left}
 use Rattle.catalog.specs.Outcome.{number, place, counts}
 use Rattle.areas.specs.Question.{Answers}
-use Rattle.catalog.specs.declared.Listing.{Listing}
 use Rattle.piecebook.specs.declared.catalogs.PiecebookCatalogResult.{PiecebookCatalogResult}
 
 -- the numbers of a catalog

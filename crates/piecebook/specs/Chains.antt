@@ -1,8 +1,8 @@
 -- What the call of include/piecebook.h that writes a chain hands back: the promise of `chain_writing`, with document 01's numbers. Assumes nothing.
+use Rattle.chain_writing.specs.Reply.{Reply}
 use Rattle.std.specs.Prelude.{◌≡◌, true, false, List, ℕ, ◌*◌, length, take}
 use Rattle.lists.specs.Front.{front}
 use Rattle.chain_writing.specs.Call.{reply, shown, Steps}
-use Rattle.chain_writing.specs.declared.Reply.{Reply}
 use Rattle.chain_writing.specs.ReplyNumbers.{number, place, answer}
 use Rattle.piecebook.specs.declared.chain_calls.PiecebookChainResult.{PiecebookChainResult}
 

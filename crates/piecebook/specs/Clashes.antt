@@ -1,20 +1,19 @@
 -- What the call of include/piecebook.h that writes the chain behind a contradiction hands back: the promise of `clash`, with document 01's numbers. Assumes nothing.
-use Rattle.std.specs.Prelude.{◌≡◌, true, false, List, ℕ, ◌*◌, length, take}
+use Rattle.clash.specs.Reply.{Reply}
+use Rattle.std.specs.Prelude.{◌≡◌, true, false, List, ℕ, ◌*◌, length, take, Err, Ok}
 use Rattle.lists.specs.Front.{front}
 use Rattle.records.specs.Refusal.{refusal_number}
 use Rattle.clash.specs.Clash.{reply, shown, Steps}
-use Rattle.clash.specs.declared.Reply.{Reply}
-use Rattle.clash.specs.declared.Reply.TheVariants.{Free, Refused}
 use Rattle.piecebook.specs.declared.chain_calls.PiecebookClashResult.{PiecebookClashResult}
 
 -- 0 where there is no contradiction, or the refusal's number; and its place
 abbrev pub number : Reply → ℕ
-number Free = 0
-number (Refused r i) = refusal_number r
+number (Ok _) = 0
+number (Err r) = refusal_number r.refusal
 
 abbrev pub place : Reply → ℕ
-place Free = 0
-place (Refused r i) = i
+place (Ok _) = 0
+place (Err r) = r.place
 
 pub record Replied (o : Reply) (steps : ℕ) (r : PiecebookClashResult) : Type 0 where
   pub number_is : r.number ≡ number o

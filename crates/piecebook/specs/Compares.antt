@@ -1,8 +1,8 @@
 -- What the call of include/piecebook.h on two books hands back. Assumes nothing.
+use Rattle.compare.specs.Refused.{Comparison}
 use Rattle.std.specs.Prelude.{◌≡◌, List, ℕ, length}
 use Rattle.compare.specs.Call.{outcome, left}
 use Rattle.compare.specs.Outcome.{number, place, book, together}
-use Rattle.compare.specs.declared.Comparison.{Comparison}
 use Rattle.piecebook.specs.declared.comparisons.PiecebookComparison.{PiecebookComparison}
 
 -- the numbers of a comparison

@@ -1,8 +1,7 @@
 -- What the converter of include/piecebook.h hands back. Assumes nothing.
 use Rattle.std.specs.Prelude.{◌≡◌, List, ℕ}
 use Rattle.std.proofs.Math.ListN as on
-use Rattle.convert.specs.Conversion.{number, place, size, conversion, left}
-use Rattle.convert.specs.declared.Conversion.{Conversion}
+use Rattle.convert.specs.Conversion.{number, place, size, conversion, left, Conversion}
 use Rattle.piecebook.specs.declared.results.PiecebookConverted.{PiecebookConverted}
 
 -- the numbers of a conversion

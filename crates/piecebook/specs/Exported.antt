@@ -1,9 +1,9 @@
 -- What the calls of include/piecebook.h hand back. Assumes nothing.
+use Rattle.outcomes.specs.Accepted.{Outcome}
 use Rattle.std.specs.Prelude.{◌≡◌, List, ℕ}
 use Rattle.outcomes.specs.Lent.{Lent}
 use Rattle.outcomes.specs.Call.{outcome, left}
 use Rattle.outcomes.specs.Outcome.{number, place, piece_count, node_count, shadow_count}
-use Rattle.outcomes.specs.declared.Outcome.{Outcome}
 use Rattle.piecebook.specs.declared.results.PiecebookResult.{PiecebookResult}
 
 -- document 01's numbers of an outcome

@@ -1,8 +1,7 @@
 -- What the calls of include/piecebook.h on a working book hand back: the promises of `working`, with document 01's numbers. Assumes nothing.
-use Rattle.std.specs.Prelude.{◌≡◌, List, [], ◌∷◌, ℕ}
+use Rattle.outcomes.specs.Accepted.{Outcome}
+use Rattle.std.specs.Prelude.{◌≡◌, List, [], ◌∷◌, ℕ, Err, Ok}
 use Rattle.outcomes.specs.Outcome.{number, place}
-use Rattle.outcomes.specs.declared.Outcome.{Outcome}
-use Rattle.outcomes.specs.declared.Outcome.TheVariants.{Accepted, Refused}
 use Rattle.working.specs.declared.keeping.Working.{Working}
 use Rattle.working.specs.declared.keeping.Asked.{Asked}
 use Rattle.working.specs.Kept as on
@@ -19,8 +18,8 @@ pub record Replied (o : Outcome) (answer : ℕ) (r : PiecebookWorkingResult) : T
 
 -- the counts of an accepted start; a refused one leaves them
 abbrev pub begun_counts : List ℕ → Working → Outcome → List ℕ
-begun_counts state begun (Accepted n nodes shadows) = begun.records ∷ begun.pieces ∷ []
-begun_counts state begun (Refused r i) = state
+begun_counts state begun (Ok n) = begun.records ∷ begun.pieces ∷ []
+begun_counts state begun (Err r) = state
 
 pub record Started (state area : List ℕ) (r : PiecebookWorkingResult) (state' area' : List ℕ) : Type 0 where
   pub outcome : Outcome

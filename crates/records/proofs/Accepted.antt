@@ -1,4 +1,6 @@
 -- What an accepted book and accepted claims are like. Assumes nothing.
+use Rattle.std.specs.Prelude.{Err, Ok, Some}
+use Rattle.records.specs.Refused.{Finding, refused_at}
 use Prim.Native.Nat.{ℕ, ◌*◌, ◌%◌, ◌≤◌, ◌<◌}
 use mathlib.Core.Path.{◌≡◌, refl, sym, ap, subst, ◌∙◌}
 use mathlib.Core.Bool.{Bool, true, false, false≢true}
@@ -14,11 +16,6 @@ use Rattle.records.specs.declared.Record.{Record}
 use Rattle.records.specs.declared.Refusal.{Refusal}
 use Rattle.records.specs.declared.Edition.{Edition}
 use Rattle.records.specs.declared.Edition.TheVariants.{Current}
-use Rattle.records.specs.declared.Finding.{Finding}
-use Rattle.records.specs.declared.Finding.TheVariants.{Fit, Unfit}
-use Rattle.records.specs.declared.Claim.TheVariants.{Sound}
-use Rattle.records.specs.declared.BookCheck.TheVariants as book
-use Rattle.records.specs.declared.ClaimsCheck.TheVariants as claims
 use Rattle.records.specs.Record.{record_at, records}
 use Rattle.records.specs.Refusal.{row, scan}
 use Rattle.records.specs.Pieces.{stated, largest, piece_count}
@@ -91,23 +88,23 @@ pub record AcceptedBook (e : Edition) (s : List ℕ) (p : ℕ) : Type 0 where
   pub each : (i : ℕ) → i < records s → Formed e (record_at s i)
   pub new : (i j : ℕ) → i < records s → j < i → same_bytes s (6 * i) (6 * j) 6 ≡ false
 
-record-fit : (e : Edition) (s : List ℕ) (i : ℕ) → record_finding e s i ≡ Fit → (form_finding e (record_at s i) ≡ Fit) × (repeat_row s i ≡ false)
+record-fit : (e : Edition) (s : List ℕ) (i : ℕ) → record_finding e s i ≡ Ok tt → (form_finding e (record_at s i) ≡ Ok tt) × (repeat_row s i ≡ false)
 unfolding record_finding
 record-fit e s i q =
-    let j = judged Unfit (row (repeat_row s i) _ Fit) (form_finding e (record_at s i)) (λ r q. let z : ◌≡◌ {A = ℕ} 0 1 = cc in omega arith) q in
+    let j = judged Err (row (repeat_row s i) _ (Ok tt)) (form_finding e (record_at s i)) (λ r q. let z : ◌≡◌ {A = ℕ} 0 1 = cc in omega arith) q in
     (j.0, (row-fit (repeat_row s i) _ _ j.1).0)
 
-no-acceptance : (p : ℕ) (r : Refusal) (i : ℕ) → book.Refused r i ≡ book.Accepted p → ⊥
+no-acceptance : {A : Type 0} (p : A) (r : Refusal) (i : ℕ) → refused_at r i ≡ Ok p → ⊥
 no-acceptance p r i q = let z : ◌≡◌ {A = ℕ} 0 1 = cc in omega arith
 
-pub accepted-by : (e : Edition) (s : List ℕ) (p : ℕ) → check_by e s ≡ book.Accepted p → AcceptedBook e s p
+pub accepted-by : (e : Edition) (s : List ℕ) (p : ℕ) → check_by e s ≡ Ok p → AcceptedBook e s p
 unfolding check_by
 accepted-by e s p q =
-    let j = judged (λ r. book.Refused r 0) (records_check e s (records s)) (book_length s) (λ r. no-acceptance p r 0) q in
+    let j = judged (λ r. refused_at r 0) (records_check e s (records s)) (book_length s) (λ r. no-acceptance p r 0) q in
     let m = row-fit (ragged s) _ _ j.0 in
     let n = ltb-false 8192 (records s) (row-fit (more_than 8192 s) _ _ m.1).0 in
     let w = eqb-true (length s % 6) 0 (not-false (eqb (length s % 6) 0) m.0) in
-    let a = all_fit book.Refused (book.Accepted (piece_count s)) (record_finding e s) (no-acceptance p) (records s) j.1 in
+    let a = all_fit refused_at (Ok (piece_count s)) (record_finding e s) (no-acceptance p) (records s) j.1 in
     let q = a.0 in
     record {
       few = n;
@@ -117,16 +114,16 @@ accepted-by e s p q =
       new = λ i j h l. not-true _ (λ t. false≢true (sym (record-fit e s i (a.1 i h)).1 ∙ below-hit (λ j. same_bytes s (6 * i) (6 * j) 6) i j l t));
     }
 
-pub accepted : (s : List ℕ) (p : ℕ) → book_check s ≡ book.Accepted p → AcceptedBook Current s p
+pub accepted : (s : List ℕ) (p : ℕ) → book_check s ≡ Ok p → AcceptedBook Current s p
 accepted s p = accepted-by Current s p
 
 -- and the edition accepts such a book
-pub acceptable : (e : Edition) (s : List ℕ) (p : ℕ) → AcceptedBook e s p → check_by e s ≡ book.Accepted p
+pub acceptable : (e : Edition) (s : List ℕ) (p : ℕ) → AcceptedBook e s p → check_by e s ≡ Ok p
 acceptable e s p b =
     sym (measured e s (omega (arith, b.whole)) b.few)
-    ∙ all_pass book.Refused (book.Accepted (piece_count s)) (record_finding e s) 0 (records s)
+    ∙ all_pass refused_at (Ok (piece_count s)) (record_finding e s) 0 (records s)
     (λ i h. form-new e s i (fits e (record_at s i) (b.each i (omega arith))) (not-true _ (λ t. let f = below-find (λ j. same_bytes s (6 * i) (6 * j) 6) i t in false≢true (sym (b.new i f.0 (omega arith) f.1) ∙ f.2))))
-    ∙ ap book.Accepted (sym b.count)
+    ∙ ap Ok (sym b.count)
 
 module _ {e : Edition} {s : List ℕ} {p : ℕ} (b : AcceptedBook e s p) where
   pub accepted-within : AllWithin p (facts s)
@@ -155,7 +152,7 @@ module _ {e : Edition} {s : List ℕ} {p : ℕ} (b : AcceptedBook e s p) where
 pub record AcceptedClaims (p : ℕ) (s : List ℕ) : Type 0 where
   pub few : records s ≤ 4096
   pub whole : length s ≡ 6 * records s
-  pub sound : (i : ℕ) → i < records s → claim_at s i ≡ Sound (record_at s i)
+  pub sound : (i : ℕ) → i < records s → claim_at s i ≡ Some (record_at s i)
   pub kinds : (i : ℕ) → i < records s → stated (record_at s i) ≡ true
   pub origins : (i : ℕ) → i < records s → (record_at s i).origin ≤ 1
   pub within : (i : ℕ) → i < records s → Within p (saying (record_at s i))
@@ -168,26 +165,25 @@ claim-row r e = pick (known (stated r))
     pick (is_false t) = absurd (false≢true (sym e ∙ rw t))
 
 claim-fit :
-    (p : ℕ) (s : List ℕ) (i : ℕ) → claim_finding p (claim_at s i) ≡ Fit → (claim_at s i ≡ Sound (record_at s i)) × ((stated (record_at s i) ≡ true) × ((record_at s i).origin ≤ 1)) × (largest (record_at s i) < p)
+    (p : ℕ) (s : List ℕ) (i : ℕ) → claim_finding p (claim_at s i) ≡ Ok tt → (claim_at s i ≡ Some (record_at s i)) × ((stated (record_at s i) ≡ true) × ((record_at s i).origin ≤ 1)) × (largest (record_at s i) < p)
 unfolding claim_at
 claim-fit p s i = pick (claim_row (record_at s i)) refl
   where
     pick :
-        (t : Bool) → claim_row (record_at s i) ≡ t → claim_finding p (read t (record_at s i)) ≡ Fit
-        → (read t (record_at s i) ≡ Sound (record_at s i)) × ((stated (record_at s i) ≡ true) × ((record_at s i).origin ≤ 1)) × (largest (record_at s i) < p)
+        (t : Bool) → claim_row (record_at s i) ≡ t → claim_finding p (read t (record_at s i)) ≡ Ok tt
+        → (read t (record_at s i) ≡ Some (record_at s i)) × ((stated (record_at s i) ≡ true) × ((record_at s i).origin ≤ 1)) × (largest (record_at s i) < p)
     pick true q e = absurd (let z : ◌≡◌ {A = ℕ} 0 1 = cc in omega arith)
     pick false q e = (refl, claim-row (record_at s i) q, leb-false p (largest (record_at s i)) (row-fit (beyond_row p (record_at s i)) _ _ e).0)
 
-pub accepted-claims : (p : ℕ) (s : List ℕ) → claims_check p s ≡ claims.Accepted → AcceptedClaims p s
+pub accepted-claims : (p : ℕ) (s : List ℕ) → claims_check p s ≡ Ok tt → AcceptedClaims p s
 unfolding claims_check
 accepted-claims p s e =
-    let never : (r : Refusal) (i : ℕ) → claims.Refused r i ≡ claims.Accepted → ⊥ = λ r i q. let z : ◌≡◌ {A = ℕ} 0 1 = cc in omega arith in
     let find : ℕ → Finding = λ i. claim_finding p (claim_at s i) in
-    let j = judged (λ r. claims.Refused r 0) (scan claims.Refused claims.Accepted find 0 (records s)) (claims_length s) (λ r. never r 0) e in
+    let j = judged (λ r. refused_at r 0) (scan refused_at (Ok tt) find 0 (records s)) (claims_length s) (λ r. no-acceptance tt r 0) e in
     let m = row-fit (ragged s) _ _ j.0 in
     let n = ltb-false 4096 (records s) (row-fit (more_than 4096 s) _ _ m.1).0 in
     let w = eqb-true (length s % 6) 0 (not-false (eqb (length s % 6) 0) m.0) in
-    let a = all_fit claims.Refused claims.Accepted find never (records s) j.1 in
+    let a = all_fit refused_at (Ok tt) find (no-acceptance tt) (records s) j.1 in
     record {
       few = n;
       whole = omega arith;

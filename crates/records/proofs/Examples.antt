@@ -1,4 +1,6 @@
 -- The check, computed on document 01's session and on its edges of the format. Assumes nothing.
+use Rattle.std.specs.Prelude.{Ok}
+use Rattle.records.specs.Refused.{BookCheck, ClaimsCheck, refused_at}
 use Prim.Native.Nat.{ℕ, ◌/◌, ◌%◌}
 use mathlib.Core.Path.{◌≡◌, refl}
 use mathlib.Core.Bool.{true, false}
@@ -9,10 +11,6 @@ use Rattle.rules.specs.Fact.{APART, fact_of}
 use Rattle.rules.specs.Entries.{fact, none}
 use Rattle.rules.specs.Examples.{session}
 use Rattle.records.specs.declared.Refusal.TheVariants.{BookLength, Kind, Origin, PieceNumber, VoidForm, Order, Repeat, ClaimsLength, ClaimFormat, ClaimPiece}
-use Rattle.records.specs.declared.BookCheck.{BookCheck}
-use Rattle.records.specs.declared.BookCheck.TheVariants.{Accepted, Refused}
-use Rattle.records.specs.declared.ClaimsCheck.{ClaimsCheck}
-use Rattle.records.specs.declared.ClaimsCheck.TheVariants as claims
 use Rattle.records.specs.Record.{record_at}
 use Rattle.records.specs.Refusal.{scan}
 use Rattle.records.specs.Pieces.{stated, largest, pieces_up_to}
@@ -43,16 +41,16 @@ outcomes =
 
 outcomes-are :
     outcomes
-    ≡ Accepted 6 ∷ Accepted 1 ∷ Refused BookLength 0 ∷ Accepted 2048 ∷ Refused PieceNumber 0 ∷ Refused PieceNumber 0 ∷ Refused Kind 0 ∷ Accepted 4 ∷ Accepted 1
-    ∷ Accepted 5 ∷ Refused Repeat 2 ∷ Refused Kind 1 ∷ Refused Kind 1 ∷ Refused Origin 0 ∷ Refused PieceNumber 0 ∷ Accepted 5
-    ∷ Accepted 6 ∷ Refused VoidForm 0 ∷ Refused VoidForm 0 ∷ Refused Origin 0 ∷ Refused PieceNumber 0 ∷ Accepted 6 ∷ Refused Repeat 1 ∷ []
+    ≡ Ok 6 ∷ Ok 1 ∷ refused_at BookLength 0 ∷ Ok 2048 ∷ refused_at PieceNumber 0 ∷ refused_at PieceNumber 0 ∷ refused_at Kind 0 ∷ Ok 4 ∷ Ok 1
+    ∷ Ok 5 ∷ refused_at Repeat 2 ∷ refused_at Kind 1 ∷ refused_at Kind 1 ∷ refused_at Origin 0 ∷ refused_at PieceNumber 0 ∷ Ok 5
+    ∷ Ok 6 ∷ refused_at VoidForm 0 ∷ refused_at VoidForm 0 ∷ refused_at Origin 0 ∷ refused_at PieceNumber 0 ∷ Ok 6 ∷ refused_at Repeat 1 ∷ []
 unfolding check_by scan record_finding form_finding admitted order_row record_at stated largest pieces_up_to same_bytes any_below
 outcomes-are = refl
 
 -- by the former edition
 former-outcomes-are :
     map former_check (book ∷ bytes 1 0 3 3 ∷ bytes 1 0 0 0 ∷ bytes 1 0 3 4 ∷ bytes 5 0 3 65535 ∷ bytes 5 0 2048 0 ∷ bytes 6 0 0 0 ∷ (bytes 5 1 7 7 ++ bytes 5 2 0 0) ∷ (bytes 5 0 3 1 ++ bytes 5 0 3 1) ∷ [])
-    ≡ Accepted 6 ∷ Refused Order 0 ∷ Refused Order 0 ∷ Refused Order 0 ∷ Accepted 4 ∷ Refused PieceNumber 0 ∷ Refused Kind 0 ∷ Refused Origin 1 ∷ Refused Repeat 1 ∷ []
+    ≡ Ok 6 ∷ refused_at Order 0 ∷ refused_at Order 0 ∷ refused_at Order 0 ∷ Ok 4 ∷ refused_at PieceNumber 0 ∷ refused_at Kind 0 ∷ refused_at Origin 1 ∷ refused_at Repeat 1 ∷ []
 unfolding check_by scan record_finding form_finding admitted order_row record_at stated largest pieces_up_to same_bytes any_below
 former-outcomes-are = refl
 
@@ -73,6 +71,6 @@ claim_outcomes =
 
 claim-outcomes-are :
     claim_outcomes
-    ≡ claims.Accepted ∷ claims.Refused ClaimsLength 0 ∷ claims.Accepted ∷ claims.Refused ClaimFormat 1 ∷ claims.Refused ClaimFormat 0 ∷ claims.Refused ClaimPiece 1 ∷ []
+    ≡ Ok tt ∷ refused_at ClaimsLength 0 ∷ (Ok tt) ∷ refused_at ClaimFormat 1 ∷ refused_at ClaimFormat 0 ∷ refused_at ClaimPiece 1 ∷ []
 unfolding claims_check scan claim_at record_at stated largest
 claim-outcomes-are = refl

@@ -1,5 +1,6 @@
 -- Runs whose records stand in another run too: their facts are among its facts. The same records in another order pass the same rows.
 -- Assumes nothing.
+use Rattle.std.specs.Prelude.{Ok}
 use Prim.Native.Nat.{ℕ, ◌+◌, ◌-◌, ◌*◌, ◌≤◌, ◌<◌}
 use mathlib.Core.Path.{◌≡◌, sym, ap, subst, ◌∙◌}
 use mathlib.Core.Bool.{Bool, true, false≢true}
@@ -13,7 +14,6 @@ use Rattle.lists.proofs.Bools.{not-true}
 use Rattle.rules.proofs.More.{Among}
 use Rattle.records.specs.declared.Record.{Record}
 use Rattle.records.specs.declared.Edition.TheVariants.{Current}
-use Rattle.records.specs.declared.BookCheck.TheVariants as book
 use Rattle.records.specs.Record.{record_at, records}
 use Rattle.records.specs.Pieces.{stated, largest, piece_count}
 use Rattle.records.specs.Rows.{same_bytes}
@@ -121,7 +121,7 @@ module _ (s t : List ℕ) (R : Reordered s t) where
   pub found_back : Found t s
   found_back i l = let k : i < records s = omega (arith, same-records) in (R.from i, R.from_in i k, record-back i k)
 
-  module _ (n : ℕ) (e : book_check s ≡ book.Accepted n) where
+  module _ (n : ℕ) (e : book_check s ≡ Ok n) where
     alike : (i j : ℕ) → i < records s → j < records s → same_bytes t (6 * i) (6 * j) 6 ≡ true → same_bytes s (6 * R.from i) (6 * R.from j) 6 ≡ true
     alike i j l k q = all_same s (6 * R.from i) (6 * R.from j) 6 (λ d h. byte-back i l d h ∙ same-all t (6 * i) (6 * j) 6 q d h ∙ sym (byte-back j k d h))
 
@@ -144,7 +144,7 @@ module _ (s t : List ℕ) (R : Reordered s t) where
     same_count = omega (arith, (accepted s n e).count, count-found s t found-moved, count-found t s found_back)
 
     -- no row 3 to 9 refuses it
-    pub reordered-accepted : book_check t ≡ book.Accepted n
+    pub reordered-accepted : book_check t ≡ Ok n
     reordered-accepted =
         let A = accepted s n e in
         acceptable Current t n

@@ -1,4 +1,6 @@
 -- When each row refuses and when it lets a record pass, and what a record that passes rows 5 to 8 is like. Assumes nothing.
+use Rattle.std.specs.Prelude.{Err, Ok}
+use Rattle.records.specs.Refused.{Finding}
 use Prim.Native.Nat.{ℕ, max, ◌≤◌, ◌<◌}
 use mathlib.Core.Path.{◌≡◌, refl, sym, ◌∙◌}
 use mathlib.Core.Bool.{Bool, true, false, false≢true}
@@ -11,10 +13,8 @@ use Rattle.records.specs.declared.Record.{Record}
 use Rattle.records.specs.declared.Edition.{Edition}
 use Rattle.records.specs.declared.Edition.TheVariants.{Former, Current}
 use Rattle.records.specs.declared.Refusal.{Refusal}
-use Rattle.records.specs.declared.Finding.{Finding}
 use Rattle.records.specs.Refusal.{refusal_number, row}
 use Rattle.records.specs.declared.Refusal.TheVariants.{ShortBuffer, BookLength, TooManyRecords, Kind, Origin, PieceNumber, Order, Repeat, ClaimsLength, TooManyClaims, ClaimFormat, ClaimPiece, Contradiction, ShortSteps, TooManyPieces, ShortCatalog, NotStanding, VoidForm, LogLength, ReplicatePiece}
-use Rattle.records.specs.declared.Finding.TheVariants.{Fit, Unfit}
 use Rattle.records.specs.Pieces.{stated, larger, largest}
 use Rattle.records.specs.Rows.{admitted, kind_row, origin_row, piece_row, bad_mark, void_row, rising, order_row}
 use Rattle.records.specs.Check.{form_finding}
@@ -47,60 +47,60 @@ no-order Former r n = rw (ne_eqb r.kind 1 n)
 no-order Current r n = refl
 
 module _ (e : Edition) (r : Record) where
-  pub no_kind : admitted e r ≡ false → form_finding e r ≡ Unfit Kind
+  pub no_kind : admitted e r ≡ false → form_finding e r ≡ Err Kind
   unfolding form_finding
   no_kind h = simp h
 
   module _ (h : admitted e r ≡ true) where
-    pub unknown : 1 < r.origin → form_finding e r ≡ Unfit Origin
+    pub unknown : 1 < r.origin → form_finding e r ≡ Err Origin
     unfolding form_finding
     unknown t = simp (h, lt-ltb 1 r.origin t)
 
     module _ (t : r.origin ≤ 1) where
-      pub too_large : 2047 < largest r → form_finding e r ≡ Unfit PieceNumber
+      pub too_large : 2047 < largest r → form_finding e r ≡ Err PieceNumber
       unfolding form_finding
       too_large p = simp (h, le-ltb 1 r.origin t, lt-ltb 2047 (largest r) p)
 
       module _ (p : largest r ≤ 2047) where
-        pub marks-one : r.kind ≡ 6 → form_finding e r ≡ row (bad_mark r) VoidForm Fit
+        pub marks-one : r.kind ≡ 6 → form_finding e r ≡ row (bad_mark r) VoidForm (Ok tt)
         unfolding form_finding
         marks-one n =
             simp (h, le-ltb 1 r.origin t, le-ltb 2047 (largest r) p, eq-eqb r.kind 6 n, no-order e r (λ k. omega arith))
 
-        pub by_order : (r.kind ≡ 6 → ⊥) → form_finding e r ≡ row (order_row e r) Order Fit
+        pub by_order : (r.kind ≡ 6 → ⊥) → form_finding e r ≡ row (order_row e r) Order (Ok tt)
         unfolding form_finding
         by_order m = simp (h, le-ltb 1 r.origin t, le-ltb 2047 (largest r) p, ne_eqb r.kind 6 m)
 
-        pub any_order : {d : Edition} → e ≡ d → d ≡ Current → (r.kind ≡ 6 → ⊥) → form_finding e r ≡ Fit
+        pub any_order : {d : Edition} → e ≡ d → d ≡ Current → (r.kind ≡ 6 → ⊥) → form_finding e r ≡ Ok tt
         unfolding order_row
         any_order q c m = by_order m ∙ rw (q, c)
 
-        pub in_order : {d : Edition} → e ≡ d → d ≡ Former → (r.kind ≡ 6 → ⊥) → form_finding e r ≡ row (rising r) Order Fit
+        pub in_order : {d : Edition} → e ≡ d → d ≡ Former → (r.kind ≡ 6 → ⊥) → form_finding e r ≡ row (rising r) Order (Ok tt)
         unfolding order_row
         in_order q f m = by_order m ∙ rw (q, f)
 
 -- row 8 of a record of the former edition
 module _ (r : Record) where
-  pub not-part : (r.kind ≡ 1 → ⊥) → row (rising r) Order Fit ≡ Fit
+  pub not-part : (r.kind ≡ 1 → ⊥) → row (rising r) Order (Ok tt) ≡ Ok tt
   not-part n = simp (ne_eqb r.kind 1 n)
 
   module _ (n : r.kind ≡ 1) where
-    pub ordered : r.b < r.a → row (rising r) Order Fit ≡ Fit
+    pub ordered : r.b < r.a → row (rising r) Order (Ok tt) ≡ Ok tt
     ordered o = simp (eq-eqb r.kind 1 n, lt-leb r.a r.b o)
 
-    pub disordered : r.a ≤ r.b → row (rising r) Order Fit ≡ Unfit Order
+    pub disordered : r.a ≤ r.b → row (rising r) Order (Ok tt) ≡ Err Order
     disordered o = simp (eq-eqb r.kind 1 n, le-leb r.a r.b o)
 
 -- row 19 of a mark
 module _ (r : Record) where
-  pub no-piece : r.a ≡ 0 → row (bad_mark r) VoidForm Fit ≡ Unfit VoidForm
+  pub no-piece : r.a ≡ 0 → row (bad_mark r) VoidForm (Ok tt) ≡ Err VoidForm
   no-piece e = simp (eq-eqb r.a 0 e)
 
   module _ (a : r.a ≡ 0 → ⊥) where
-    pub second-piece : (r.b ≡ 0 → ⊥) → row (bad_mark r) VoidForm Fit ≡ Unfit VoidForm
+    pub second-piece : (r.b ≡ 0 → ⊥) → row (bad_mark r) VoidForm (Ok tt) ≡ Err VoidForm
     second-piece b = simp (ne_eqb r.a 0 a, ne_eqb r.b 0 b)
 
-    pub good-mark : r.b ≡ 0 → row (bad_mark r) VoidForm Fit ≡ Fit
+    pub good-mark : r.b ≡ 0 → row (bad_mark r) VoidForm (Ok tt) ≡ Ok tt
     good-mark b = simp (ne_eqb r.a 0 a, eq-eqb r.b 0 b)
 
 -- What a record is that passes rows 5 to 8, 19 among them.
@@ -111,7 +111,7 @@ pub record Formed (e : Edition) (r : Record) : Type 0 where
   pub marking : r.kind ≡ 6 → (0 < r.a) × (r.b ≡ 0)
   pub order : order_row e r ≡ false
 
-pub row-fit : (b : Bool) (x : Refusal) (f : Finding) → row b x f ≡ Fit → (b ≡ false) × (f ≡ Fit)
+pub row-fit : (b : Bool) (x : Refusal) (f : Finding) → row b x f ≡ Ok tt → (b ≡ false) × (f ≡ Ok tt)
 row-fit true x f e = absurd (let z : ◌≡◌ {A = ℕ} 0 1 = cc in omega arith)
 row-fit false x f e = (refl, e)
 
@@ -126,7 +126,7 @@ in-form r e k = pick (known (eqb r.a 0)) (known (eqb r.b 0))
     pick (is_false a) (is_false b) = absurd (false≢true (sym bad ∙ rw (a, b)))
     pick (is_false a) (is_true b) = (omega (arith, eqb-false r.a 0 a), eqb-true r.b 0 b)
 
-pub formed : (e : Edition) (r : Record) → form_finding e r ≡ Fit → Formed e r
+pub formed : (e : Edition) (r : Record) → form_finding e r ≡ Ok tt → Formed e r
 unfolding form_finding
 formed e r q =
     let k = row-fit (kind_row e r) _ _ q in
@@ -143,10 +143,10 @@ formed e r q =
     }
 
 -- and such a record passes them
-pub fits : (e : Edition) (r : Record) → Formed e r → form_finding e r ≡ Fit
+pub fits : (e : Edition) (r : Record) → Formed e r → form_finding e r ≡ Ok tt
 fits e r F = pick (ℕ_discrete r.kind 6)
   where
-    pick : Dec (r.kind ≡ 6) → form_finding e r ≡ Fit
+    pick : Dec (r.kind ≡ 6) → form_finding e r ≡ Ok tt
     pick (yes m) =
         let f = F.marking m in marks-one e r F.kind F.known F.named m ∙ good-mark r (λ a. omega (arith, f.0)) f.1
     pick (no m) = by_order e r F.kind F.known F.named m ∙ rw F.order

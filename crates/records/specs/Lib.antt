@@ -14,3 +14,4 @@ pub mod CheckNumbers
 pub mod PartIn
 pub mod Contradiction
 pub mod Claimed
+pub mod Refused

@@ -1,11 +1,10 @@
 -- The numbers of the refusals, one for each row of document 01's table but 2, which R-1 took away, and for those of later requests, and what one row
 -- says.
 -- Assumes nothing.
-use Rattle.std.specs.Prelude.{ℕ, zero, suc, Bool, true, false}
+use Rattle.records.specs.Refused.{Finding}
+use Rattle.std.specs.Prelude.{ℕ, zero, suc, Bool, true, false, Err, Ok}
 use Rattle.records.specs.declared.Refusal.{Refusal}
 use Rattle.records.specs.declared.Refusal.TheVariants.{ShortBuffer, BookLength, TooManyRecords, Kind, Origin, PieceNumber, Order, Repeat, ClaimsLength, TooManyClaims, ClaimFormat, ClaimPiece, Contradiction, ShortSteps, TooManyPieces, ShortCatalog, NotStanding, VoidForm, LogLength, ReplicatePiece}
-use Rattle.records.specs.declared.Finding.{Finding}
-use Rattle.records.specs.declared.Finding.TheVariants.{Fit, Unfit}
 
 abbrev pub refusal_number : Refusal → ℕ
 refusal_number ShortBuffer = 1
@@ -31,13 +30,13 @@ refusal_number ReplicatePiece = 21
 
 -- a row that refuses, or the rows below it
 abbrev pub row : Bool → Refusal → Finding → Finding
-row true r below = Unfit r
+row true r below = Err r
 row false r below = below
 
 -- what a finding leads to
 abbrev pub judge : {A : Type 0} → (Refusal → A) → A → Finding → A
-judge refused rest Fit = rest
-judge refused rest (Unfit r) = refused r
+judge refused rest (Ok _) = rest
+judge refused rest (Err r) = refused r
 
 -- n places from i on, in order: the first refusal found, with its place, or else the acceptance
 unfoldable pub scan : {A : Type 0} → (Refusal → ℕ → A) → A → (ℕ → Finding) → ℕ → ℕ → A

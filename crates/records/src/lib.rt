@@ -7,7 +7,6 @@ ghost use Rattle.records.specs.Record.{record_at};
 ghost use Rattle.records.specs.Kept.{bytes_at, bytes_where, sheets};
 ghost use Rattle.records.specs.Refusal.{refusal_number};
 ghost use Rattle.records.specs.declared.Refusal.TheVariants.{VoidForm, Order};
-ghost use Rattle.records.specs.declared.Finding.TheVariants.{Fit};
 ghost use Rattle.records.specs.Pieces.{stated, largest, piece_count};
 ghost use Rattle.records.specs.Sizes.{RECORD-BYTES};
 
@@ -54,30 +53,37 @@ pub struct Record {
     pub b: usize,
 }
 
-// The rows of document 01's table, in order, then those that came later. Row 2 is gone: a book without records is piece 0 alone. Row 8, Order, is the
-// former edition's.
-#[derive(Clone, Copy)]
+// The rows of document 01's table by their numbers, then those that came later. Row 2 is gone: a book without records is piece 0 alone. Row 8, Order,
+// is the former edition's.
+#[derive(Clone, Copy, Debug, PartialEq, Eq)]
 pub enum Refusal {
-    ShortBuffer,
-    BookLength,
-    TooManyRecords,
-    Kind,
-    Origin,
-    PieceNumber,
-    Order,
-    Repeat,
-    ClaimsLength,
-    TooManyClaims,
-    ClaimFormat,
-    ClaimPiece,
-    Contradiction,
-    ShortSteps,
-    TooManyPieces,
-    ShortCatalog,
-    NotStanding,
-    VoidForm,
-    LogLength,
-    ReplicatePiece,
+    ShortBuffer = 1,
+    BookLength = 3,
+    TooManyRecords = 4,
+    Kind = 5,
+    Origin = 6,
+    PieceNumber = 7,
+    Order = 8,
+    Repeat = 9,
+    ClaimsLength = 10,
+    TooManyClaims = 11,
+    ClaimFormat = 12,
+    ClaimPiece = 13,
+    Contradiction = 14,
+    ShortSteps = 15,
+    TooManyPieces = 16,
+    ShortCatalog = 17,
+    NotStanding = 18,
+    VoidForm = 19,
+    LogLength = 20,
+    ReplicatePiece = 21,
+}
+
+// Why a book, claims or a call are refused, and the place: a record's or claim's number.
+#[derive(Clone, Copy, Debug, PartialEq, Eq)]
+pub struct Refused {
+    pub refusal: Refusal,
+    pub place: usize,
 }
 
 // An edition of the format. The former one is what the converter takes: it has TRAY records, and later changes leave it alone.
@@ -87,58 +93,22 @@ pub enum Edition {
     Current,
 }
 
-// What some rows say of one thing.
-#[derive(Clone, Copy)]
-pub enum Finding {
-    Fit,
-    Unfit(Refusal),
-}
-
-// A book: accepted with its piece count, or the first refusal and its place.
-#[derive(Clone, Copy)]
-pub enum BookCheck {
-    Accepted(usize),
-    Refused(Refusal, usize),
-}
-
-// A claim that is read: of a kind and an origin that a claim may have, or not.
-#[derive(Clone, Copy)]
-pub enum Claim {
-    Sound(Record),
-    Unsound,
-}
-
-#[derive(Clone, Copy)]
-pub enum ClaimsCheck {
-    Accepted,
-    Refused(Refusal, usize),
+impl Refusal {
+    // Refused for this, at a place.
+    pub fn at(self, place: usize) -> Refused
+        ensures { result ≡ record { refusal = self; place = place } }
+    {
+        Refused {
+            refusal: self,
+            place,
+        }
+    }
 }
 
 pub fn refusal_number(r: Refusal) -> u8
     ensures { result ≡ refusal_number r }
 {
-    match r {
-        Refusal::ShortBuffer => 1,
-        Refusal::BookLength => 3,
-        Refusal::TooManyRecords => 4,
-        Refusal::Kind => 5,
-        Refusal::Origin => 6,
-        Refusal::PieceNumber => 7,
-        Refusal::Order => 8,
-        Refusal::Repeat => 9,
-        Refusal::ClaimsLength => 10,
-        Refusal::TooManyClaims => 11,
-        Refusal::ClaimFormat => 12,
-        Refusal::ClaimPiece => 13,
-        Refusal::Contradiction => 14,
-        Refusal::ShortSteps => 15,
-        Refusal::TooManyPieces => 16,
-        Refusal::ShortCatalog => 17,
-        Refusal::NotStanding => 18,
-        Refusal::VoidForm => 19,
-        Refusal::LogLength => 20,
-        Refusal::ReplicatePiece => 21,
-    }
+    r as u8
 }
 
 // The one reader of records. Claims have the same layout.
@@ -158,26 +128,19 @@ pub fn record_at(s: &[u8], i: usize) -> Record
 }
 
 // Kinds 1 to 4.
+#[tactic(auto, unfolding(crate::specs::Pieces::stated))]
 pub fn states_fact(r: Record) -> bool
     ensures { result ≡ stated r }
 {
-    if r.kind < 1 {
-        return false;
-    }
-    r.kind <= crate::NOTPART
+    crate::PART <= r.kind && r.kind <= crate::NOTPART
 }
 
 // The largest piece number that a record names: a in every kind, b in kinds 1 to 4.
+#[tactic(auto, unfolding(crate::specs::Pieces::largest))]
 pub fn largest_named(r: Record) -> usize
     ensures { result ≡ largest r }
 {
-    if !states_fact(r) {
-        return r.a;
-    }
-    if r.a < r.b {
-        return r.b;
-    }
-    r.a
+    if states_fact(r) { r.a.max(r.b) } else { r.a }
 }
 
 // One more than the largest number that the records of a run name.
@@ -186,26 +149,20 @@ pub fn piece_count(run: &[u8]) -> usize
 {
     let n = run.len() / crate::RECORD_BYTES;
     let mut pieces: usize = 1;
-    let mut i: usize = 0;
-    while i < n {
-        pieces = numbers::larger_of(pieces, largest_named(record_at(run, i)) + 1);
-        i += 1;
+    for i in 0..n {
+        pieces = pieces.max(largest_named(record_at(run, i)) + 1);
     }
     pieces
 }
 
 // Copies the six bytes of record i to place `at`.
+#[tactic(auto, unfolding(crate::specs::Kept::bytes_at))]
 fn copy_record(s: &[u8], i: usize, out: &mut [u8], at: usize)
     requires { (RECORD-BYTES * i + RECORD-BYTES ≤ length s.now) × (at + RECORD-BYTES ≤ length out.old) }
     ensures { out.new ≡ placed at (bytes_at s.now i) out.old }
 {
     let from = RECORD_BYTES * i;
-    out[at] = s[from];
-    out[at + 1] = s[from + 1];
-    out[at + 2] = s[from + 2];
-    out[at + 3] = s[from + 3];
-    out[at + 4] = s[from + 4];
-    out[at + 5] = s[from + 5];
+    numbers::copy_to(&s[from..][..RECORD_BYTES], out, at);
 }
 
 // Copies record i to place `at`, if so told, and says where the next one goes.
@@ -227,11 +184,9 @@ pub fn keep_sheets(s: &[u8], out: &mut [u8]) -> usize
 {
     let n = s.len() / crate::RECORD_BYTES;
     let mut at: usize = 0;
-    let mut i: usize = 0;
-    while i < n {
+    for i in 0..n {
         let r = record_at(s, i);
         at = copy_where(r.origin == 0, s, i, out, at);
-        i += 1;
     }
     at
 }

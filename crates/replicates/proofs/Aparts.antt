@@ -1,4 +1,6 @@
 -- The bytes of an accepted part count what is derived, and what every model keeps. Assumes nothing.
+use Rattle.std.specs.Prelude.{Err, Ok}
+use Rattle.outcomes.specs.Accepted.{Outcome, accepted_with}
 use Prim.Native.Nat.{ℕ, ◌+◌, ◌-◌, ◌<◌}
 use mathlib.Core.Path.{◌≡◌, refl, ap, subst, ◌∙◌}
 use mathlib.Core.Bool.{Bool}
@@ -19,15 +21,12 @@ use Rattle.records.specs.Facts.{facts}
 use Rattle.records.specs.Marked.{marked}
 use Rattle.records.specs.Pieces.{piece_count}
 use Rattle.records.specs.Check.{book_check}
-use Rattle.records.specs.declared.BookCheck.TheVariants as book
 use Rattle.records.proofs.Accepted.{accepted}
 use Rattle.records.proofs.Rows.{refused-positive}
 use Rattle.contradiction.proofs.SettlingLaws.{settleable, whole-unmarked, beyond-free, free-consistent}
 use Rattle.outcomes.specs.Lent.{lent}
 use Rattle.outcomes.specs.Outcome.{number}
 use Rattle.outcomes.specs.Fresh.{fresh_call}
-use Rattle.outcomes.specs.declared.Outcome.{Outcome}
-use Rattle.outcomes.specs.declared.Outcome.TheVariants.{Accepted, Refused}
 use Rattle.outcomes.proofs.Outcomes.{Told, told}
 use Rattle.answers.proofs.Fresh.{fresh-is, roomy-long}
 use Rattle.replicates.specs.declared.Window.{Window}
@@ -41,10 +40,10 @@ use Rattle.replicates.proofs.Joins.{sent_is}
 
 -- an accepted book passes its rows and is not contradictory
 sound-free :
-    (s : List ℕ) {n v h : ℕ} → fresh_call s [] ≡ Accepted n v h → (sound : book_check s ≡ book.Accepted n) × (Contradictory (marked s) n (facts s) → ⊥)
+    (s : List ℕ) {n v h : ℕ} → fresh_call s [] ≡ accepted_with n v h → (sound : book_check s ≡ Ok n) × (Contradictory (marked s) n (facts s) → ⊥)
 sound-free s {n} {v} {h} e =
     let l = lent (replicate 2560 0) (replicate 1280 0) (replicate 8192 0) (replicate 2048 0) [] in
-    let t : Told s [] l (Accepted n v h) = subst (Told s [] l) (fresh-is s [] l roomy-long ∙ e) (told s [] l) in
+    let t : Told s [] l (accepted_with n v h) = subst (Told s [] l) (fresh-is s [] l roomy-long ∙ e) (told s [] l) in
     let sound = t.0.sound in
     let S = settleable s n sound in
     let z = whole-unmarked s n sound in
@@ -65,7 +64,7 @@ below n w log F j l = at (dec_lt j (length (handed w)))
         let k : i < entry_count log = omega (arith, sequence-length w log) in
         rw (← e, get_or-append-add (handed w) (entries log) i 0, tab-at (entry_at log) (entry_count log) i 0 k) (F.entries i k)
 
-module _ (s : List ℕ) (n : ℕ) (sound : book_check s ≡ book.Accepted n) (ok : Contradictory (marked s) n (facts s) → ⊥) where
+module _ (s : List ℕ) (n : ℕ) (sound : book_check s ≡ Ok n) (ok : Contradictory (marked s) n (facts s) → ⊥) where
   derived : ByDerivations s n (apart_in s n)
   derived x y a b = let B = (settleable s n sound).bounded in follows-iff (marked s) n (facts s) B.within B.some (APART x y) (a, b)
 
@@ -76,7 +75,7 @@ module _ (s : List ℕ) (n : ℕ) (sound : book_check s ≡ book.Accepted n) (ok
       let v = follows-everywhere (marked s) n (facts s) B.within B.some (whole-unmarked s n sound) ok (APART x y) (a, b) in
       (λ t. v.0 (d.0 t), λ m. d.1 (v.1 m))
 
-  module _ (w : Window) (log out : List ℕ) (F : Fits n w log) {v h : ℕ} (e : outcome s w log (length out) ≡ Accepted n v h) where
+  module _ (w : Window) (log out : List ℕ) (F : Fits n w log) {v h : ℕ} (e : outcome s w log (length out) ≡ accepted_with n v h) where
     by : (R : ℕ → ℕ → Bool) → ((x y : ℕ) → x < n → y < n → apart_in s n x y ≡ R x y) → Bytes s w log out R
     unfolding left bytes_in
     by R same =
@@ -100,8 +99,8 @@ unfolding fresh_call
 apart-certain s w log out z = pick (outcome s w log (length out)) refl z
   where
     pick : (o : Outcome) → outcome s w log (length out) ≡ o → number o ≡ 0 → Certain s (piece_count s) w log out
-    pick (Refused r i) e q = absurd (refused-positive r q)
-    pick (Accepted n v h) e q =
-        let p = sent_is s w log (length out) n v h e in
+    pick (Err r) e q = absurd (refused-positive r.refusal q)
+    pick (Ok n) e q =
+        let p = sent_is s w log (length out) n.pieces n.nodes n.shadows e in
         let f = sound-free s p.0 in
-        subst (λ (m : ℕ). Certain s m w log out) (accepted s n f.0).count (certain s n f.0 f.1 w log out p.2 e)
+        subst (λ (m : ℕ). Certain s m w log out) (accepted s n.pieces f.0).count (certain s n.pieces f.0 f.1 w log out p.2 e)

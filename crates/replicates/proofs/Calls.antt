@@ -1,4 +1,7 @@
 -- The call put together: what its inner functions ask and give, and its outcome, window and bytes. Assumes nothing.
+use Rattle.std.specs.Prelude.{Ok}
+use Rattle.records.specs.Refused.{refused_at}
+use Rattle.outcomes.specs.Accepted.{accepted_with}
 use Prim.Native.Nat.{ℕ, ◌+◌, ◌-◌, ◌*◌, ◌<◌, ◌≤◌}
 use mathlib.Core.Path.{◌≡◌, refl, sym, ap, ap₂, ◌∙◌}
 use mathlib.Core.Bool.{false}
@@ -13,7 +16,6 @@ use Rattle.records.specs.Facts.{facts}
 use Rattle.records.specs.Marked.{marked}
 use Rattle.records.specs.Check.{book_check, claims_check}
 use Rattle.records.specs.Refusal.{scan}
-use Rattle.records.specs.declared.BookCheck.TheVariants as book
 use Rattle.records.specs.declared.Refusal.{Refusal}
 use Rattle.records.specs.declared.Refusal.TheVariants.{ShortBuffer, Contradiction}
 use Rattle.index.specs.Parts.{shadows}
@@ -21,7 +23,6 @@ use Rattle.groups.specs.Index.{book_visits}
 use Rattle.contradiction.specs.Settled.{Clashed}
 use Rattle.closure.specs.Apart.{Aparts}
 use Rattle.outcomes.specs.Call.{pairs_of, by_runs, by_claims, by_book}
-use Rattle.outcomes.specs.declared.Outcome.TheVariants.{Accepted, Refused}
 use Rattle.claims.proofs.Counts.{own-count}
 use Rattle.answers.proofs.Judges.{refuses, accepts}
 use Rattle.replicates.specs.declared.Window.{Window}
@@ -68,26 +69,26 @@ module _ (s : List ℕ) (n : ℕ) (w : Window) (log : List ℕ) (few : w.count �
 
 -- ---- behind rows 1 to 9
 
-module _ (s : List ℕ) (n : ℕ) (sound : book_check s ≡ book.Accepted n) (w : Window) (log out : List ℕ) where
-  refused : (r : Refusal) (i : ℕ) (d : Replicated) → d ≡ record { outcome = Refused r i; window = w } → Refused r i ≡ by_part w log (by_runs s n) → Judged s n w log out d out
+module _ (s : List ℕ) (n : ℕ) (sound : book_check s ≡ Ok n) (w : Window) (log out : List ℕ) where
+  refused : (r : Refusal) (i : ℕ) (d : Replicated) → d ≡ record { outcome = refused_at r i; window = w } → refused_at r i ≡ by_part w log (by_runs s n) → Judged s n w log out d out
   unfolding handed_back left
   refused r i d q e = rw q (record { outcome-is = e; window-is = refl; bytes-are = refl })
 
-  pub clash-refused : (place : ℕ) (d : Replicated) → d ≡ record { outcome = Refused Contradiction place; window = w } → Clashed (marked s) n s place → Judged s n w log out d out
+  pub clash-refused : (place : ℕ) (d : Replicated) → d ≡ record { outcome = refused_at Contradiction place; window = w } → Clashed (marked s) n s place → Judged s n w log out d out
   unfolding by_part
   clash-refused place d q C = refused Contradiction place d q (ap (by_part w log) (refuses s n (own-count sound) place C))
 
   module _ {nodes shadowed : ℕ} (c : false ≡ clash (marked s) n (facts s)) (k : (nodes ≡ length (book_visits n (pairs_of s))) × (shadowed ≡ length (shadows (book_visits n (pairs_of s))))) where
-    free : Accepted n nodes shadowed ≡ by_runs s n
+    free : accepted_with n nodes shadowed ≡ by_runs s n
     free = accepts s n (own-count sound) nodes shadowed c k.0 k.1
 
     pub part-refused :
-        (r : Refusal) (i : ℕ) (d : Replicated) → d ≡ record { outcome = Refused r i; window = w } → Refused r i ≡ by_part w log (Accepted n nodes shadowed) → Judged s n w log out d out
+        (r : Refusal) (i : ℕ) (d : Replicated) → d ≡ record { outcome = refused_at r i; window = w } → refused_at r i ≡ by_part w log (accepted_with n nodes shadowed) → Judged s n w log out d out
     part-refused r i d e q = refused r i d e (q ∙ ap (by_part w log) free)
 
     pub part-written :
-        (a b c : ℕ) (w' : Window) (out' : List ℕ) → Accepted a b c ≡ by_part w log (Accepted n nodes shadowed) → w' ≡ window_of (sequence w log)
-        → out' ≡ front (bytes_in s n w log) out → Judged s n w log out (record { outcome = Accepted a b c; window = w' }) out'
+        (a b c : ℕ) (w' : Window) (out' : List ℕ) → accepted_with a b c ≡ by_part w log (accepted_with n nodes shadowed) → w' ≡ window_of (sequence w log)
+        → out' ≡ front (bytes_in s n w log) out → Judged s n w log out (record { outcome = accepted_with a b c; window = w' }) out'
     unfolding handed_back left
     part-written a b c w' out' q v o =
         let z = (passes n nodes shadowed log w {a = a} {b = b} {c = c} (sym q)).1 in
@@ -97,7 +98,7 @@ module _ (s : List ℕ) (n : ℕ) (sound : book_check s ≡ book.Accepted n) (w 
 -- ---- rows 1 to 9
 
 module _ (s : List ℕ) (w : Window) (log out : List ℕ) where
-  pub short-refused : (d : Replicated) → d ≡ record { outcome = Refused ShortBuffer 0; window = w } → length out < 2 * entry_count log → Determined s w log out d out
+  pub short-refused : (d : Replicated) → d ≡ record { outcome = refused_at ShortBuffer 0; window = w } → length out < 2 * entry_count log → Determined s w log out d out
   unfolding outcome handed_back left
   short-refused d q l = rw q (record { outcome-is = sym (rw (lt-ltb (length out) (2 * entry_count log) l, outcome)); window-is = refl; bytes-are = refl })
 
@@ -105,11 +106,11 @@ module _ (s : List ℕ) (w : Window) (log out : List ℕ) where
   unfolding outcome
   roomy l = rw (le-ltb (length out) (2 * entry_count log) l, outcome)
 
-  pub book-refused : (r : Refusal) (i : ℕ) (d : Replicated) → d ≡ record { outcome = Refused r i; window = w } → 2 * entry_count log ≤ length out → book_check s ≡ book.Refused r i → Determined s w log out d out
+  pub book-refused : (r : Refusal) (i : ℕ) (d : Replicated) → d ≡ record { outcome = refused_at r i; window = w } → 2 * entry_count log ≤ length out → book_check s ≡ refused_at r i → Determined s w log out d out
   unfolding by_book by_part handed_back left
   book-refused r i d q l e = rw q (record { outcome-is = sym (roomy l ∙ ap (λ (b : _). by_part w log (by_book s [] b)) e); window-is = refl; bytes-are = refl })
 
-  pub judged-all : (n : ℕ) (r : Replicated) (out' : List ℕ) → 2 * entry_count log ≤ length out → book_check s ≡ book.Accepted n → Judged s n w log out r out' → Determined s w log out r out'
+  pub judged-all : (n : ℕ) (r : Replicated) (out' : List ℕ) → 2 * entry_count log ≤ length out → book_check s ≡ Ok n → Judged s n w log out r out' → Determined s w log out r out'
   unfolding by_book by_claims claims_check scan
   judged-all n r out' l e J =
       record {

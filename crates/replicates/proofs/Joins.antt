@@ -1,4 +1,7 @@
 -- `parts_join`: a log sent in parts gives the bytes of the whole log, and the same window. Assumes nothing.
+use Rattle.std.specs.Prelude.{Err, Ok}
+use Rattle.records.specs.Refused.{refused_at}
+use Rattle.outcomes.specs.Accepted.{Outcome, accepted_with}
 use Prim.Native.Nat.{ℕ, ◌+◌, ◌-◌, ◌*◌, ◌/◌, ◌%◌, ◌<◌, ◌≤◌}
 use mathlib.Core.Path.{◌≡◌, refl, sym, ap, ap₂, ◌∙◌}
 use mathlib.Core.Logic.{◌⊎◌, inl, inr}
@@ -16,8 +19,6 @@ use Rattle.records.specs.Check.{book_check}
 use Rattle.records.specs.declared.Refusal.{Refusal}
 use Rattle.records.specs.declared.Refusal.TheVariants.{ShortBuffer}
 use Rattle.outcomes.specs.Call.{by_book}
-use Rattle.outcomes.specs.declared.Outcome.{Outcome}
-use Rattle.outcomes.specs.declared.Outcome.TheVariants.{Accepted, Refused}
 use Rattle.replicates.specs.declared.Window.{Window}
 use Rattle.replicates.specs.Before.{bytes_from}
 use Rattle.replicates.specs.Log.{entry_count, entry_at, entries, handed, sequence, last_of, window_of}
@@ -137,29 +138,29 @@ module _ (w : Window) (a b : List ℕ) (even : Even a) where
 -- ---- acceptance
 
 pub sent_is :
-    (s : List ℕ) (w : Window) (log : List ℕ) (room n nodes shadows : ℕ) → outcome s w log room ≡ Accepted n nodes shadows
-    → (by_book s [] (book_check s) ≡ Accepted n nodes shadows) × Even log × Fits n w log
+    (s : List ℕ) (w : Window) (log : List ℕ) (room n nodes shadows : ℕ) → outcome s w log room ≡ accepted_with n nodes shadows
+    → (by_book s [] (book_check s) ≡ accepted_with n nodes shadows) × Even log × Fits n w log
 unfolding outcome by_part
 sent_is s w log room n nodes shadows e = first (known (ltb room (2 * entry_count log)))
   where
-    never : (r : Refusal) (i : ℕ) → Refused r i ≡ Accepted n nodes shadows → ⊥
+    never : (r : Refusal) (i : ℕ) → refused_at r i ≡ accepted_with n nodes shadows → ⊥
     never r i q = let z : ◌≡◌ {A = ℕ} 0 1 = cc in omega arith
 
-    go : (o : Outcome) → by_book s [] (book_check s) ≡ o → by_part w log o ≡ Accepted n nodes shadows → (by_book s [] (book_check s) ≡ Accepted n nodes shadows) × Even log × Fits n w log
-    go (Refused r i) q h = absurd (never r i h)
-    go (Accepted m v u) q h =
-        let p = passes m v u log w {a = n} {b = nodes} {c = shadows} h in
+    go : (o : Outcome) → by_book s [] (book_check s) ≡ o → by_part w log o ≡ accepted_with n nodes shadows → (by_book s [] (book_check s) ≡ accepted_with n nodes shadows) × Even log × Fits n w log
+    go (Err r) q h = absurd (never r.refusal r.place h)
+    go (Ok m) q h =
+        let p = passes m.pieces m.nodes m.shadows log w {a = n} {b = nodes} {c = shadows} h in
         let z = p.1 in
-        let k : m ≡ n = cc in
-        (q ∙ z, passed m v u log w {a = n} {b = nodes} {c = shadows} h, rw k at p.0)
+        let k : m.pieces ≡ n = cc in
+        (q ∙ z, passed m.pieces m.nodes m.shadows log w {a = n} {b = nodes} {c = shadows} h, rw k at p.0)
 
-    first : Known (ltb room (2 * entry_count log)) → (by_book s [] (book_check s) ≡ Accepted n nodes shadows) × Even log × Fits n w log
+    first : Known (ltb room (2 * entry_count log)) → (by_book s [] (book_check s) ≡ accepted_with n nodes shadows) × Even log × Fits n w log
     first (is_true t) = absurd (never ShortBuffer 0 (sym (rw (t, outcome)) ∙ e))
     first (is_false t) = go (by_book s [] (book_check s)) refl (sym (rw (t, outcome)) ∙ e)
 
 unsent :
-    (s : List ℕ) (w : Window) (log : List ℕ) (room n nodes shadows : ℕ) → 2 * entry_count log ≤ room → by_book s [] (book_check s) ≡ Accepted n nodes shadows → Even log → Fits n w log
-    → outcome s w log room ≡ Accepted n nodes shadows
+    (s : List ℕ) (w : Window) (log : List ℕ) (room n nodes shadows : ℕ) → 2 * entry_count log ≤ room → by_book s [] (book_check s) ≡ accepted_with n nodes shadows → Even log → Fits n w log
+    → outcome s w log room ≡ accepted_with n nodes shadows
 unfolding outcome
 unsent s w log room n nodes shadows l e even F =
     rw (le-ltb room (2 * entry_count log) l, outcome) (ap (by_part w log) e ∙ all-passes n nodes shadows log w even F)

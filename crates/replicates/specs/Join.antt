@@ -1,6 +1,6 @@
 -- A log sent in parts, none refused, with one book and the window handed from call to call. Assumes nothing.
+use Rattle.outcomes.specs.Accepted.{accepted_with}
 use Rattle.std.specs.Prelude.{ℕ, ◌*◌, ◌≤◌, ◌≡◌, List, [], ◌∷◌, ◌++◌}
-use Rattle.outcomes.specs.declared.Outcome.TheVariants.{Accepted}
 use Rattle.replicates.specs.declared.Window.{Window}
 use Rattle.replicates.specs.Log.{entry_count, sequence, window_of}
 use Rattle.replicates.specs.Call.{outcome, bytes_in}
@@ -13,7 +13,7 @@ whole (part ∷ rest) = part ++ whole rest
 -- each part is accepted, in an output of some length, with the window that the part before it handed back
 abbrev pub Sent : List ℕ → Window → ℕ → ℕ → ℕ → List (List ℕ) → Type 0
 Sent s w n nodes shadows [] = Unit {0}
-Sent s w n nodes shadows (part ∷ rest) = ((room : ℕ) × (outcome s w part room ≡ Accepted n nodes shadows)) × Sent s (window_of (sequence w part)) n nodes shadows rest
+Sent s w n nodes shadows (part ∷ rest) = ((room : ℕ) × (outcome s w part room ≡ accepted_with n nodes shadows)) × Sent s (window_of (sequence w part)) n nodes shadows rest
 
 -- the bytes of one part after the other, and the last window
 unfoldable pub bytes_sent : List ℕ → ℕ → Window → List (List ℕ) → List ℕ
@@ -28,7 +28,7 @@ window_sent w (part ∷ rest) = window_sent (window_of (sequence w part)) rest
 pub record Joined (s : List ℕ) (w : Window) (n nodes shadows : ℕ) (parts : List (List ℕ)) : Type 0 where
   pub bytes-are : bytes_sent s n w parts ≡ bytes_in s n w (whole parts)
   pub window-is : window_sent w parts ≡ window_of (sequence w (whole parts))
-  pub accepted : (room : ℕ) → 2 * entry_count (whole parts) ≤ room → entry_count (whole parts) ≤ 32768 → outcome s w (whole parts) room ≡ Accepted n nodes shadows
+  pub accepted : (room : ℕ) → 2 * entry_count (whole parts) ≤ room → entry_count (whole parts) ≤ 32768 → outcome s w (whole parts) room ≡ accepted_with n nodes shadows
 
 abbrev pub PartsJoin : Type 0
 PartsJoin = (s : List ℕ) (w : Window) (n nodes shadows : ℕ) (first : List ℕ) (rest : List (List ℕ)) → Sent s w n nodes shadows (first ∷ rest) → Joined s w n nodes shadows (first ∷ rest)

@@ -1,10 +1,9 @@
 -- What the inner functions of the call promise each other. Assumes nothing.
-use Rattle.std.specs.Prelude.{ℕ, ◌+◌, ◌*◌, ◌<◌, ◌≤◌, ◌≡◌, false, List, length, get_or}
+use Rattle.std.specs.Prelude.{ℕ, ◌+◌, ◌*◌, ◌<◌, ◌≤◌, ◌≡◌, false, List, length, get_or, Ok}
 use Rattle.rules.specs.Follows.{clash}
 use Rattle.records.specs.Facts.{facts}
 use Rattle.records.specs.Marked.{marked}
 use Rattle.records.specs.Check.{book_check}
-use Rattle.records.specs.declared.BookCheck.TheVariants as book
 use Rattle.closure.specs.Void.{void_of, Voids}
 use Rattle.closure.specs.Stepped.{Stepped}
 use Rattle.closure.specs.Closed.{Holds, part_bit}
@@ -24,7 +23,7 @@ pub record Fits (n : ℕ) (w : Window) (log : List ℕ) : Type 0 where
 
 -- a book that is not contradictory: its marks, steps and D
 pub record Free (s : List ℕ) (n : ℕ) (voids e order lead d : List ℕ) : Type 0 where
-  pub sound : book_check s ≡ book.Accepted n
+  pub sound : book_check s ≡ Ok n
   pub void : Voids voids × (void_of voids ≡ marked s)
   pub free : false ≡ clash (void_of voids) n (facts s)
   pub steps : Stepped n (facts s) e order lead
@@ -32,7 +31,7 @@ pub record Free (s : List ℕ) (n : ℕ) (voids e order lead d : List ℕ) : Typ
 
 -- the rows of what is APART in a book, a window and a part that fit, and room for the bytes
 pub record Writable (s : List ℕ) (n : ℕ) (a : List ℕ) (w : Window) (log : List ℕ) (room : ℕ) : Type 0 where
-  pub sound : book_check s ≡ book.Accepted n
+  pub sound : book_check s ≡ Ok n
   pub aparts : Aparts (marked s) n (facts s) a
   pub fits : Fits n w log
   pub wide : 2 * entry_count log ≤ room

@@ -1,7 +1,9 @@
 // Replicates in the measurement log: for each entry how many of the up to 31 before it are certainly APART from it, and whether every two of these are.
 #![tactic(auto)]
 
-ghost use Rattle.std.specs.Prelude.{◌≡◌, length, ◌+◌, ◌*◌, ◌-◌, ◌<◌, ◌≤◌};
+ghost use Rattle.records.specs.Refused.{refused_at};
+ghost use Rattle.outcomes.specs.Accepted.{accepted_with};
+ghost use Rattle.std.specs.Prelude.{◌≡◌, length, ◌+◌, ◌*◌, ◌-◌, ◌<◌, ◌≤◌, Ok};
 ghost use Rattle.lists.specs.Front.{front};
 ghost use Rattle.lists.specs.Tally.{num};
 ghost use Rattle.matrices.specs.Matrix.{bit_of};
@@ -9,8 +11,6 @@ ghost use Rattle.replicates.specs.Before.{bytes_from};
 ghost use Rattle.replicates.specs.Looking.{Sequence};
 ghost use Rattle.records.specs.Check.{book_check};
 ghost use Rattle.records.specs.Refusal.{scan};
-ghost use Rattle.records.specs.declared.BookCheck.TheVariants as on;
-ghost use Rattle.outcomes.specs.declared.Outcome.TheVariants.{Accepted, Refused};
 ghost use Rattle.replicates.specs.Log.{entry_count, entry_at, sequence, window_of};
 ghost use Rattle.replicates.specs.Call.{bad_window, entry_finding, by_part, bytes_in, Determined};
 ghost use Rattle.records.specs.Marked.{marked};
@@ -102,7 +102,7 @@ fn bad_window(n: usize, window: Window) -> bool
 
 // Row 21 of the entries, for a book with these counts.
 fn check_entries(n: usize, nodes: usize, shadows: usize, log: &[u8]) -> Outcome
-    ensures { result ≡ scan Refused (Accepted n nodes shadows) (entry_finding n log.now) 0 (entry_count log.now) }
+    ensures { result ≡ scan refused_at (accepted_with n nodes shadows) (entry_finding n log.now) 0 (entry_count log.now) }
 {
     let count = log.len() / ENTRY_BYTES;
     let mut i: usize = 0;
@@ -117,7 +117,7 @@ fn check_entries(n: usize, nodes: usize, shadows: usize, log: &[u8]) -> Outcome
 
 // Rows 20 and 21, for a book with these counts.
 fn check_part(n: usize, nodes: usize, shadows: usize, window: Window, log: &[u8]) -> Outcome
-    ensures { result ≡ by_part window log.now (Accepted n nodes shadows) }
+    ensures { result ≡ by_part window log.now (accepted_with n nodes shadows) }
 {
     if log.len() % ENTRY_BYTES != 0 {
         return Outcome::Refused(Refusal::LogLength, 0);
@@ -215,7 +215,7 @@ fn write_part(
 
 // A refused part hands back the window that came.
 fn refuse(refusal: Refusal, place: usize, window: Window) -> Replicated
-    ensures { result ≡ record { outcome = Refused refusal place; window = window } }
+    ensures { result ≡ record { outcome = refused_at refusal place; window = window } }
 {
     Replicated {
         outcome: Outcome::Refused(refusal, place),
@@ -235,7 +235,7 @@ fn judge(
     t: &mut Matrix,
     a: &mut Matrix,
 ) -> Replicated
-    requires { (book_check book.now ≡ on.Accepted n) × (2 * entry_count log.now ≤ length out.old) }
+    requires { (book_check book.now ≡ Ok n) × (2 * entry_count log.now ≤ length out.old) }
     ensures { Judged book.now n window log.now out.old result out.new }
 {
     let mut voids = [0u64; matrices::ROW_WORDS];

@@ -1,4 +1,6 @@
 -- A call's outcome and answers make the page. Assumes nothing.
+use Rattle.records.specs.Refused.{refused_at}
+use Rattle.outcomes.specs.Accepted.{Outcome, accepted_with}
 use Prim.Native.Nat.{ℕ, zero, suc, ◌≤◌, ◌<◌, ◌^◌}
 use mathlib.Core.Path.{◌≡◌, refl, ap, sym, ◌∙◌}
 use mathlib.Core.List.{List, ◌++◌}
@@ -10,8 +12,6 @@ use Rattle.records.specs.declared.Refusal.{Refusal}
 use Rattle.records.proofs.Rows.{refused-positive}
 use Rattle.outcomes.specs.Lent.{unasked}
 use Rattle.outcomes.specs.Call.{outcome, left}
-use Rattle.outcomes.specs.declared.Outcome.{Outcome}
-use Rattle.outcomes.specs.declared.Outcome.TheVariants.{Accepted, Refused}
 use Rattle.pages.specs.Put.{Put}
 use Rattle.pages.specs.Printed.{Printed}
 use Rattle.pages.proofs.Writing.{with-room, printed-as}
@@ -38,13 +38,13 @@ module _ (book claims answers : List ℕ) (o : Outcome) (d : Answered book claim
   told = rw (sym d.comes, sym d.leaves)
 
   module _ {p q : List ℕ} {e : ℕ} (long : 135285 ≤ length p) where
-    pub refused : (r : Refusal) (n i : ℕ) → o ≡ Refused r i → n ≡ refusal_number r → n < 2 ^ 64 → i < 2 ^ 64
+    pub refused : (r : Refusal) (n i : ℕ) → o ≡ refused_at r i → n ≡ refusal_number r → n < 2 ^ 64 → i < 2 ^ 64
         → Put p 0 (refusal_line n i) q e → Printed p (printed book claims) q e
     refused r n i is number hn hi a =
         let same : refusal_line n i ≡ printed book claims = rw (sym told, is, number) (refusal-page i claims answers (refusal_number r) (refused-positive r)) in
         printed-as same (with-room a (omega (arith, refusal-width n i hn hi)))
 
-    pub accepted : (pieces nodes shadows : ℕ) → o ≡ Accepted pieces nodes shadows → pieces < 2 ^ 64 → nodes < 2 ^ 64 → shadows < 2 ^ 64
+    pub accepted : (pieces nodes shadows : ℕ) → o ≡ accepted_with pieces nodes shadows → pieces < 2 ^ 64 → nodes < 2 ^ 64 → shadows < 2 ^ 64
         → ((j : ℕ) → get_or claims j 0 < 256) → length claims ≤ 24582
         → Put p 0 (counts_line pieces nodes shadows ++ claim_lines claims answers (records claims)) q e → Printed p (printed book claims) q e
     unfolding session

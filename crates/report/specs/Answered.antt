@@ -1,7 +1,7 @@
 -- What the call of a session comes to, in the buffers of document 01. Assumes nothing.
+use Rattle.outcomes.specs.Accepted.{Outcome}
 use Rattle.std.specs.Prelude.{◌≡◌, List, ℕ}
 use Rattle.outcomes.specs.Call.{outcome, left}
-use Rattle.outcomes.specs.declared.Outcome.{Outcome}
 use Rattle.report.specs.Page.{zeros}
 
 -- the outcome, and the answers that it leaves

@@ -1,9 +1,9 @@
 -- All that the program prints, from the bytes of the book and of the claims. Assumes nothing.
+use Rattle.outcomes.specs.Accepted.{Outcome}
 use Rattle.std.specs.Prelude.{ℕ, List, replicate}
 use Rattle.outcomes.specs.Lent.{Lent, lent}
 use Rattle.outcomes.specs.Call.{outcome, left}
 use Rattle.outcomes.specs.Outcome.{number, place, piece_count, node_count, shadow_count}
-use Rattle.outcomes.specs.declared.Outcome.{Outcome}
 use Rattle.report.specs.Session.{session}
 
 -- the buffers that the program lends: document 01's lengths, and an answer for each claim that it reads

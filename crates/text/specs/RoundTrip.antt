@@ -1,11 +1,9 @@
 -- Reading the text of a book, or of claims, gives back its bytes. Assumes nothing.
-use Rattle.std.specs.Prelude.{ℕ, ◌%◌, ◌≤◌, ◌<◌, ◌≡◌, Bool, true, ◌&&◌, List, leb, eqb, length, get_or}
+use Rattle.std.specs.Prelude.{ℕ, ◌%◌, ◌≤◌, ◌<◌, ◌≡◌, Bool, true, ◌&&◌, List, leb, eqb, length, get_or, Ok}
 use Rattle.records.specs.declared.Record.{Record}
 use Rattle.records.specs.Record.{record_at, records}
 use Rattle.records.specs.Pieces.{stated}
 use Rattle.records.specs.Check.{book_check, claims_check}
-use Rattle.records.specs.declared.BookCheck.TheVariants as book
-use Rattle.records.specs.declared.ClaimsCheck.TheVariants as claims
 use Rattle.text.specs.Tests.{if_true}
 use Rattle.text.specs.declared.Form.TheVariants.{Records, Claims}
 use Rattle.text.specs.Text.{Entries, read_text}
@@ -35,19 +33,19 @@ ClaimsRoundTrip = (s : List ℕ) → Shows claim_text s → records s ≤ 4097 �
 -- so for every book that its rows let pass, and every list of claims
 abbrev pub AcceptedRoundTrip : Type 0
 AcceptedRoundTrip =
-    (s : List ℕ) (pieces : ℕ) → ((k : ℕ) → get_or s k 0 < 256) → book_check s ≡ book.Accepted pieces → read_text Records (show_book s) ≡ Entries s
+    (s : List ℕ) (pieces : ℕ) → ((k : ℕ) → get_or s k 0 < 256) → book_check s ≡ Ok pieces → read_text Records (show_book s) ≡ Entries s
 
 abbrev pub AcceptedClaimsRoundTrip : Type 0
 AcceptedClaimsRoundTrip =
-    (s : List ℕ) (pieces : ℕ) → ((k : ℕ) → get_or s k 0 < 256) → claims_check pieces s ≡ claims.Accepted → read_text Claims (show_claims s) ≡ Entries s
+    (s : List ℕ) (pieces : ℕ) → ((k : ℕ) → get_or s k 0 < 256) → claims_check pieces s ≡ Ok tt → read_text Claims (show_claims s) ≡ Entries s
 
 -- and these are the same in either form
 abbrev pub SameInEither : Type 0
 SameInEither =
-    (s : List ℕ) (pieces : ℕ) → ((k : ℕ) → get_or s k 0 < 256) → book_check s ≡ book.Accepted pieces
+    (s : List ℕ) (pieces : ℕ) → ((k : ℕ) → get_or s k 0 < 256) → book_check s ≡ Ok pieces
     → (read_either Records s ≡ Entries s) × (read_either Records (show_book s) ≡ Entries s)
 
 abbrev pub ClaimsSameInEither : Type 0
 ClaimsSameInEither =
-    (s : List ℕ) (pieces : ℕ) → ((k : ℕ) → get_or s k 0 < 256) → claims_check pieces s ≡ claims.Accepted
+    (s : List ℕ) (pieces : ℕ) → ((k : ℕ) → get_or s k 0 < 256) → claims_check pieces s ≡ Ok tt
     → (read_either Claims s ≡ Entries s) × (read_either Claims (show_claims s) ≡ Entries s)

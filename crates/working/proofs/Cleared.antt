@@ -1,4 +1,5 @@
 -- A call with one claim on cleared buffers: a fresh call's outcome, and the answer byte. Assumes nothing.
+use Rattle.outcomes.specs.Accepted.{Outcome}
 use mathlib.Core.Path.{◌≡◌, refl, ap, ◌∙◌}
 use mathlib.Core.List.{List, [], ◌∷◌}
 use Prim.Native.Nat.{ℕ}
@@ -6,7 +7,6 @@ use native.Mathlib.Omega.{arith}
 use lib.ListN.{length, get_or, replicate, length-replicate}
 use Rattle.outcomes.specs.Lent.{unasked}
 use Rattle.outcomes.specs.Call.{outcome, left}
-use Rattle.outcomes.specs.declared.Outcome.{Outcome}
 use Rattle.outcomes.specs.Fresh.{fresh_call}
 use Rattle.answers.proofs.Fresh.{long-lent, fresh-is}
 use Rattle.working.specs.Rows.{answer_of}

@@ -1,5 +1,6 @@
 -- After any list of calls from a start the state and the area stand for the records that a plain list would hold, and each reply is the fresh call's
 -- on the records then standing. Assumes nothing.
+use Rattle.outcomes.specs.Accepted.{Outcome, accepted_with}
 use mathlib.Core.Path.{◌≡◌, refl, sym, ap, ap₂, ◌∙◌}
 use mathlib.Core.List.{List, [], ◌∷◌}
 use Prim.Native.Nat.{ℕ}
@@ -9,8 +10,6 @@ use Rattle.records.specs.Check.{book_check, claims_check}
 use Rattle.records.specs.Refusal.{scan}
 use Rattle.outcomes.specs.Lent.{lent}
 use Rattle.answers.proofs.Empty.{empty-outcome}
-use Rattle.outcomes.specs.declared.Outcome.{Outcome}
-use Rattle.outcomes.specs.declared.Outcome.TheVariants.{Accepted}
 use Rattle.working.specs.declared.keeping.Working.{Working}
 use Rattle.working.specs.declared.keeping.Asked.{Asked}
 use Rattle.outcomes.specs.Fresh.{fresh_call}
@@ -46,7 +45,7 @@ all-day {w = w} {area = area} {s = s} S (asks {c = c} r D P) =
     (ap₂ (λ (x : Reply) (ys : List Reply). x ∷ ys) (answered w area s c S r D) rest.0, rest.1)
 
 -- a fresh call on no records accepts piece 0 alone
-no-records : fresh_call [] [] ≡ Accepted 1 1 0
+no-records : fresh_call [] [] ≡ accepted_with 1 1 0
 unfolding claims_check scan
 no-records =
     let zeros : ℕ → List ℕ = λ n. replicate n 0 in

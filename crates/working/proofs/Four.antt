@@ -1,4 +1,7 @@
 -- An addition gets number 4 only with 8,192 or more records standing. Assumes nothing.
+use Rattle.std.specs.Prelude.{Err, Ok}
+use Rattle.records.specs.Refused.{BookCheck, Finding, refused_at}
+use Rattle.outcomes.specs.Accepted.{Outcome, accepted_with}
 use mathlib.Core.Path.{◌≡◌, refl, subst}
 use mathlib.Core.Bool.{Bool, true, false, not}
 use mathlib.Core.List.{List, []}
@@ -18,15 +21,9 @@ use Rattle.records.specs.declared.Edition.TheVariants.{Current}
 use Rattle.records.specs.declared.Record.{Record}
 use Rattle.records.specs.declared.Refusal.{Refusal}
 use Rattle.records.specs.declared.Refusal.TheVariants.{ShortBuffer, BookLength, TooManyRecords, Kind, Origin, PieceNumber, VoidForm, Order, Repeat, Contradiction}
-use Rattle.records.specs.declared.Finding.{Finding}
-use Rattle.records.specs.declared.Finding.TheVariants.{Fit, Unfit}
-use Rattle.records.specs.declared.BookCheck.{BookCheck}
-use Rattle.records.specs.declared.BookCheck.TheVariants as book
 use Rattle.groups.specs.Index.{book_visits}
 use Rattle.outcomes.specs.Call.{pairs_of, by_book, by_claims, by_runs}
 use Rattle.index.specs.Parts as on
-use Rattle.outcomes.specs.declared.Outcome.{Outcome}
-use Rattle.outcomes.specs.declared.Outcome.TheVariants.{Accepted, Refused}
 use Rattle.outcomes.specs.Fresh.{fresh_call}
 use Rattle.working.specs.Standing.{standing, extended}
 use Rattle.outcomes.specs.One.{refuse_if}
@@ -39,18 +36,18 @@ module _ (B : Type 0) where
   Only r = refusal_number r ≡ 4 → B
 
   abbrev Onlys : Finding → Type 0
-  Onlys f = (r : Refusal) → f ≡ Unfit r → Only r
+  Onlys f = (r : Refusal) → f ≡ Err r → Only r
 
-  fit-only : Onlys Fit
+  fit-only : Onlys (Ok tt)
   fit-only r e = let z : ◌≡◌ {A = ℕ} 0 1 = cc in absurd (omega arith)
 
   row-only : (b : Bool) (x : Refusal) (f : Finding) → (b ≡ true → Only x) → Onlys f → Onlys (row b x f)
   row-only true x f o h r e = let q : x ≡ r = cc in rw q at (o refl)
   row-only false x f o h r e = h r e
 
-  judge-only : (f g : Finding) → Onlys f → Onlys g → Onlys (judge Unfit g f)
-  judge-only Fit g h k = k
-  judge-only (Unfit x) g h k = h
+  judge-only : (f g : Finding) → Onlys f → Onlys g → Onlys (judge Err g f)
+  judge-only (Ok _) g h k = k
+  judge-only (Err x) g h k = h
 
   form-only : (r : Record) → Onlys (form_finding Current r)
   unfolding form_finding
@@ -61,14 +58,14 @@ module _ (B : Type 0) where
   record-only s i = judge-only (form_finding Current (record_at s i)) _ (form-only (record_at s i)) (row-only (repeat_row s i) Repeat _ (λ _ n. absurd (omega arith)) fit-only)
 
   abbrev BookOnly : BookCheck → Type 0
-  BookOnly (book.Accepted n) = Unit {0}
-  BookOnly (book.Refused r i) = Only r
+  BookOnly (Ok n) = Unit {0}
+  BookOnly (Err r) = Only r.refusal
 
-  judged-only : (i : ℕ) (rest : BookCheck) → BookOnly rest → (f : Finding) → Onlys f → BookOnly (judge (λ r. book.Refused r i) rest f)
-  judged-only i rest p Fit h = p
-  judged-only i rest p (Unfit r) h = h r refl
+  judged-only : (i : ℕ) (rest : BookCheck) → BookOnly rest → (f : Finding) → Onlys f → BookOnly (judge (λ r. refused_at r i) rest f)
+  judged-only i rest p (Ok _) h = p
+  judged-only i rest p (Err r) h = h r refl
 
-  scan-only : (accepted : BookCheck) → BookOnly accepted → (find : ℕ → Finding) → ((i : ℕ) → Onlys (find i)) → (i n : ℕ) → BookOnly (scan book.Refused accepted find i n)
+  scan-only : (accepted : BookCheck) → BookOnly accepted → (find : ℕ → Finding) → ((i : ℕ) → Onlys (find i)) → (i n : ℕ) → BookOnly (scan refused_at accepted find i n)
   unfolding scan
   scan-only accepted p find h i zero = p
   scan-only accepted p find h i (suc n) = judged-only i _ (scan-only accepted p find h (suc i) n) (find i) (h i)
@@ -80,17 +77,17 @@ module _ (B : Type 0) where
       (row-only (ragged s) BookLength _ (λ _ n. absurd (omega arith)) (row-only (more_than 8192 s) TooManyRecords _ (λ e _. m (ltb-true 8192 (records s) e)) fit-only))
 
   abbrev OutcomeOnly : Outcome → Type 0
-  OutcomeOnly (Accepted n v h) = Unit {0}
-  OutcomeOnly (Refused r i) = Only r
+  OutcomeOnly (Ok n) = Unit {0}
+  OutcomeOnly (Err r) = Only r.refusal
 
-  runs-only : (b : Bool) (i n v h : ℕ) → OutcomeOnly (elim b as (λ _. Outcome) [ true ↦ Refused Contradiction i | false ↦ Accepted n v h ])
+  runs-only : (b : Bool) (i n v h : ℕ) → OutcomeOnly (elim b as (λ _. Outcome) [ true ↦ refused_at Contradiction i | false ↦ accepted_with n v h ])
   runs-only true i n v h = λ e. absurd (omega arith)
   runs-only false i n v h = tt
 
   by_only : (s : List ℕ) (k : BookCheck) → BookOnly k → OutcomeOnly (by_book s [] k)
   unfolding by_book by_claims by_runs claims_check scan
-  by_only s (book.Refused r i) p = p
-  by_only s (book.Accepted n) p = runs-only (leb (shortest_clash (marked s) n (entries s)) (records s)) (shortest_clash (marked s) n (entries s) - 1) n (length (book_visits n (pairs_of s))) (length (on.shadows (book_visits n (pairs_of s))))
+  by_only s (Err r) p = p
+  by_only s (Ok n) p = runs-only (leb (shortest_clash (marked s) n (entries s)) (records s)) (shortest_clash (marked s) n (entries s) - 1) n (length (book_visits n (pairs_of s))) (length (on.shadows (book_visits n (pairs_of s))))
 
   if-only : (b : Bool) (x : Refusal) (o : Outcome) → (b ≡ true → Only x) → (b ≡ false → OutcomeOnly o) → OutcomeOnly (refuse_if b x o)
   unfolding refuse_if

@@ -1,4 +1,7 @@
 -- The fresh call on a run that is extended or shortened, and the answer byte that the call leaves. Assumes nothing.
+use Rattle.std.specs.Prelude.{Err, Ok}
+use Rattle.records.specs.Refused.{refused_at}
+use Rattle.outcomes.specs.Accepted.{Outcome}
 use mathlib.Core.Path.{◌≡◌, refl, ap, ◌∙◌}
 use mathlib.Core.Bool.{Bool, true, false}
 use mathlib.Core.List.{List, [], ◌∷◌}
@@ -16,8 +19,6 @@ use Rattle.outcomes.specs.Lent.{Lent}
 use Rattle.lists.specs.Front.{front}
 use Rattle.records.specs.Claimed.{answers_to}
 use Rattle.outcomes.specs.Call.{by_book, indexed, cleared, left}
-use Rattle.outcomes.specs.declared.Outcome.{Outcome}
-use Rattle.outcomes.specs.declared.Outcome.TheVariants.{Accepted, Refused}
 use Rattle.outcomes.specs.Fresh.{fresh_call}
 use Rattle.working.specs.Standing.{standing, extended, without}
 use Rattle.working.specs.Rows.{answer_of}
@@ -35,11 +36,11 @@ module _ (s c : List ℕ) (l : Lent) (six : length c ≡ 6) (clear : l.answers �
 
   pub answer-left : (r : Outcome) → get_or (left s c l r).answers 0 0 ≡ answer_of s c r
   unfolding left indexed answer_of front
-  answer-left (Accepted n nodes shadows) = get_or-append (answers_to s n c) _ 0 0 (omega (arith, one_answer n))
-  answer-left (Refused x i) = refused-answer (eqb (refusal_number x) 14)
+  answer-left (Ok n) = get_or-append (answers_to s n.pieces c) _ 0 0 (omega (arith, one_answer n.pieces))
+  answer-left (Err x) = refused-answer (eqb (refusal_number x.refusal) 14)
 
 -- 8,193 records are too many
-pub over-full : (s : List ℕ) → length s ≡ 49158 → fresh_call s [] ≡ Refused TooManyRecords 0
+pub over-full : (s : List ℕ) → length s ≡ 49158 → fresh_call s [] ≡ refused_at TooManyRecords 0
 unfolding fresh_call by_book check_by
 over-full s e = rw e refl
 

@@ -1,4 +1,7 @@
 -- After any sequence of calls the answers and the counts kept are those of a fresh call on the records then standing: one call at a time. Assumes nothing.
+use Rattle.std.specs.Prelude.{Err, Ok}
+use Rattle.records.specs.Refused.{refused_at}
+use Rattle.outcomes.specs.Accepted.{Outcome, accepted_with}
 use mathlib.Core.Path.{◌≡◌, refl, sym, ap, subst, ◌∙◌}
 use mathlib.Core.Bool.{not}
 use mathlib.Core.List.{List, [], ◌++◌}
@@ -16,8 +19,6 @@ use Rattle.records.specs.declared.Refusal.TheVariants.{BookLength, NotStanding}
 use Rattle.parentheses.specs.Padded.{padded}
 use Rattle.parentheses.proofs.Paddeds.{padded-length}
 use Rattle.lists.specs.Front.{front}
-use Rattle.outcomes.specs.declared.Outcome.{Outcome}
-use Rattle.outcomes.specs.declared.Outcome.TheVariants.{Accepted, Refused}
 use Rattle.working.specs.declared.keeping.Working.{Working}
 use Rattle.outcomes.specs.Fresh.{fresh_call}
 use Rattle.working.specs.Standing.{standing, extended, without}
@@ -31,11 +32,11 @@ use Rattle.working.proofs.Fresh.{over-full}
 use Rattle.working.proofs.Settling.{on, off, past-area, start-passes, ask-passes, one-fits}
 use Rattle.working.proofs.RunsLaws.{padded-front}
 
-pub clash : {x : Refusal} {i n v h : ℕ} → Refused x i ≡ Accepted n v h → ⊥
-clash e = subst (λ (o : Outcome). elim o as (λ _. Type 0) [ Accepted n v h ↦ ⊥ | Refused x i ↦ Unit {0} ]) e tt
+pub clash : {x : Refusal} {i n v h : ℕ} → refused_at x i ≡ accepted_with n v h → ⊥
+clash e = subst (λ (o : Outcome). elim o as (λ _. Type 0) [ Ok n ↦ ⊥ | Err x ↦ Unit {0} ]) e tt
 
 -- what an accepted call leaves
-kept : (area run : List ℕ) (m n v h : ℕ) → 49152 ≤ length area → length run ≡ 6 * m → m ≤ 8192 → fresh_call run [] ≡ Accepted n v h
+kept : (area run : List ℕ) (m n v h : ℕ) → 49152 ≤ length area → length run ≡ 6 * m → m ≤ 8192 → fresh_call run [] ≡ accepted_with n v h
     → Stands (record { records = records run; pieces = n }) (front (image run) area) run
 unfolding front image standing
 kept area run m n v h l e f a =
@@ -53,14 +54,14 @@ kept area run m n v h l e f a =
 
 module _ (w : Working) (area s run : List ℕ) (S : Stands w area s) where
   -- one call, by what it comes to
-  step : (due : Outcome) → ((n v h : ℕ) → due ≡ Accepted n v h → (fresh_call run [] ≡ Accepted n v h) × ((m : ℕ) × ((length run ≡ 6 * m) × (m ≤ 8192))))
+  step : (due : Outcome) → ((n v h : ℕ) → due ≡ accepted_with n v h → (fresh_call run [] ≡ accepted_with n v h) × ((m : ℕ) × ((length run ≡ 6 * m) × (m ≤ 8192))))
       → (r : Outcome) (w' : Working) (area' : List ℕ) → Determined w area run due r w' area' → Stands w' area' (chosen due run s)
   unfolding kept_state kept_area chosen
-  step (Accepted n v h) good r w' area' (a, (b, c)) =
-      let g = good n v h refl in
-      subst (λ (x : Working). Stands x area' run) (sym b) (subst (λ (y : List ℕ). Stands (record { records = records run; pieces = n }) y run) (sym c) (kept area run g.1.0 n v h S.long g.1.1.0 g.1.1.1 g.0))
-  step (Refused x i) good r w' area' (a, (b, c)) =
-      subst (λ (x : Working). Stands x area' s) (sym b) (subst (λ (y : List ℕ). Stands w y s) (sym c) S)
+  step (Ok n) good r w' area' (a, (b, c)) =
+      let g = good n.pieces n.nodes n.shadows refl in
+      subst (λ (x : Working). Stands x area' run) (sym b) (subst (λ (y : List ℕ). Stands (record { records = records run; pieces = n.pieces }) y run) (sym c) (kept area run g.1.0 n.pieces n.nodes n.shadows S.long g.1.1.0 g.1.1.1 g.0))
+  step (Err x) good r w' area' (a, (b, c)) =
+      subst (λ (x.refusal : Working). Stands x.refusal area' s) (sym b) (subst (λ (y : List ℕ). Stands w y s) (sym c) S)
 
 -- ---- an addition
 module _ (w : Working) (area s a : List ℕ) (S : Stands w area s) where
@@ -68,11 +69,11 @@ module _ (w : Working) (area s a : List ℕ) (S : Stands w area s) where
   unfolding add_outcome add_to extended
   add-by-run = past-area area w.records _ S.long S.few ∙ ap (λ (x : List ℕ). refuse_if (not (eqb (length a) 6)) BookLength (fresh_call (x ++ a) [])) S.run_is
 
-  add-good : (n v h : ℕ) → add_to s a ≡ Accepted n v h → (fresh_call (s ++ a) [] ≡ Accepted n v h) × ((m : ℕ) × ((length (s ++ a) ≡ 6 * m) × (m ≤ 8192)))
+  add-good : (n v h : ℕ) → add_to s a ≡ accepted_with n v h → (fresh_call (s ++ a) [] ≡ accepted_with n v h) × ((m : ℕ) × ((length (s ++ a) ≡ 6 * m) × (m ≤ 8192)))
   unfolding add_to
   add-good n v h e = go (known (eqb (length a) 6)) (dec_lt w.records 8192)
     where
-      go : Known (eqb (length a) 6) → Dec (w.records < 8192) → (fresh_call (s ++ a) [] ≡ Accepted n v h) × ((m : ℕ) × ((length (s ++ a) ≡ 6 * m) × (m ≤ 8192)))
+      go : Known (eqb (length a) 6) → Dec (w.records < 8192) → (fresh_call (s ++ a) [] ≡ accepted_with n v h) × ((m : ℕ) × ((length (s ++ a) ≡ 6 * m) × (m ≤ 8192)))
       go (is_false t) d = absurd (clash (sym (on (not (eqb (length a) 6)) BookLength _ (ap not t)) ∙ e))
       go (is_true t) (yes d) = (
         sym (off (not (eqb (length a) 6)) BookLength _ (ap not t)) ∙ e,
@@ -105,11 +106,11 @@ module _ (w : Working) (area s : List ℕ) (i : ℕ) (S : Stands w area s) where
       ∙ (ap (λ (x : List ℕ). refuse_if (leb w.records i) NotStanding (fresh_call (take (6 * i) x ++ drop (6 * i + 6) x) [])) S.run_is
       ∙ ap (λ (k : ℕ). refuse_if (leb k i) NotStanding (fresh_call less [])) (sym count))
 
-  withdraw-good : (n v h : ℕ) → withdraw_from s i ≡ Accepted n v h → (fresh_call less [] ≡ Accepted n v h) × ((m : ℕ) × ((length less ≡ 6 * m) × (m ≤ 8192)))
+  withdraw-good : (n v h : ℕ) → withdraw_from s i ≡ accepted_with n v h → (fresh_call less [] ≡ accepted_with n v h) × ((m : ℕ) × ((length less ≡ 6 * m) × (m ≤ 8192)))
   unfolding withdraw_from
   withdraw-good n v h e = go (known (leb (records s) i))
     where
-      go : Known (leb (records s) i) → (fresh_call less [] ≡ Accepted n v h) × ((m : ℕ) × ((length less ≡ 6 * m) × (m ≤ 8192)))
+      go : Known (leb (records s) i) → (fresh_call less [] ≡ accepted_with n v h) × ((m : ℕ) × ((length less ≡ 6 * m) × (m ≤ 8192)))
       go (is_true t) = absurd (clash (sym (on (leb (records s) i) NotStanding _ t) ∙ e))
       go (is_false t) =
           let b : i < w.records = omega (arith, leb-false (records s) i t, count) in (
@@ -136,9 +137,9 @@ module _ (w : Working) (area s c : List ℕ) (S : Stands w area s) where
       (e, D.1 ∙ (ap (λ (x : List ℕ). answer_of x c r.outcome) S.run_is ∙ ap (answer_of s c) e))
 
 -- an accepted start stands with no records
-pub started : (area : List ℕ) (r : Outcome) (w' : Working) (area' : List ℕ) → Started area r w' area' → 49152 ≤ length area → (n v h : ℕ) → fresh_call [] [] ≡ Accepted n v h → Stands w' area' []
+pub started : (area : List ℕ) (r : Outcome) (w' : Working) (area' : List ℕ) → Started area r w' area' → 49152 ≤ length area → (n v h : ℕ) → fresh_call [] [] ≡ accepted_with n v h → Stands w' area' []
 unfolding kept_state kept_area
 started area r w' area' (a, (b, c)) l n v h e =
-    let due : start_outcome area ≡ Accepted n v h = start-passes area l ∙ e in
+    let due : start_outcome area ≡ accepted_with n v h = start-passes area l ∙ e in
     subst (λ (x : Working). Stands x area' []) (sym (b ∙ ap (kept_state no_records 0) due))
     (subst (λ (y : List ℕ). Stands (record { records = 0; pieces = n }) y []) (sym (c ∙ ap (kept_area area (image [])) due)) (kept area [] 0 n v h l refl (omega arith) e))

@@ -1,7 +1,7 @@
 -- No call of a working book writes behind the first 49,152 bytes of its area. Assumes nothing.
+use Rattle.outcomes.specs.Accepted.{Outcome}
 use Rattle.std.specs.Prelude.{◌≡◌, List, [], ℕ, ◌≤◌, length, drop}
 use Rattle.outcomes.specs.Outcome.{number}
-use Rattle.outcomes.specs.declared.Outcome.{Outcome}
 use Rattle.outcomes.specs.Fresh.{fresh_call}
 use Rattle.working.specs.declared.keeping.Working.{Working}
 use Rattle.working.specs.Kept.{Started, Added, Withdrawn}

@@ -1,7 +1,7 @@
 -- A day: any list of additions, withdrawals and claims, by the standing run alone, and the same by the promises of the calls. Assumes nothing.
+use Rattle.outcomes.specs.Accepted.{Outcome}
 use Rattle.std.specs.Prelude.{ℕ, ◌+◌, ◌*◌, List, [], ◌∷◌, ◌++◌, take, drop}
 use Rattle.records.specs.Check.{book_check}
-use Rattle.outcomes.specs.declared.Outcome.{Outcome}
 use Rattle.working.specs.declared.keeping.Working.{Working}
 use Rattle.working.specs.declared.keeping.Asked.{Asked}
 use Rattle.outcomes.specs.One.{by_one}

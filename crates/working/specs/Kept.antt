@@ -1,10 +1,9 @@
 -- The state and the record area after a start, an addition or a withdrawal. Assumes nothing.
-use Rattle.std.specs.Prelude.{◌≡◌, ℕ, List, []}
+use Rattle.outcomes.specs.Accepted.{Outcome}
+use Rattle.std.specs.Prelude.{◌≡◌, ℕ, List, [], Err, Ok}
 use Rattle.records.specs.Record.{records}
 use Rattle.parentheses.specs.Padded.{padded}
 use Rattle.lists.specs.Front.{front}
-use Rattle.outcomes.specs.declared.Outcome.{Outcome}
-use Rattle.outcomes.specs.declared.Outcome.TheVariants.{Accepted, Refused}
 use Rattle.working.specs.declared.keeping.Working.{Working}
 use Rattle.working.specs.declared.keeping.Settled.{Settled}
 use Rattle.working.specs.declared.keeping.Asked.{Asked}
@@ -14,13 +13,13 @@ use Rattle.working.specs.Rows.{start_outcome, add_outcome, withdraw_outcome, ask
 
 -- acceptance keeps the new record count and the fresh call's piece count; a refusal leaves both
 unfoldable pub kept_state : Working → ℕ → Outcome → Working
-kept_state w k (Accepted n nodes shadows) = record { records = k; pieces = n }
-kept_state w k (Refused r i) = w
+kept_state w k (Ok n) = record { records = k; pieces = n.pieces }
+kept_state w k (Err r) = w
 
 -- acceptance writes the front of the area, and later bytes are untouched; a refusal writes nowhere
 unfoldable pub kept_area : List ℕ → List ℕ → Outcome → List ℕ
-kept_area area image (Accepted n nodes shadows) = front image area
-kept_area area image (Refused r i) = area
+kept_area area image (Ok n) = front image area
+kept_area area image (Err r) = area
 
 -- the run, with zeros behind it up to 49,152 bytes
 unfoldable pub image : List ℕ → List ℕ

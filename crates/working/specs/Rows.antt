@@ -1,10 +1,9 @@
 -- What each call comes to, row by row, from the record area, the stated record count and the rest of the input. Assumes nothing.
-use Rattle.std.specs.Prelude.{ℕ, not, List, [], eqb, ltb, leb, length, get_or}
+use Rattle.outcomes.specs.Accepted.{Outcome}
+use Rattle.std.specs.Prelude.{ℕ, not, List, [], eqb, ltb, leb, length, get_or, Err, Ok}
 use Rattle.records.specs.Check.{book_check}
 use Rattle.records.specs.declared.Refusal.TheVariants.{ShortBuffer, BookLength, TooManyRecords, NotStanding}
 use Rattle.records.specs.Claimed.{answers_to}
-use Rattle.outcomes.specs.declared.Outcome.{Outcome}
-use Rattle.outcomes.specs.declared.Outcome.TheVariants.{Accepted, Refused}
 use Rattle.outcomes.specs.Fresh.{fresh_call}
 use Rattle.outcomes.specs.One.{refuse_if, by_one}
 use Rattle.working.specs.Standing.{standing, extended, without}
@@ -31,5 +30,5 @@ ask_outcome area k c = by_area area k (by_one (standing area k) c (book_check (s
 
 -- the answer byte: the fresh call's to its one claim, 0 with a refusal
 unfoldable pub answer_of : List ℕ → List ℕ → Outcome → ℕ
-answer_of s c (Accepted n nodes shadows) = get_or (answers_to s n c) 0 0
-answer_of s c (Refused r i) = 0
+answer_of s c (Ok n) = get_or (answers_to s n.pieces c) 0 0
+answer_of s c (Err r) = 0

@@ -1,9 +1,8 @@
 -- A working book by its standing run alone: what an addition and a withdrawal come to, and that a state and an area hold a run. Assumes nothing.
-use Rattle.std.specs.Prelude.{◌≡◌, ℕ, ◌+◌, ◌*◌, ◌≤◌, not, List, [], ◌++◌, eqb, leb, length, take, drop}
+use Rattle.outcomes.specs.Accepted.{Outcome, accepted_with}
+use Rattle.std.specs.Prelude.{◌≡◌, ℕ, ◌+◌, ◌*◌, ◌≤◌, not, List, [], ◌++◌, eqb, leb, length, take, drop, Err, Ok}
 use Rattle.records.specs.Record.{records}
 use Rattle.records.specs.declared.Refusal.TheVariants.{BookLength, NotStanding}
-use Rattle.outcomes.specs.declared.Outcome.{Outcome}
-use Rattle.outcomes.specs.declared.Outcome.TheVariants.{Accepted, Refused}
 use Rattle.working.specs.declared.keeping.Working.{Working}
 use Rattle.outcomes.specs.Fresh.{fresh_call}
 use Rattle.working.specs.Standing.{standing}
@@ -17,8 +16,8 @@ withdraw_from s i = refuse_if (leb (records s) i) NotStanding (fresh_call (take 
 
 -- the run after a call: the new one where it was accepted
 unfoldable pub chosen : Outcome → List ℕ → List ℕ → List ℕ
-chosen (Accepted n nodes shadows) new old = new
-chosen (Refused r i) new old = old
+chosen (Ok n) new old = new
+chosen (Err r) new old = old
 
 -- the run s stands in the area, a fresh call accepts it, and the counts kept are its own
 pub record Stands (w : Working) (area s : List ℕ) : Type 0 where
@@ -28,4 +27,4 @@ pub record Stands (w : Working) (area s : List ℕ) : Type 0 where
   pub run_is : standing area w.records ≡ s
   pub nodes : ℕ
   pub shadows : ℕ
-  pub pieces_are : fresh_call s [] ≡ Accepted w.pieces nodes shadows
+  pub pieces_are : fresh_call s [] ≡ accepted_with w.pieces nodes shadows

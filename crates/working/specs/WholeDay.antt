@@ -1,6 +1,6 @@
 -- A whole day of a working book, from its start. Assumes nothing.
+use Rattle.outcomes.specs.Accepted.{Outcome}
 use Rattle.std.specs.Prelude.{◌≡◌, List, [], ℕ, ◌≤◌, length}
-use Rattle.outcomes.specs.declared.Outcome.{Outcome}
 use Rattle.working.specs.declared.keeping.Working.{Working}
 use Rattle.working.specs.Kept.{Started}
 use Rattle.working.specs.Sequence.{Stands}

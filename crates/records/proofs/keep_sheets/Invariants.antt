@@ -1,14 +1,8 @@
 -- `records::keep_sheets` meets its contract: the front of the buffer is what the records passed leave. Assumes nothing.
-use Prim.Native.Nat.{◌*◌, ◌-◌, ◌≤◌}
-use mathlib.Core.Path.{◌≡◌}
-use lib.ListN.{length}
+use Prim.Native.Nat.{◌*◌, ◌≤◌}
 use Rattle.records.specs.Kept.{on_sheet}
 use Rattle.records.proofs.Keeps.{Written}
 use Rattle.records.proofs.keep_sheets.Given as goal
 
 abbrev pub invariant-loop-i : goal.invariant-loop-i
-invariant-loop-i l =
-    (l.i ≤ l.n) × (l.at ≤ 6 * l.i) × (length l.out ≡ length l.initial.out) × Written on_sheet l.s l.initial.out l.i l.out l.at
-
-abbrev pub decreases-loop-i : goal.decreases-loop-i
-decreases-loop-i l = l.n - l.i
+invariant-loop-i l = (l.at ≤ 6 * l.i) × Written on_sheet l.s l.initial.out l.i l.out l.at

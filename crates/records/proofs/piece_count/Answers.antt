@@ -7,28 +7,17 @@ use Rattle.records.proofs.Books.{pieces_none, pieces_more, named_small}
 use Rattle.records.proofs.piece_count.Goals as goal
 
 pub loop-i-init : goal.loop-i-init
-loop-i-init c = (omega arith, pieces_none _)
-
-pub record_at-requires : goal.record_at-requires
-record_at-requires c = omega arith
+loop-i-init c = pieces_none _
 
 pub overflow_add-largest_named : goal.overflow_add-largest_named
 overflow_add-largest_named c =
     omega (arith, c.largest_named.ensures, ap largest c.record_at.ensures, named_small c.args.run.now c.loop-i.i (λ k. (c.shared_slice_known-1.given k).fits))
 
-pub overflow_add-i : goal.overflow_add-i
-overflow_add-i c = omega arith
-
-pub loop-i-smaller : goal.loop-i-smaller
-loop-i-smaller c = omega arith
-
 pub loop-i-preserved : goal.loop-i-preserved
-loop-i-preserved c = (
-  omega arith,
-  c.larger_of-pieces.ensures
-      ∙ ap₂ (λ (x y : ℕ). max x (y + 1)) c.loop-i.invariant.1 (c.largest_named.ensures ∙ ap largest c.record_at.ensures)
-      ∙ sym (pieces_more _ _),
-)
+loop-i-preserved c =
+    c.max-pieces.ensures
+    ∙ ap₂ (λ (x y : ℕ). max x (y + 1)) c.loop-i.invariant (c.largest_named.ensures ∙ ap largest c.record_at.ensures)
+    ∙ sym (pieces_more _ _)
 
 pub returns : goal.returns
-returns c = c.loop-i.invariant.1 ∙ ap (pieces_up_to _) (omega arith)
+returns c = c.loop-i.invariant ∙ ap (pieces_up_to _) (omega arith)

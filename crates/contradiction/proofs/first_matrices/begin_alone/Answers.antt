@@ -1,11 +1,7 @@
 -- `first_matrices::begin_alone` meets its contract: one field for each call. Assumes nothing.
 use borrow.Author.Rules.{rules}
-use Rattle.closure.proofs.Holding.{below-2048}
 use Rattle.contradiction.proofs.Parts.{led, steps-hold}
 use Rattle.contradiction.proofs.first_matrices.begin_alone.Goals as goal
-
-pub grouped-requires : goal.grouped-requires
-grouped-requires c = c.requires.0
 
 pub steps-requires : goal.steps-requires
 steps-requires c =
@@ -22,9 +18,6 @@ pub meeting-requires : goal.meeting-requires
 meeting-requires c =
     let B = c.requires.0 in
     (B, c.requires.1, steps-hold _ _ B _ _ _ _ c.grouped.ensures (search rules) _ c.steps.ensures, (search rules))
-
-pub clashes-requires : goal.clashes-requires
-clashes-requires c = (c.requires.1.sized, (search rules), (search rules), below-2048 c.requires.0)
 
 pub returns : goal.returns
 returns c =

@@ -1,7 +1,7 @@
 -- `first_matrices::index_of` meets its contract: the matrix has the pairs between groups, and pieces get the places of their groups. Assumes nothing.
 use borrow.Author.Rules.{rules}
 use Prim.Native.Nat.{ℕ, ◌<◌, ◌≤◌}
-use mathlib.Core.Path.{◌≡◌, sym}
+use mathlib.Core.Path.{◌≡◌}
 use lib.ListN.{length-replicate}
 use native.Mathlib.Omega.{arith}
 use Rattle.contradiction.proofs.GroupIndex.{named-below, buildable}
@@ -19,31 +19,13 @@ below_all g l e = omega arith
 pub step_stored-requires : goal.step_stored-requires
 step_stored-requires c = let P = c.requires in (P.0, fits_all P.0.fits (search rules), named-below _ _ P.0 _ _ P.1, (search rules))
 
-pub slice_bounds-build-end-2 : goal.slice_bounds-build-end-2
-slice_bounds-build-end-2 c = sym (length-replicate {A = ℕ} 2048 0)
-
 pub build-counts-requires : goal.build-counts-requires
 build-counts-requires c =
     let P = c.requires in buildable _ _ P.0 _ _ P.1 _ c.step_stored.ensures _ _ _ _ _ (facts-roomy _ _ _ _ _ _ P.2) (length-replicate {A = ℕ} 2048 0)
 
-pub slice_bounds-place_members-end-2 : goal.slice_bounds-place_members-end-2
-slice_bounds-place_members-end-2 c = sym c.groups-2-1.given
-
 pub place_members-requires : goal.place_members-requires
 place_members-requires c =
     let P = c.requires in (fits_all P.0.fits (search rules), P.2.places, λ g l. below_all (named-below _ _ P.0 _ _ P.1 g l) P.0.fits c.groups-2-1.given)
-
-pub shape_of-parens : goal.shape_of-parens
-shape_of-parens c = c.build-counts.auto.parens
-
-pub shape_of-marks : goal.shape_of-marks
-shape_of-marks c = c.build-counts.auto.marks
-
-pub shape_of-shadows : goal.shape_of-shadows
-shape_of-shadows c = c.build-counts.auto.shadows
-
-pub shape_of-places : goal.shape_of-places
-shape_of-places c = c.place_members.auto.places
 
 pub returns : goal.returns
 returns c =

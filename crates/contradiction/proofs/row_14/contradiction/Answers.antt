@@ -1,20 +1,12 @@
 -- `row_14::contradiction` meets its contract: the invariant is `Halving`. Assumes nothing.
 use native.Mathlib.Omega.{arith}
-use Prim.Native.Nat.{◌+◌, ◌*◌, ◌/◌, ◌-◌, ◌≤◌}
-use mathlib.Core.Path.{sym}
+use Prim.Native.Nat.{◌+◌, ◌*◌, ◌/◌, ◌≤◌}
 use lib.ListN.{length}
-use lib.Seq.{length-take-le}
 use Rattle.contradiction.proofs.Halving.{run-bounded, halving-start, halving-high, halving-low, halving-done}
 use Rattle.contradiction.proofs.row_14.contradiction.Goals as goal
 
 pub loop-low-init : goal.loop-low-init
 loop-low-init c = halving-start _ _ _ c.requires.0 c.requires.1.whole c.requires.2
-
-pub slice_bounds-contradicts-end : goal.slice_bounds-contradicts-end
-slice_bounds-contradicts-end c =
-    let L = c.loop-low in
-    let up = L.invariant.upto in
-    sym (length-take-le (6 * ((L.low + L.high) / 2)) c.args.book.now (omega arith))
 
 pub contradicts-requires : goal.contradicts-requires
 contradicts-requires c =

@@ -1,22 +1,11 @@
 -- `row_14::settle` meets its contract: one field for each call. Assumes nothing.
 use borrow.Author.Rules.{rules}
 use mathlib.Core.Path.{sym, ◌∙◌}
-use Rattle.closure.proofs.Holding.{below-2048}
 use Rattle.contradiction.specs.Settled.{row}
 use Rattle.contradiction.proofs.Parts.{few-nodes, index-stored, parts-hold, led, steps-hold}
 use Rattle.contradiction.proofs.Halving.{facts-roomy, roomy-same}
 use Rattle.contradiction.proofs.SettlingLaws.{settles-free, settles-clash, steps-free, steps-clash, indexes-free, indexes-clash}
 use Rattle.contradiction.proofs.row_14.settle.Goals as goal
-
-pub mark_voids-requires : goal.mark_voids-requires
-mark_voids-requires c = (c.requires.0.markable, c.requires.1)
-
-pub grouped-count-requires : goal.grouped-count-requires
-grouped-count-requires c = c.requires.0.bounded
-
-pub index_of-counts-requires : goal.index_of-counts-requires
-index_of-counts-requires c =
-    let G = c.grouped-count.ensures in (c.requires.0.bounded, record { counted = G.counted; numbers = G.numbers }, c.requires.0.roomy)
 
 pub contents-requires : goal.contents-requires
 contents-requires c =
@@ -34,9 +23,6 @@ pub meeting-requires : goal.meeting-requires
 meeting-requires c =
     (c.requires.0.bounded, c.mark_voids.ensures.0, steps-hold _ _ c.requires.0.bounded _ _ _ _ c.grouped-count.ensures (search rules) _ c.steps.ensures, (search rules))
 
-pub clashes-requires : goal.clashes-requires
-clashes-requires c = (c.mark_voids.ensures.0.sized, (search rules), (search rules), below-2048 c.requires.0.bounded)
-
 pub contradiction-requires : goal.contradiction-requires
 contradiction-requires c =
     let S = c.requires.0 in
@@ -48,21 +34,6 @@ contradiction-requires c =
     let W = c.mark_voids.ensures in
     let is = c.clashes.ensures.is _ S.bounded W.0.whole D T in
     (S.bounded, W.0, sym is ∙ c.if-clashes.true)
-
-pub shape_of-voids-then-clashes : goal.shape_of-voids-then-clashes
-shape_of-voids-then-clashes c = c.mark_voids.auto.voids
-
-pub shape_of-parens-then-clashes : goal.shape_of-parens-then-clashes
-shape_of-parens-then-clashes c = c.index_of-counts.auto.parens
-
-pub shape_of-marks-then-clashes : goal.shape_of-marks-then-clashes
-shape_of-marks-then-clashes c = c.index_of-counts.auto.marks
-
-pub shape_of-shadows-then-clashes : goal.shape_of-shadows-then-clashes
-shape_of-shadows-then-clashes c = c.index_of-counts.auto.shadows
-
-pub shape_of-places-then-clashes : goal.shape_of-places-then-clashes
-shape_of-places-then-clashes c = c.index_of-counts.auto.places
 
 pub returns-then-clashes : goal.returns-then-clashes
 unfolding row
@@ -76,21 +47,6 @@ returns-then-clashes c =
     let W = c.mark_voids.ensures in
     let is = c.clashes.ensures.is _ S.bounded W.0.whole D T in
     (W, settles-clash (record { is = sym c.if-clashes.true ∙ is; last = c.contradiction.ensures }), steps-clash, indexes-clash)
-
-pub shape_of-voids : goal.shape_of-voids
-shape_of-voids c = c.mark_voids.auto.voids
-
-pub shape_of-parens : goal.shape_of-parens
-shape_of-parens c = c.index_of-counts.auto.parens
-
-pub shape_of-marks : goal.shape_of-marks
-shape_of-marks c = c.index_of-counts.auto.marks
-
-pub shape_of-shadows : goal.shape_of-shadows
-shape_of-shadows c = c.index_of-counts.auto.shadows
-
-pub shape_of-places : goal.shape_of-places
-shape_of-places c = c.index_of-counts.auto.places
 
 pub returns : goal.returns
 unfolding row

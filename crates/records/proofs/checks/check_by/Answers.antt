@@ -5,10 +5,10 @@ use Rattle.records.proofs.Books.{uneven, too_long, measured}
 use Rattle.records.proofs.checks.check_by.Goals as goal
 
 pub returns-then-book-ne0 : goal.returns-then-book-ne0
-returns-then-book-ne0 c = uneven _ _ (λ e. omega arith)
+returns-then-book-ne0 c = rw c.at.ensures (uneven _ _ (λ e. omega arith))
 
 pub returns-then-n-gt-RECORDS : goal.returns-then-n-gt-RECORDS
-returns-then-n-gt-RECORDS c = too_long _ _ (omega arith) (omega arith)
+returns-then-n-gt-RECORDS c = rw c.at-then-n-gt-RECORDS.ensures (too_long _ _ (omega arith) (omega arith))
 
 pub returns : goal.returns
 returns c = c.check_records.ensures ∙ measured _ _ (omega arith) (omega arith)
