@@ -4,7 +4,7 @@ use Rattle.records.specs.Refused.{BookCheck, ClaimsCheck, refused_at}
 use Rattle.outcomes.specs.Accepted.{Outcome}
 use Prim.Native.Nat.{ℕ}
 use mathlib.Core.Path.{◌≡◌, refl, sym, ap, ap₂, subst, ◌∙◌}
-use mathlib.Core.Bool.{true, false}
+use mathlib.Core.Bool.{Bool, true, false, ◌||◌}
 use mathlib.Core.List.{List, [], ◌∷◌}
 use native.Mathlib.Omega.{arith}
 use borrow.Author.Tests.{ltb-false, ne_eqb}
@@ -41,6 +41,12 @@ long cs l e =
     let c = or-neither (ltb (length l.shadows) 8192) _ b.1 in
     let d = or-neither (ltb (length l.places) 2048) _ c.1 in
     record { parens = ltb-false _ _ a.0; marks = ltb-false _ _ b.0; shadows = ltb-false _ _ c.0; places = ltb-false _ _ d.0; answers = ltb-false _ _ d.1 }
+
+-- row 1 by its tests
+module _ (cs p m h q a : List ℕ) {t : Bool} where
+  pub tested : (ltb (length p) 2560 || (ltb (length m) 1280 || (ltb (length h) 8192 || (ltb (length q) 2048 || ltb (length a) (records cs))))) ≡ t → short_lent cs (lent p m h q a) ≡ t
+  unfolding short_lent
+  tested e = e
 
 module _ (s cs : List ℕ) (l : Lent) where
   promised : {r : Outcome} {l' : Lent} → Determined s cs l r l' → Promised s cs l r l'

@@ -5,8 +5,8 @@ ghost use Rattle.outcomes.specs.Call.{by_runs, outcome, left};
 ghost use Rattle.answers.specs.Judging.{Answerable};
 
 use matrices::Matrix;
-use outcomes::Outcome;
-use records::{BookCheck, Refusal};
+use outcomes::Counts;
+use records::{Refusal, Refused};
 
 // Row 14 and the answers, for a book and claims that pass the rows before. n is the count of the book's pieces, or a larger one.
 pub fn judge_alone(
@@ -20,7 +20,7 @@ pub fn judge_alone(
     p: &mut Matrix,
     q: &mut Matrix,
     answers: &mut [u8],
-) -> Outcome
+) -> Result<Counts, Refused>
     requires { Answerable book.now n claims.now (length answers.old) }
     ensures { (result ≡ by_runs book.now n) × (answers.new ≡ (left book.now claims.now (unasked answers.old) result).answers) }
 {
@@ -57,18 +57,13 @@ pub fn answer_alone(
     p: &mut Matrix,
     q: &mut Matrix,
     answers: &mut [u8],
-) -> Outcome
+) -> Result<Counts, Refused>
     ensures { (result ≡ outcome book.now claims.now (unasked answers.old)) × (answers.new ≡ (left book.now claims.now (unasked answers.old) result).answers) }
 {
     let asked = claims.len() / records::RECORD_BYTES;
     if answers.len() < asked {
-        return Outcome::Refused(Refusal::ShortBuffer, 0);
+        return Err(Refusal::ShortBuffer.at(0));
     }
-    let checked = crate::check_rows(book, claims);
-    match checked {
-        BookCheck::Refused(refusal, place) => Outcome::Refused(refusal, place),
-        BookCheck::Accepted(n) => {
-            judge_alone(book, n, claims, e, d, t, u, p, q, &mut answers[..asked])
-        }
-    }
+    let n = crate::check_rows(book, claims)?;
+    judge_alone(book, n, claims, e, d, t, u, p, q, &mut answers[..asked])
 }

@@ -4,59 +4,68 @@ ghost use Rattle.records.specs.Check.{book_check};
 ghost use Rattle.outcomes.specs.Call.{by_runs};
 ghost use Rattle.outcomes.specs.Fresh.{fresh_call, uncounted};
 
-use contradiction::{Row14, Settled};
 use matrices::Matrix;
-use outcomes::Outcome;
-use records::{BookCheck, Refusal};
+use outcomes::Counts;
+use records::Refused;
 
 // Row 14 of a book that passes the rows before, with the counts of an index that nobody asks for.
-fn count_in(book: &[u8], n: usize, e: &mut Matrix, d: &mut Matrix, t: &mut Matrix) -> Outcome
+fn count_in(
+    book: &[u8],
+    n: usize,
+    e: &mut Matrix,
+    d: &mut Matrix,
+    t: &mut Matrix,
+) -> Result<Counts, Refused>
     requires { book_check book.now ≡ Ok n }
     ensures { result ≡ by_runs book.now n }
 {
     let mut voids = [0u64; matrices::ROW_WORDS];
     let mut order = [0u16; matrices::ROWS];
     let mut lead = [0u16; matrices::ROWS];
-    let settled = contradiction::settle_counted(
+    let counts = contradiction::settle_counted(
         book, n, &mut voids, e, &mut order, &mut lead, d, t,
-    );
-    match settled {
-        Settled::Clash(place) => Outcome::Refused(Refusal::Contradiction, place),
-        Settled::Free(nodes, shadowed) => Outcome::Accepted(n, nodes, shadowed),
-    }
+    )?;
+    Ok(Counts::of(n, counts))
 }
 
 // A fresh call on a run of records.
-pub fn judge_run(run: &[u8], e: &mut Matrix, d: &mut Matrix, t: &mut Matrix) -> Outcome
+pub fn judge_run(
+    run: &[u8],
+    e: &mut Matrix,
+    d: &mut Matrix,
+    t: &mut Matrix,
+) -> Result<Counts, Refused>
     ensures { result ≡ fresh_call run.now [] }
 {
-    let checked = records::check_book(run);
-    match checked {
-        BookCheck::Refused(refusal, place) => Outcome::Refused(refusal, place),
-        BookCheck::Accepted(n) => count_in(run, n, e, d, t),
-    }
+    let n = records::check_book(run)?;
+    count_in(run, n, e, d, t)
 }
 
 // Row 14 of a book that passes the rows before.
-fn settle_in(book: &[u8], n: usize, e: &mut Matrix, d: &mut Matrix, t: &mut Matrix) -> BookCheck
+fn settle_in(
+    book: &[u8],
+    n: usize,
+    e: &mut Matrix,
+    d: &mut Matrix,
+    t: &mut Matrix,
+) -> Result<usize, Refused>
     requires { book_check book.now ≡ Ok n }
     ensures { result ≡ uncounted (by_runs book.now n) }
 {
     let mut voids = [0u64; matrices::ROW_WORDS];
-    let settled = contradiction::settle_book(book, n, &mut voids, e, d, t);
-    match settled {
-        Row14::Clash(place) => BookCheck::Refused(Refusal::Contradiction, place),
-        Row14::Free => BookCheck::Accepted(n),
-    }
+    contradiction::settle_book(book, n, &mut voids, e, d, t)?;
+    Ok(n)
 }
 
 // The same for a caller that wants no counts of nodes and shadows: no index is made.
-pub fn judge_book(book: &[u8], e: &mut Matrix, d: &mut Matrix, t: &mut Matrix) -> BookCheck
+pub fn judge_book(
+    book: &[u8],
+    e: &mut Matrix,
+    d: &mut Matrix,
+    t: &mut Matrix,
+) -> Result<usize, Refused>
     ensures { result ≡ uncounted (fresh_call book.now []) }
 {
-    let checked = records::check_book(book);
-    match checked {
-        BookCheck::Refused(refusal, place) => BookCheck::Refused(refusal, place),
-        BookCheck::Accepted(n) => settle_in(book, n, e, d, t),
-    }
+    let n = records::check_book(book)?;
+    settle_in(book, n, e, d, t)
 }

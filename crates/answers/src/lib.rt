@@ -14,10 +14,9 @@ ghost use Rattle.index.specs.Sizes.{MARKS-BYTES, PARENTHESES-BYTES, PLACES, SHAD
 
 pub use alone::{answer_alone, judge_alone};
 pub use books::{judge_book, judge_run};
-use contradiction::Settled;
 use matrices::Matrix;
-use outcomes::Outcome;
-use records::{BookCheck, ClaimsCheck, Refusal};
+use outcomes::Counts;
+use records::{Refusal, Refused};
 
 pub mod alone;
 pub mod books;
@@ -26,10 +25,10 @@ pub mod books;
 pub fn clear_index(parens: &mut [u8], marks: &mut [u8], shadows: &mut [u16], places: &mut [u16])
     ensures { Cleared (length parens.old) (length marks.old) (length shadows.old) (length places.old) parens.new marks.new shadows.new places.new }
 {
-    numbers::clear(parens);
-    numbers::clear(marks);
-    numbers::shorts::fill(shadows, 0);
-    numbers::shorts::fill(places, 0);
+    parens.fill(0);
+    marks.fill(0);
+    shadows.fill(0);
+    places.fill(0);
 }
 
 // Refuses a contradictory book, with the index zeroed.
@@ -39,11 +38,11 @@ fn refuse_clash(
     marks: &mut [u8],
     shadows: &mut [u16],
     places: &mut [u16],
-) -> Outcome
+) -> Result<Counts, Refused>
     ensures { (result ≡ refused_at Contradiction place) × Cleared (length parens.old) (length marks.old) (length shadows.old) (length places.old) parens.new marks.new shadows.new places.new }
 {
     clear_index(parens, marks, shadows, places);
-    Outcome::Refused(Refusal::Contradiction, place)
+    Err(Refusal::Contradiction.at(place))
 }
 
 // The marks of the whole book, then row 14, the index and the answers, for a book and claims that pass the rows before, in lent parts of document 01's lengths.
@@ -63,7 +62,7 @@ fn judge_in(
     shadows: &mut [u16],
     places: &mut [u16],
     answers: &mut [u8],
-) -> Outcome
+) -> Result<Counts, Refused>
     requires { Exact book.now n claims.now (lent parens.old marks.old shadows.old places.old answers.old) }
     ensures { Judged book.now n claims.now (lent parens.old marks.old shadows.old places.old answers.old) result (lent parens.new marks.new shadows.new places.new answers.new) }
 {
@@ -74,12 +73,12 @@ fn judge_in(
         book, n, &mut voids, e, &mut order, &mut lead, d, t, parens, marks, shadows, places,
     );
     match settled {
-        Settled::Clash(place) => refuse_clash(place, parens, marks, shadows, places),
-        Settled::Free(nodes, shadowed) => {
+        Err(clash) => refuse_clash(clash.place, parens, marks, shadows, places),
+        Ok(counts) => {
             claims::answer_all(
                 book, n, &voids, claims, e, &mut order, &mut lead, d, t, u, p, q, answers,
             );
-            Outcome::Accepted(n, nodes, shadowed)
+            Ok(Counts::of(n, counts))
         }
     }
 }
@@ -95,36 +94,20 @@ pub fn short(
 ) -> bool
     ensures { result ≡ (ltb parens PARENTHESES-BYTES || (ltb marks MARKS-BYTES || (ltb shadows SHADOWS || (ltb places PLACES || ltb answers claims)))) }
 {
-    if parens < index::PARENTHESES_BYTES {
-        return true;
-    }
-    if marks < index::MARKS_BYTES {
-        return true;
-    }
-    if shadows < index::SHADOWS {
-        return true;
-    }
-    if places < index::PLACES {
-        return true;
-    }
-    answers < claims
+    parens < index::PARENTHESES_BYTES
+        || marks < index::MARKS_BYTES
+        || shadows < index::SHADOWS
+        || places < index::PLACES
+        || answers < claims
 }
 
 // Rows 3 to 13: the piece count of a book that passes them with its claims.
-fn check_rows(book: &[u8], claims: &[u8]) -> BookCheck
+fn check_rows(book: &[u8], claims: &[u8]) -> Result<usize, Refused>
     ensures { result ≡ rows_check book.now claims.now }
 {
-    let checked = records::check_book(book);
-    match checked {
-        BookCheck::Refused(refusal, place) => BookCheck::Refused(refusal, place),
-        BookCheck::Accepted(n) => {
-            let fit = records::check_claims(claims, n);
-            match fit {
-                ClaimsCheck::Refused(refusal, place) => BookCheck::Refused(refusal, place),
-                ClaimsCheck::Accepted => BookCheck::Accepted(n),
-            }
-        }
-    }
+    let n = records::check_book(book)?;
+    records::check_claims(claims, n)?;
+    Ok(n)
 }
 
 // Answers the claims about the book and writes the index. Demands 1 to 3 stand in the promises. The six matrices are scratch: what they hold at entry does not matter, and at exit it is free.
@@ -142,7 +125,7 @@ pub fn answer_claims(
     u: &mut Matrix,
     p: &mut Matrix,
     q: &mut Matrix,
-) -> Outcome
+) -> Result<Counts, Refused>
     ensures determined { Determined book.now claims.now (lent parens.old marks.old shadows.old places.old answers.old) result (lent parens.new marks.new shadows.new places.new answers.new) }
     ensures demand2 { Demand2 book.now claims.now answers.new (number result) }
     ensures demand3 { Demand3 book.now claims.now (lent parens.old marks.old shadows.old places.old answers.old) answers.new (number result) }
@@ -158,30 +141,25 @@ pub fn answer_claims(
         answers.len(),
         asked,
     ) {
-        return Outcome::Refused(Refusal::ShortBuffer, 0);
+        return Err(Refusal::ShortBuffer.at(0));
     }
-    let checked = check_rows(book, claims);
-    match checked {
-        BookCheck::Refused(refusal, place) => Outcome::Refused(refusal, place),
-        BookCheck::Accepted(n) => {
-            judge_in(
-                book,
-                n,
-                claims,
-                e,
-                d,
-                t,
-                u,
-                p,
-                q,
-                &mut parens[..index::PARENTHESES_BYTES],
-                &mut marks[..index::MARKS_BYTES],
-                &mut shadows[..index::SHADOWS],
-                &mut places[..index::PLACES],
-                &mut answers[..asked],
-            )
-        }
-    }
+    let n = check_rows(book, claims)?;
+    judge_in(
+        book,
+        n,
+        claims,
+        e,
+        d,
+        t,
+        u,
+        p,
+        q,
+        &mut parens[..index::PARENTHESES_BYTES],
+        &mut marks[..index::MARKS_BYTES],
+        &mut shadows[..index::SHADOWS],
+        &mut places[..index::PLACES],
+        &mut answers[..asked],
+    )
 }
 
 // Writes the index alone: the call with no claims and no answers.
@@ -197,7 +175,7 @@ pub fn write_index(
     u: &mut Matrix,
     p: &mut Matrix,
     q: &mut Matrix,
-) -> Outcome
+) -> Result<Counts, Refused>
     ensures determined { Determined book.now [] (lent parens.old marks.old shadows.old places.old []) result (lent parens.new marks.new shadows.new places.new []) }
     ensures demand2 { Demand2 book.now [] [] (number result) }
     ensures demand3 { Demand3 book.now [] (lent parens.old marks.old shadows.old places.old []) [] (number result) }

@@ -18,7 +18,7 @@ use Rattle.records.specs.Claimed.{claimed, picked_facts}
 use Rattle.claims.proofs.Counts.{own-count}
 use Rattle.outcomes.specs.Demands.{Derived, Entailed}
 use Rattle.outcomes.specs.One.{refuse_if}
-use Rattle.outcomes.proofs.Counts.{derived, entailed}
+use Rattle.outcomes.proofs.Counting.{derived, entailed}
 use Rattle.chain_check.specs.Call.{asked}
 use Rattle.chain_check.proofs.Asking.{asked-passed, runs-consistent}
 use Rattle.chain_writing.specs.Call.{reply_of, reply}

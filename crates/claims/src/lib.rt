@@ -26,16 +26,13 @@ fn answer_each(
     ensures { Answers (void_of voids.now) origin claims.now d.now u.now p.now t.now q.now answers.old answers.new }
 {
     let n = claims.len() / records::RECORD_BYTES;
-    let mut i: usize = 0;
-    while i < n {
+    for i in 0..n {
         let claim = records::record_at(claims, i);
         if claim.origin != origin {
-            i += 1;
             continue;
         }
         let answer = verdicts::answer_to(claim.kind, claim.a, claim.b, voids, d, u, p, t, q);
         answers[i] = verdicts::byte_of(answer);
-        i += 1;
     }
 }
 
@@ -44,13 +41,11 @@ fn some_restricted(claims: &[u8]) -> bool
     ensures { result ≡ restricted claims.now }
 {
     let n = claims.len() / records::RECORD_BYTES;
-    let mut i: usize = 0;
-    while i < n {
+    for i in 0..n {
         let r = records::record_at(claims, i);
         if 0 < r.origin {
             return true;
         }
-        i += 1;
     }
     false
 }
@@ -77,7 +72,8 @@ fn answer_restricted(
     let mut kept = [0u8; records::BOOK_BYTES];
     let length = records::keep_sheets(book, &mut kept);
     let run = &kept[..length];
-    contradiction::settle_alone(run, n, voids, e, order, lead, d, t);
+    // free, since the whole book is
+    let _ = contradiction::settle_alone(run, n, voids, e, order, lead, d, t);
     closure::complete(run, n, voids, e, order, lead, u, p, q);
     answer_each(1, claims, voids, d, u, p, t, q, answers);
 }

@@ -36,7 +36,7 @@ use Rattle.closure.specs.Counted.{Counted}
 use Rattle.outcomes.specs.Outcome as of
 use Rattle.answers.proofs.Fresh.{fresh-sound, fresh-runs}
 use Rattle.claims.proofs.Counts.{own-count, counted-settleable, counted-unmarked, counted-free}
-use Rattle.outcomes.proofs.Counts.{runs-refused, derived, entailed}
+use Rattle.outcomes.proofs.Counting.{runs-refused, derived, entailed}
 use Rattle.compare.specs.Answers.{answer_of, bytes_of}
 use Rattle.compare.specs.Call.{by_book, by_claims, by_rows, outcome, left, Determined}
 use Rattle.compare.specs.Outcome.{number, together}

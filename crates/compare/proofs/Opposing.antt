@@ -37,7 +37,7 @@ use Rattle.outcomes.specs.Call as calls
 use Rattle.records.specs.Claimed.{claimed, picked_facts}
 use Rattle.outcomes.specs.Call.{by_runs}
 use Rattle.outcomes.specs.Fresh.{fresh_call}
-use Rattle.outcomes.proofs.Counts.{claim-within}
+use Rattle.outcomes.proofs.Counting.{claim-within}
 use Rattle.compare.specs.Answers.{answer_of, bytes_of}
 use Rattle.compare.specs.Call.{by_book, by_claims, by_rows, outcome}
 use Rattle.compare.specs.Opposed.{NeverOpposed, MarksOppose}

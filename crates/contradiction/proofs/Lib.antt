@@ -3,3 +3,4 @@ pub mod Halving
 pub mod FactIndex
 pub mod GroupIndex
 pub mod SettlingLaws
+pub mod Settleds

@@ -1,4 +1,5 @@
 -- Which runs can be settled, and what a settled run is: the room of its index, its contradiction or its model. Assumes nothing.
+use Rattle.contradiction.proofs.Settleds.{same-clash, free-nodes, free-shadows}
 use Rattle.contradiction.specs.Row14.{Row14, Settled, clashed_at, free_with}
 use Rattle.std.specs.Prelude.{Ok}
 use Prim.Native.Nat.{ℕ, ◌+◌, ◌-◌, ◌*◌, ◌/◌, ◌≤◌, ◌<◌}
@@ -61,7 +62,7 @@ module _ {void : ℕ → Bool} {n : ℕ} {run d t : List ℕ} where
   settles-clash {place} C =
       record {
         free = λ q. let z : ◌≡◌ {A = ℕ} 0 1 = cc in absurd (omega arith);
-        clash = λ p q. let x : place ≡ p = cc in rw x at C;
+        clash = λ p q. let x : place ≡ p = same-clash q in rw x at C;
       }
 
 pub steps-free : {n : ℕ} {run e order lead : List ℕ} (r : Row14) → Stepped n (facts run) e order lead → Steps n run e order lead r
@@ -75,8 +76,8 @@ module _ {n : ℕ} {run parens marks shadows places : List ℕ} where
   indexes-free {nodes} {shadowed} I =
       record {
         free = λ a b q.
-            let x : nodes ≡ a = cc in
-            let y : shadowed ≡ b = cc in
+            let x : nodes ≡ a = free-nodes q in
+            let y : shadowed ≡ b = free-shadows q in
             rw (x, y) at I;
       }
 

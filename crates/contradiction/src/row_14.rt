@@ -8,11 +8,13 @@ ghost use Rattle.matrices.specs.Sizes.{ROW-WORDS};
 ghost use Rattle.closure.specs.Counted.{MarksOf};
 ghost use Rattle.closure.specs.Void.{void_of, Voids};
 ghost use Rattle.contradiction.specs.Settleable.{Settleable};
+ghost use Rattle.records.specs.declared.Refusal.TheVariants.{Contradiction};
 ghost use Rattle.closure.specs.Bounded.{Bounded};
 ghost use Rattle.contradiction.specs.Settled.{row, Settles, Steps, Indexes, Counts};
 
 use crate::first_matrices;
 use matrices::{Matrix, RowNumbers};
+use records::{Refusal, Refused};
 
 // The place of the contradiction in a contradictory book: the last record of the shortest contradictory run from the start, found by halving, since
 // contradiction only grows with the run. The matrices are scratch.
@@ -41,18 +43,18 @@ fn contradiction(
     low
 }
 
-// What row 14 says of a run: free; or contradictory, with the place.
-#[derive(Clone, Copy)]
-pub enum Row14 {
-    Free,
-    Clash(usize),
+// A contradictory run: the place is the last record of its shortest contradictory run from the start.
+#[derive(Clone, Copy, Debug, PartialEq, Eq)]
+pub struct Clash {
+    pub place: usize,
 }
 
-// The same with an index: its counts of nodes and shadows, where the run is free.
-#[derive(Clone, Copy)]
-pub enum Settled {
-    Free(usize, usize),
-    Clash(usize),
+impl From<Clash> for Refused {
+    ghost from_gives = { λ clash r. r ≡ (record { refusal = Contradiction; place = clash.place }) };
+
+    fn from(clash: Clash) -> Refused {
+        Refusal::Contradiction.at(clash.place)
+    }
 }
 
 // Marks the voids of a book and settles its row 14, with its index, steps, D and T where it is free.
@@ -69,7 +71,7 @@ pub fn settle(
     marks: &mut [u8],
     shadows: &mut [u16],
     places: &mut [u16],
-) -> Settled
+) -> Result<index::Counts, Clash>
     requires { Settleable n book.now (length parens.old) (length marks.old) (length shadows.old) (length places.old) × (length voids.old ≡ ROW-WORDS) }
     ensures { MarksOf book.now voids.new × Settles (void_of voids.new) n book.now d.new t.new (row result) × Steps n book.now e.new order.new lead.new (row result) × Indexes n book.now parens.new marks.new shadows.new places.new result }
 {
@@ -83,9 +85,11 @@ pub fn settle(
     closure::steps(book, lead, n, e);
     closure::meeting(book, n, voids, e, order, lead, t);
     if verdicts::clashes(book, voids, d, t) {
-        return Settled::Clash(contradiction(book, n, voids, e, d, t));
+        return Err(Clash {
+            place: contradiction(book, n, voids, e, d, t),
+        });
     }
-    Settled::Free(counts.nodes, counts.shadows)
+    Ok(counts)
 }
 
 // The same for a caller that wants no more of the index than its counts.
@@ -98,7 +102,7 @@ pub fn settle_counted(
     lead: &mut RowNumbers,
     d: &mut Matrix,
     t: &mut Matrix,
-) -> Settled
+) -> Result<index::Counts, Clash>
     requires { (book_check book.now ≡ Ok n) × (length voids.old ≡ ROW-WORDS) }
     ensures { MarksOf book.now voids.new × Settles (void_of voids.new) n book.now d.new t.new (row result) × Steps n book.now e.new order.new lead.new (row result) × Counts n book.now result }
 {
@@ -132,14 +136,16 @@ pub fn settle_alone(
     lead: &mut RowNumbers,
     d: &mut Matrix,
     t: &mut Matrix,
-) -> Row14
+) -> Result<(), Clash>
     requires { Bounded n (facts run.now) × Voids voids.now }
     ensures { Settles (void_of voids.now) n run.now d.new t.new result × Steps n run.now e.new order.new lead.new result }
 {
     if first_matrices::begin_alone(run, n, voids, e, order, lead, d, t) {
-        return Row14::Clash(contradiction(run, n, voids, e, d, t));
+        return Err(Clash {
+            place: contradiction(run, n, voids, e, d, t),
+        });
     }
-    Row14::Free
+    Ok(())
 }
 
 // The same for a caller that needs D and T alone.
@@ -150,7 +156,7 @@ pub fn settle_run(
     e: &mut Matrix,
     d: &mut Matrix,
     t: &mut Matrix,
-) -> Row14
+) -> Result<(), Clash>
     requires { Bounded n (facts run.now) × Voids voids.now }
     ensures { Settles (void_of voids.now) n run.now d.new t.new result }
 {
@@ -167,7 +173,7 @@ pub fn settle_book(
     e: &mut Matrix,
     d: &mut Matrix,
     t: &mut Matrix,
-) -> Row14
+) -> Result<(), Clash>
     requires { (book_check book.now ≡ Ok n) × (length voids.old ≡ ROW-WORDS) }
     ensures { MarksOf book.now voids.new × Settles (void_of voids.new) n book.now d.new t.new result }
 {

@@ -41,7 +41,7 @@ use Rattle.outcomes.proofs.Outcomes.{Told, told, passed-outcome}
 use Rattle.outcomes.proofs.Buffers.{Fitted}
 use Rattle.claims.proofs.Fewer.{fewer-follows, fewer-denied}
 use Rattle.claims.proofs.Counts.{own-count, counted-settleable, counted-unmarked, counted-free, counted-clashed}
-use Rattle.outcomes.proofs.Counts.{runs-refused, claim-within, derived, entailed}
+use Rattle.outcomes.proofs.Counting.{runs-refused, claim-within, derived, entailed}
 
 module _ (s cs : List ℕ) (l : Lent) (n : ℕ) (p : Passed s cs l n) where
   settles : Settleable n s 2560 1280 8192 2048

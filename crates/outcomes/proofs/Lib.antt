@@ -1,7 +1,8 @@
 pub mod Outcomes
 pub mod Buffers
-pub mod Counts
+pub mod Counting
 pub mod Kept
 pub mod Orders
 pub mod Steadies
 pub mod Lower
+pub mod Accepteds

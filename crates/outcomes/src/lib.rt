@@ -1,11 +1,25 @@
-// What a call comes to; what it leaves in lent buffers and what follows for the users is in specs/, the theorems in proofs/. There is no code here.
+// What a call comes to; what it leaves in lent buffers and what follows for the users is in specs/, the theorems in proofs/. Code makes the counts alone.
 #![tactic(auto)]
 
-use records::Refusal;
+ghost use Rattle.std.specs.Prelude.{◌≡◌};
 
-// What a call comes to: the counts of pieces, nodes and shadows, or the refusal and its place.
-#[derive(Clone, Copy)]
-pub enum Outcome {
-    Accepted(usize, usize, usize),
-    Refused(Refusal, usize),
+// The counts of an accepted book: its pieces, and the nodes and shadows of its index.
+#[derive(Clone, Copy, Debug, PartialEq, Eq)]
+pub struct Counts {
+    pub pieces: usize,
+    pub nodes: usize,
+    pub shadows: usize,
+}
+
+impl Counts {
+    // The counts of a book of n pieces with this index.
+    pub fn of(pieces: usize, index: index::Counts) -> Counts
+        ensures { result ≡ record { pieces = pieces; nodes = index.nodes; shadows = index.shadows } }
+    {
+        Counts {
+            pieces,
+            nodes: index.nodes,
+            shadows: index.shadows,
+        }
+    }
 }

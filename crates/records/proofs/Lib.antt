@@ -12,3 +12,4 @@ pub mod Marks
 pub mod Fits
 pub mod Filters
 pub mod Claims
+pub mod Refuseds

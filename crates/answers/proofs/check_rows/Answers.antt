@@ -1,18 +1,19 @@
 -- `answers::check_rows` meets its contract. Assumes nothing.
-use mathlib.Core.Path.{sym, ap, ◌∙◌}
-use Rattle.answers.specs.Judging.{after_claims, after_book, rows_check}
+use mathlib.Core.Path.{ap, ◌∙◌}
+use Rattle.std.proofs.lemmas.Result.{err_from_is_err_and}
+use Rattle.answers.specs.Judging.{rows_check, after_book, after_claims}
 use Rattle.answers.proofs.check_rows.Goals as goal
 
-pub returns-in-Refused : goal.returns-in-Refused
+pub returns-in_err-n : goal.returns-in_err-n
 unfolding rows_check after_book
-returns-in-Refused c = ap (after_book _) (sym c.in-Refused.is ∙ c.check_book-checked.ensures)
+returns-in_err-n c = let p = err_from_is_err_and c.from_residual.result c.from_residual.ensures.1 in rw (p.1, p.2) (ap (after_book _) c.in_err-n.ensures)
 
-pub returns-in-Refused-fit : goal.returns-in-Refused-fit
+pub returns-in_err-check_claims : goal.returns-in_err-check_claims
 unfolding rows_check after_book after_claims
-returns-in-Refused-fit c =
-    ap (after_claims _) (sym c.in-Refused-fit.is ∙ c.check_claims-fit.ensures) ∙ ap (after_book _) (sym c.in-Accepted.is ∙ c.check_book-checked.ensures)
+returns-in_err-check_claims c =
+    let p = err_from_is_err_and c.from_residual-in_err-check_claims.result c.from_residual-in_err-check_claims.ensures.1 in rw (p.1, p.2)
+    (ap (after_claims _) c.in_err-check_claims.ensures ∙ ap (after_book _) c.in_ok-n.ensures)
 
-pub returns-in-Accepted-fit : goal.returns-in-Accepted-fit
+pub returns : goal.returns
 unfolding rows_check after_book after_claims
-returns-in-Accepted-fit c =
-    ap (after_claims _) (sym c.in-Accepted-fit.is ∙ c.check_claims-fit.ensures) ∙ ap (after_book _) (sym c.in-Accepted.is ∙ c.check_book-checked.ensures)
+returns c = ap (after_claims _) c.in_ok-check_claims.ensures ∙ ap (after_book _) c.in_ok-n.ensures

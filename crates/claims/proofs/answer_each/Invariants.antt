@@ -1,14 +1,7 @@
 -- `claims::answer_each` meets its contract. Assumes nothing.
-use mathlib.Core.Path.{◌≡◌}
-use Prim.Native.Nat.{◌-◌, ◌/◌, ◌≤◌}
-use lib.ListN.{length}
 use Rattle.closure.specs.Void.{void_of}
 use Rattle.claims.proofs.Answering.{Standing}
 use Rattle.claims.proofs.answer_each.Given as goal
 
 abbrev pub invariant-loop-i : goal.invariant-loop-i
-invariant-loop-i l =
-    (l.i ≤ length l.claims / 6) × (length l.answers ≡ length l.initial.answers) × Standing (void_of l.voids) l.origin l.claims l.d l.u l.p l.t l.q l.initial.answers l.answers l.i
-
-abbrev pub decreases-loop-i : goal.decreases-loop-i
-decreases-loop-i l = length l.claims / 6 - l.i
+invariant-loop-i l = Standing (void_of l.voids) l.origin l.claims l.d l.u l.p l.t l.q l.initial.answers l.answers l.i

@@ -1,22 +1,18 @@
--- `answers::books::settle_in` meets its contract. Assumes nothing.
+-- `books::settle_in` meets its contract. Assumes nothing.
 use mathlib.Core.Path.{refl, ap}
-use Rattle.claims.proofs.Counts.{own-count}
+use Rattle.std.proofs.lemmas.Result.{err_from_is_err_and}
 use Rattle.outcomes.specs.Fresh.{uncounted}
+use Rattle.claims.proofs.Counts.{own-count}
 use Rattle.answers.proofs.Judges.{refuses, accepts}
 use Rattle.answers.proofs.books.settle_in.Goals as goal
 
-pub slice_bounds-settle_book-end : goal.slice_bounds-settle_book-end
-slice_bounds-settle_book-end c = refl
-
-pub settle_book-settled-requires : goal.settle_book-settled-requires
-settle_book-settled-requires c = (c.requires, refl)
-
-pub returns-in-Clash : goal.returns-in-Clash
+pub returns-in_err-settle_book : goal.returns-in_err-settle_book
 unfolding uncounted
-returns-in-Clash c =
-    ap uncounted (refuses _ _ (own-count c.requires) _ (rw c.settle_book-settled.ensures.0.1 at (c.settle_book-settled.ensures.1.clash _ c.in-Clash.is)))
+returns-in_err-settle_book c =
+    let p = err_from_is_err_and c.from_residual.result c.from_residual.ensures.1 in rw (p.1, p.2)
+    (ap uncounted (refuses _ _ (own-count c.requires) _ (rw c.settle_book.ensures.0.1 at (c.settle_book.ensures.1.clash _ c.in_err-settle_book.was))))
 
-pub returns-in-Free : goal.returns-in-Free
+pub returns : goal.returns
 unfolding uncounted
-returns-in-Free c =
-    ap uncounted (accepts _ _ (own-count c.requires) _ _ (rw c.settle_book-settled.ensures.0.1 at (c.settle_book-settled.ensures.1.free c.in-Free.is).is) refl refl)
+returns c =
+    ap uncounted (accepts _ _ (own-count c.requires) _ _ (rw c.settle_book.ensures.0.1 at (c.settle_book.ensures.1.free c.in_ok-settle_book.was).is) refl refl)
