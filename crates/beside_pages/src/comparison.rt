@@ -9,7 +9,7 @@ ghost use Rattle.beside_pages.specs.ComparisonText.{pair_line, pair_lines, toget
 ghost use Rattle.beside_pages.specs.Rooms.{COMPARISON-HEAD, COMPARISON-ROOM};
 ghost use Rattle.text.specs.Rooms.{CLAIMS-ROOM};
 
-use compare::Comparison;
+use compare::RefusedOf;
 use pages::Written;
 use records::{Record, Refusal};
 use sentences::sources::Source;
@@ -87,7 +87,7 @@ fn put_refused_in(
 }
 
 // Compares two books, in matrices of its own.
-fn compared(first: &[u8], other: &[u8], asked: &[u8], bytes: &mut [u8]) -> Comparison
+fn compared(first: &[u8], other: &[u8], asked: &[u8], bytes: &mut [u8]) -> Result<bool, RefusedOf>
     ensures { Determined first.now other.now asked.now bytes.old result bytes.new }
 {
     let mut e = [0u64; matrices::WORDS];
@@ -116,12 +116,17 @@ fn put_comparison(
     ensures claims_len_bound { length (beside_text first.now other.now asked.now source.now second.now claims.now) ≤ COMPARISON-ROOM }
 {
     let mut bytes = [0u8; ROOM];
-    let made = compared(first, other, asked, &mut bytes);
-    match made {
-        Comparison::Refused(k, refusal, place) => put_refused_in(
-            page, k, refusal, place, source, second, claims,
+    match compared(first, other, asked, &mut bytes) {
+        Err(refused) => put_refused_in(
+            page,
+            refused.book,
+            refused.refusal,
+            refused.place,
+            source,
+            second,
+            claims,
         ),
-        Comparison::Compared(together) => {
+        Ok(together) => {
             let at = put_together(page, together);
             put_pairs(page, at, asked, &bytes)
         }

@@ -9,7 +9,6 @@ ghost use Rattle.beside_pages.specs.LogText.{entry_line, entry_lines, none, meas
 ghost use Rattle.beside_pages.specs.Rooms.{LOG-PAGE-ROOM};
 ghost use Rattle.text.specs.Rooms.{LOG-ROOM};
 
-use outcomes::Outcome;
 use pages::Written;
 use replicates::{Replicated, Window};
 use sentences::sources::Source;
@@ -67,12 +66,11 @@ fn put_log(book: &[u8], log: &[u8], source: &[u8], other: &[u8], page: &mut [u8]
 {
     let mut bytes = [0u8; text::LOG_ROOM];
     let made = measure(book, log, &mut bytes);
-    let outcome = made.outcome;
-    match outcome {
-        Outcome::Refused(refusal, place) => sentences::put_refused(
-            page, 0, refusal, place, source, other,
-        ),
-        Outcome::Accepted(_, _, _) => put_entries(page, log, &bytes),
+    match made.outcome {
+        Err(refused) => {
+            sentences::put_refused(page, 0, refused.refusal, refused.place, source, other)
+        }
+        Ok(_) => put_entries(page, log, &bytes),
     }
 }
 

@@ -13,7 +13,6 @@ ghost use Rattle.grids.specs.Sizes.{SIDE};
 
 use grids::GridAnswer;
 use grids::rounds::Grid;
-use outcomes::Outcome;
 use pages::Written;
 use sentences::sources::Source;
 use text::Form;
@@ -223,10 +222,10 @@ fn put_grid(book: &[u8], source: &[u8], page: &mut [u8]) -> usize
     let meets = g.meets;
     let notpart = g.notpart;
     match outcome {
-        Outcome::Refused(refusal, place) => sentences::put_refused_book(
-            page, 0, refusal, place, source,
-        ),
-        Outcome::Accepted(n, _, _) => put_lines(page, &part, &apart, &meets, &notpart, n),
+        Err(refused) => {
+            sentences::put_refused_book(page, 0, refused.refusal, refused.place, source)
+        }
+        Ok(counts) => put_lines(page, &part, &apart, &meets, &notpart, counts.pieces),
     }
 }
 

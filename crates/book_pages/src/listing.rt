@@ -8,8 +8,9 @@ ghost use Rattle.book_pages.specs.ListText.{number_lines, list_lines, catalog_te
 ghost use Rattle.book_pages.specs.Rooms.{LIST-ROOM};
 ghost use Rattle.records.specs.Sizes.{PIECES};
 
-use catalog::Listing;
+use catalog::Counts;
 use pages::Written;
+use records::Refused;
 use sentences::sources::{Source, Words};
 use text::Form;
 
@@ -38,7 +39,7 @@ fn put_list(page: &mut [u8], list: &[u16]) -> usize
 }
 
 // The list of a catalog, of which nobody asks for more.
-fn list_pieces(book: &[u8], kind: usize, g: usize, list: &mut [u16]) -> Listing
+fn list_pieces(book: &[u8], kind: usize, g: usize, list: &mut [u16]) -> Result<Counts, Refused>
     requires { list.old ≡ replicate PIECES 0 }
     ensures { Listed book.now kind g list.new result }
 {
@@ -76,15 +77,11 @@ fn put_catalog(book: &[u8], source: &[u8], kind: usize, g: usize, page: &mut [u8
     ensures g_len_bound { length (catalog_text book.now source.now kind g) ≤ LIST-ROOM }
 {
     let mut list = [0u16; records::PIECES];
-    let made = list_pieces(book, kind, g, &mut list);
-    match made {
-        Listing::Refused(refusal, place) => sentences::put_refused_book(
-            page, 0, refusal, place, source,
-        ),
-        Listing::Written(counts) => {
-            let n = counts.listed;
-            put_list(page, &list[..n])
+    match list_pieces(book, kind, g, &mut list) {
+        Err(refused) => {
+            sentences::put_refused_book(page, 0, refused.refusal, refused.place, source)
         }
+        Ok(counts) => put_list(page, &list[..counts.listed]),
     }
 }
 

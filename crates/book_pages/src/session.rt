@@ -9,7 +9,6 @@ ghost use Rattle.book_pages.specs.Rooms.{ASK-ROOM, ASK-WORDS-ROOM, CLAIM-LINE};
 ghost use Rattle.sentences.specs.Rooms.{REFUSED-LINE};
 ghost use Rattle.text.specs.Rooms.{CLAIMS-ROOM};
 
-use outcomes::Outcome;
 use pages::Written;
 use sentences::sources::{Source, Words};
 use text::Form;
@@ -24,13 +23,12 @@ fn put_session(book: &[u8], claims: &[u8], source: &[u8], other: &[u8], page: &m
     ensures other_len_bound { length (session_text book.now claims.now source.now other.now) ≤ REFUSED-LINE + CLAIM-LINE * records claims.now }
 {
     let mut answers = [0u8; ANSWERS_ROOM];
-    let outcome = report::answer(book, claims, &mut answers);
-    match outcome {
-        Outcome::Refused(refusal, place) => sentences::put_refused(
-            page, 0, refusal, place, source, other,
-        ),
-        Outcome::Accepted(pieces, nodes, shadows) => {
-            let at = report::put_counts(page, 0, pieces, nodes, shadows);
+    match report::answer(book, claims, &mut answers) {
+        Err(refused) => {
+            sentences::put_refused(page, 0, refused.refusal, refused.place, source, other)
+        }
+        Ok(counts) => {
+            let at = report::put_counts(page, 0, counts.pieces, counts.nodes, counts.shadows);
             report::put_claims(page, at, claims, &answers)
         }
     }

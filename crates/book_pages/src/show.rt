@@ -6,7 +6,6 @@ ghost use Rattle.book_pages.specs.Rooms.{SHOW-ROOM};
 ghost use Rattle.text.specs.Rooms.{BOOK-ROOM};
 
 use pages::Written;
-use records::BookCheck;
 use sentences::sources::Source;
 use text::Form;
 
@@ -15,13 +14,12 @@ fn write_shown(book: &[u8], source: &[u8], page: &mut [u8]) -> Written
     ensures page { Page page.old (shown_text book.now source.now) page.new result }
     ensures source_len_bound { length (shown_text book.now source.now) ≤ SHOW-ROOM }
 {
-    let checked = records::check_book(book);
-    match checked {
-        BookCheck::Refused(refusal, place) => {
-            let end = sentences::put_refused_book(page, 0, refusal, place, source);
+    match records::check_book(book) {
+        Err(refused) => {
+            let end = sentences::put_refused_book(page, 0, refused.refusal, refused.place, source);
             pages::finish(page.len(), end)
         }
-        BookCheck::Accepted(_) => {
+        Ok(_) => {
             if book.len() == 0 {
                 let end = pages::put(page, 0, b"# no records\n");
                 return pages::finish(page.len(), end);

@@ -16,9 +16,9 @@ ghost use Rattle.areas.specs.Sizes.{AREA-NUMBERS};
 ghost use Rattle.matrices.specs.Sizes.{ROW-WORDS};
 ghost use Rattle.records.specs.Sizes.{PIECES};
 
-use contradiction::Settled;
+use contradiction::Clash;
 use matrices::Matrix;
-use records::{BookCheck, Refusal};
+use records::{Refusal, Refused};
 
 pub mod certain;
 
@@ -41,13 +41,6 @@ pub struct Lengths {
     pub meets: usize,
     pub apart: usize,
     pub notpart: usize,
-}
-
-// What a catalog comes to: the counts of what was written, or the refusal and its place.
-#[derive(Clone, Copy)]
-pub enum Listing {
-    Written(Counts),
-    Refused(Refusal, usize),
 }
 
 // The list and the areas of a book that is not contradictory: d and t are its first two matrices, m is scratch. Marks count in the list alone.
@@ -93,7 +86,7 @@ fn settle(
     marks: &mut [u8],
     shadows: &mut [u16],
     places: &mut [u16],
-) -> Settled
+) -> Result<index::Counts, Clash>
     requires { Settleable n book.now (length parens.old) (length marks.old) (length shadows.old) (length places.old) × (length voids.old ≡ ROW-WORDS) }
     ensures { MarksOf book.now voids.new × Settles (void_of voids.new) n book.now d.new t.new (row result) × Indexes n book.now parens.new marks.new shadows.new places.new result }
 {
@@ -121,25 +114,25 @@ fn judge(
     e: &mut Matrix,
     d: &mut Matrix,
     t: &mut Matrix,
-) -> Listing
+) -> Result<Counts, Refused>
     requires { Asked n kind g × Ready book.now n (lent parens.old marks.old shadows.old places.old list.old meets.old apart.old notpart.old) }
     ensures { Judged book.now kind g n (lent parens.old marks.old shadows.old places.old list.old meets.old apart.old notpart.old) result (lent parens.new marks.new shadows.new places.new list.new meets.new apart.new notpart.new) }
 {
     let mut voids = [0u64; matrices::ROW_WORDS];
     let settled = settle(book, n, &mut voids, e, d, t, parens, marks, shadows, places);
     match settled {
-        Settled::Clash(place) => {
+        Err(clash) => {
             answers::clear_index(parens, marks, shadows, places);
-            Listing::Refused(Refusal::Contradiction, place)
+            Err(Refusal::Contradiction.at(clash.place))
         }
-        Settled::Free(nodes, shadowed) => {
+        Ok(counts) => {
             let written = fill(
                 book, n, kind, g, &voids, e, d, t, places, list, meets, apart, notpart,
             );
-            Listing::Written(Counts {
+            Ok(Counts {
                 pieces: n,
-                nodes,
-                shadows: shadowed,
+                nodes: counts.nodes,
+                shadows: counts.shadows,
                 listed: written.listed,
                 meets: written.meets,
                 apart: written.apart,
@@ -150,41 +143,27 @@ fn judge(
 }
 
 // The rows of the book, then 12 and 13 for the kind and the piece that are asked for.
-fn check_asked(book: &[u8], kind: usize, g: usize) -> BookCheck
+fn check_asked(book: &[u8], kind: usize, g: usize) -> Result<usize, Refused>
     ensures { result ≡ asked kind g (book_check book.now) }
 {
-    let checked = records::check_book(book);
-    match checked {
-        BookCheck::Refused(refusal, place) => BookCheck::Refused(refusal, place),
-        BookCheck::Accepted(n) => {
-            if kind < 1 {
-                return BookCheck::Refused(Refusal::ClaimFormat, 0);
-            }
-            if certain::MEETS < kind {
-                return BookCheck::Refused(Refusal::ClaimFormat, 0);
-            }
-            if n <= g {
-                return BookCheck::Refused(Refusal::ClaimPiece, 0);
-            }
-            BookCheck::Accepted(n)
-        }
+    let n = records::check_book(book)?;
+    if kind < 1 || certain::MEETS < kind {
+        return Err(Refusal::ClaimFormat.at(0));
     }
+    if n <= g {
+        return Err(Refusal::ClaimPiece.at(0));
+    }
+    Ok(n)
 }
 
 // Row 17.
 fn short(list: usize, meets: usize, apart: usize, notpart: usize) -> bool
     ensures { result ≡ (ltb list PIECES || (ltb meets AREA-NUMBERS || (ltb apart AREA-NUMBERS || ltb notpart AREA-NUMBERS))) }
 {
-    if list < records::PIECES {
-        return true;
-    }
-    if meets < areas::AREA_NUMBERS {
-        return true;
-    }
-    if apart < areas::AREA_NUMBERS {
-        return true;
-    }
-    notpart < areas::AREA_NUMBERS
+    list < records::PIECES
+        || meets < areas::AREA_NUMBERS
+        || apart < areas::AREA_NUMBERS
+        || notpart < areas::AREA_NUMBERS
 }
 
 // Lists the pieces x of which the claim of a kind 1 to 3 about x and g follows, writes the index, and beside it the stored facts as pairs of places.
@@ -203,34 +182,31 @@ pub fn write_catalog(
     e: &mut Matrix,
     d: &mut Matrix,
     t: &mut Matrix,
-) -> Listing
+) -> Result<Counts, Refused>
     ensures { Determined book.now kind g (lent parens.old marks.old shadows.old places.old list.old meets.old apart.old notpart.old) result (lent parens.new marks.new shadows.new places.new list.new meets.new apart.new notpart.new) }
 {
     if answers::short(parens.len(), marks.len(), shadows.len(), places.len(), 0, 0) {
-        return Listing::Refused(Refusal::ShortBuffer, 0);
+        return Err(Refusal::ShortBuffer.at(0));
     }
     if short(list.len(), meets.len(), apart.len(), notpart.len()) {
-        return Listing::Refused(Refusal::ShortCatalog, 0);
+        return Err(Refusal::ShortCatalog.at(0));
     }
-    let checked = check_asked(book, kind, g);
-    match checked {
-        BookCheck::Refused(refusal, place) => Listing::Refused(refusal, place),
-        BookCheck::Accepted(n) => judge(
-            book,
-            n,
-            kind,
-            g,
-            &mut parens[..index::PARENTHESES_BYTES],
-            &mut marks[..index::MARKS_BYTES],
-            &mut shadows[..index::SHADOWS],
-            &mut places[..index::PLACES],
-            list,
-            meets,
-            apart,
-            notpart,
-            e,
-            d,
-            t,
-        ),
-    }
+    let n = check_asked(book, kind, g)?;
+    judge(
+        book,
+        n,
+        kind,
+        g,
+        &mut parens[..index::PARENTHESES_BYTES],
+        &mut marks[..index::MARKS_BYTES],
+        &mut shadows[..index::SHADOWS],
+        &mut places[..index::PLACES],
+        list,
+        meets,
+        apart,
+        notpart,
+        e,
+        d,
+        t,
+    )
 }

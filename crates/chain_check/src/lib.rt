@@ -8,17 +8,15 @@ ghost use Rattle.chain_check.specs.Call.{passes, Checked};
 ghost use Rattle.records.specs.Sizes.{RECORD-BYTES};
 
 use matrices::Matrix;
-use records::{BookCheck, ClaimsCheck};
 
 // The claim's rows and the steps, in an accepted book of n pieces.
 fn check_accepted(book: &[u8], n: usize, claim: &[u8], steps: &[u8]) -> bool
     requires { (book_check book.now ≡ Ok n) × (length claim.now ≡ RECORD-BYTES) }
     ensures { Checked n book.now claim.now steps.now result }
 {
-    let fit = records::check_claims(claim, n);
-    match fit {
-        ClaimsCheck::Refused(_, _) => false,
-        ClaimsCheck::Accepted => {
+    match records::check_claims(claim, n) {
+        Err(_) => false,
+        Ok(()) => {
             let mut voids = [0u64; matrices::ROW_WORDS];
             closure::marking::mark_voids(book, &mut voids);
             chain_format::check_steps(book, n, &voids, records::record_at(claim, 0), steps)
@@ -40,9 +38,8 @@ pub fn check_chain(
     if claim.len() != records::RECORD_BYTES {
         return false;
     }
-    let judged = answers::judge_book(book, e, d, t);
-    match judged {
-        BookCheck::Refused(_, _) => false,
-        BookCheck::Accepted(n) => check_accepted(book, n, claim, steps),
+    match answers::judge_book(book, e, d, t) {
+        Err(_) => false,
+        Ok(n) => check_accepted(book, n, claim, steps),
     }
 }

@@ -7,8 +7,9 @@ ghost use Rattle.chain_pages.specs.StepLine.{step_lines};
 ghost use Rattle.chain_pages.specs.ChainText.{Bytes};
 ghost use Rattle.chain_pages.specs.Clash.{Shown, StepsOf, OfBook, Clash};
 
-use outcomes::Outcome;
+use outcomes::Counts;
 use pages::Written;
+use records::Refused;
 use sentences::sources::Source;
 use text::Form;
 
@@ -31,7 +32,7 @@ fn write_clash(book: &[u8], steps: &mut [u8; chain_format::CHAIN_BYTES]) -> clas
 }
 
 // A fresh call on the book.
-fn judge(book: &[u8]) -> Outcome
+fn judge(book: &[u8]) -> Result<Counts, Refused>
     ensures { result ≡ fresh_call book.now [] }
 {
     let mut e = [0u64; matrices::WORDS];
@@ -54,13 +55,10 @@ fn put_clash(page: &mut [u8], at: usize, book: &[u8]) -> usize
 fn clash_book(page: &mut [u8], source: &[u8], book: &[u8]) -> usize
     ensures { OfBook source.now book.now page.old page.new result }
 {
-    let outcome = judge(book);
-    match outcome {
-        Outcome::Accepted(pieces, nodes, shadows) => report::put_counts(
-            page, 0, pieces, nodes, shadows,
-        ),
-        Outcome::Refused(refusal, place) => {
-            let at = sentences::put_refused_book(page, 0, refusal, place, source);
+    match judge(book) {
+        Ok(counts) => report::put_counts(page, 0, counts.pieces, counts.nodes, counts.shadows),
+        Err(refused) => {
+            let at = sentences::put_refused_book(page, 0, refused.refusal, refused.place, source);
             put_clash(page, at, book)
         }
     }

@@ -7,24 +7,31 @@ ghost use Rattle.chain_pages.specs.Why.{Whole, Shown, OfBook, OfSource, Why};
 ghost use Rattle.chain_format.specs.Sizes.{CHAIN-BYTES};
 ghost use Rattle.chain_pages.specs.Rooms.{WHY-ROOM};
 
-use chain_writing::{Chain, Reply};
+use chain_writing::Chain;
 use pages::Written;
-use records::Record;
+use records::{Record, Refused};
 use sentences::sources::{Source, Words};
 use text::Form;
+use verdicts::Answer;
 
 // The text of a reply and of steps, from the start of the page. Answers where it ends.
-fn put_why(page: &mut [u8], source: &[u8], claim: &[u8], reply: Reply, c: &[u8]) -> usize
+fn put_why(
+    page: &mut [u8],
+    source: &[u8],
+    claim: &[u8],
+    reply: Result<Answer, Refused>,
+    c: &[u8],
+) -> usize
     requires { Whole claim.now reply × (length c.now ≤ CHAIN-BYTES) }
     ensures put { Put page.old 0 (why_text source.now claim.now reply c.now) page.new result }
     ensures c_len_bound { length (why_text source.now claim.now reply c.now) ≤ WHY-ROOM }
     ensures bytes { Bytes c.now }
 {
     match reply {
-        Reply::Refused(refusal, place) => sentences::put_refused_book(
-            page, 0, refusal, place, source,
-        ),
-        Reply::Answered(answer) => {
+        Err(refused) => {
+            sentences::put_refused_book(page, 0, refused.refusal, refused.place, source)
+        }
+        Ok(answer) => {
             let r = records::record_at(claim, 0);
             crate::lines::put_chain(page, 0, r, answer, c)
         }

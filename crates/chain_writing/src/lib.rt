@@ -16,23 +16,15 @@ ghost use Rattle.closure.specs.Void.{void_of};
 ghost use Rattle.chain_writing.specs.Call.{Answering, Judged, Written};
 ghost use Rattle.chain_format.specs.Sizes.{CHAIN-BYTES};
 
-use contradiction::Row14;
 use derivations::showing::Fact;
 use matrices::Matrix;
-use records::{BookCheck, ClaimsCheck, Record, Refusal};
+use records::{Record, Refusal, Refused};
 use verdicts::Answer;
 
-// What the call says: the answer, or the refusal and its place.
-#[derive(Clone, Copy)]
-pub enum Reply {
-    Answered(Answer),
-    Refused(Refusal, usize),
-}
-
-// And how many steps it wrote.
+// What the call says: the answer, or the refusal and its place; and how many steps it wrote.
 #[derive(Clone, Copy)]
 pub struct Chain {
-    pub reply: Reply,
+    pub reply: Result<Answer, Refused>,
     pub steps: usize,
 }
 
@@ -58,7 +50,7 @@ fn write_found(
     let m = derivations::kinds::chain_for(n, claim, book, voids, e, d, t, stated, c);
     if 0 < m {
         return Chain {
-            reply: Reply::Answered(Answer::Follows),
+            reply: Ok(Answer::Follows),
             steps: m,
         };
     }
@@ -70,12 +62,12 @@ fn write_found(
     let k = derivations::kinds::chain_for(n, claim, book, voids, e, d, t, opposite, c);
     if 0 < k {
         return Chain {
-            reply: Reply::Answered(Answer::Denied),
+            reply: Ok(Answer::Denied),
             steps: k,
         };
     }
     Chain {
-        reply: Reply::Answered(Answer::Open),
+        reply: Ok(Answer::Open),
         steps: 0,
     }
 }
@@ -102,7 +94,7 @@ fn write_whole(
         let step = single.step;
         chain_format::put_step(c, 0, step);
         return Chain {
-            reply: Reply::Answered(Answer::Follows),
+            reply: Ok(Answer::Follows),
             steps: 1,
         };
     }
@@ -111,7 +103,7 @@ fn write_whole(
         let step = other.step;
         chain_format::put_step(c, 0, step);
         return Chain {
-            reply: Reply::Answered(Answer::Denied),
+            reply: Ok(Answer::Denied),
             steps: 1,
         };
     }
@@ -136,16 +128,17 @@ fn write_restricted(
     let mut kept = [0u8; records::BOOK_BYTES];
     let length = records::keep_sheets(book, &mut kept);
     let run = &kept[..length];
-    contradiction::settle_run(run, n, voids, e, d, t);
+    // free, since the whole book is
+    let _ = contradiction::settle_run(run, n, voids, e, d, t);
     closure::edges(run, n, e);
     write_found(n, claim, book, voids, e, d, t, c)
 }
 
-fn refuse(refusal: Refusal, place: usize) -> Chain
-    ensures { result ≡ record { reply = refused_at refusal place; steps = 0 } }
+fn refuse(refused: Refused) -> Chain
+    ensures { result ≡ record { reply = Err refused; steps = 0 } }
 {
     Chain {
-        reply: Reply::Refused(refusal, place),
+        reply: Err(refused),
         steps: 0,
     }
 }
@@ -164,16 +157,13 @@ fn judge(
     ensures { Judged n claim book.now c.old result c.new }
 {
     let mut voids = [0u64; matrices::ROW_WORDS];
-    let settled = contradiction::settle_book(book, n, &mut voids, e, d, t);
-    match settled {
-        Row14::Clash(place) => refuse(Refusal::Contradiction, place),
-        Row14::Free => {
-            if claim.origin == 0 {
-                return write_whole(n, claim, book, &voids, e, d, t, c);
-            }
-            write_restricted(n, claim, book, &voids, e, d, t, c)
-        }
+    if let Err(clash) = contradiction::settle_book(book, n, &mut voids, e, d, t) {
+        return refuse(Refused::from(clash));
     }
+    if claim.origin == 0 {
+        return write_whole(n, claim, book, &voids, e, d, t, c);
+    }
+    write_restricted(n, claim, book, &voids, e, d, t, c)
 }
 
 // Writes the chain behind the answer to the one claim about the book; which of several is free.
@@ -188,28 +178,17 @@ pub fn write_chain(
     ensures { Written book.now claim.now steps.old result steps.new }
 {
     if steps.len() < chain_format::CHAIN_BYTES {
-        return refuse(Refusal::ShortSteps, 0);
+        return refuse(Refusal::ShortSteps.at(0));
     }
-    let checked = records::check_book(book);
-    match checked {
-        BookCheck::Refused(refusal, place) => refuse(refusal, place),
-        BookCheck::Accepted(n) => {
-            if claim.len() != records::RECORD_BYTES {
-                return refuse(Refusal::ClaimsLength, 0);
-            }
-            let fit = records::check_claims(claim, n);
-            match fit {
-                ClaimsCheck::Refused(refusal, place) => refuse(refusal, place),
-                ClaimsCheck::Accepted => judge(
-                    book,
-                    n,
-                    records::record_at(claim, 0),
-                    steps,
-                    e,
-                    d,
-                    t,
-                ),
-            }
-        }
+    let n = match records::check_book(book) {
+        Err(refused) => return refuse(refused),
+        Ok(n) => n,
+    };
+    if claim.len() != records::RECORD_BYTES {
+        return refuse(Refusal::ClaimsLength.at(0));
     }
+    if let Err(refused) = records::check_claims(claim, n) {
+        return refuse(refused);
+    }
+    judge(book, n, records::record_at(claim, 0), steps, e, d, t)
 }

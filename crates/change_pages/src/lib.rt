@@ -15,9 +15,8 @@ ghost use Rattle.change_pages.specs.Rooms.{OUT-BYTES};
 ghost use Rattle.sentences.specs.Rooms.{REFUSED-LINE};
 ghost use Rattle.text.specs.Rooms.{BOOK-ROOM};
 
-use convert::Conversion;
 use pages::Written;
-use records::{BookCheck, Record, Refusal};
+use records::{Record, Refusal, Refused};
 use sentences::sources::{Source, Words};
 use text::Form;
 
@@ -73,10 +72,10 @@ fn tell(page: &mut [u8], whom: usize, bad: usize, reason: usize) -> Changed
 }
 
 // A refusal of the book.
-fn refuse(page: &mut [u8], refusal: Refusal, place: usize, source: &[u8]) -> Changed
-    ensures { Made (Kept (refused refusal place source.now [])) [] page.old page.new result }
+fn refuse(page: &mut [u8], why: Refused, source: &[u8]) -> Changed
+    ensures { Made (Kept (refused why.refusal why.place source.now [])) [] page.old page.new result }
 {
-    let end = sentences::put_refused_book(page, 0, refusal, place, source);
+    let end = sentences::put_refused_book(page, 0, why.refusal, why.place, source);
     let written = pages::finish(page.len(), end);
     Changed {
         written,
@@ -99,7 +98,7 @@ fn accept(page: &mut [u8], out: &[u8], n: usize) -> Changed
 }
 
 // A fresh call on a run of records, which works in these matrices.
-fn judge(run: &[u8]) -> BookCheck
+fn judge(run: &[u8]) -> Result<usize, Refused>
     ensures { result ≡ uncounted (fresh_call run.now []) }
 {
     let mut e = [0u64; matrices::WORDS];
@@ -113,10 +112,9 @@ fn settle(page: &mut [u8], source: &[u8], out: &[u8], n: usize) -> Changed
     requires { n ≤ length out.now }
     ensures { Made (judged source.now (take n out.now) (fresh_call (take n out.now) [])) out.now page.old page.new result }
 {
-    let judged = judge(&out[..n]);
-    match judged {
-        BookCheck::Refused(refusal, place) => refuse(page, refusal, place, source),
-        BookCheck::Accepted(_) => accept(page, out, n),
+    match judge(&out[..n]) {
+        Err(why) => refuse(page, why, source),
+        Ok(_) => accept(page, out, n),
     }
 }
 
@@ -132,7 +130,7 @@ pub fn write_packed(source: &[u8], out: &mut [u8; OUT_BYTES], page: &mut [u8]) -
 }
 
 // The converter's call, which works in these matrices.
-fn convert(book: &[u8], out: &mut [u8]) -> Conversion
+fn convert(book: &[u8], out: &mut [u8]) -> Result<usize, Refused>
     ensures { Determined book.now out.old result out.new }
 {
     let mut e = [0u64; matrices::WORDS];
@@ -145,10 +143,9 @@ fn convert(book: &[u8], out: &mut [u8]) -> Conversion
 fn convert_book(page: &mut [u8], source: &[u8], book: &[u8], out: &mut [u8; OUT_BYTES]) -> Changed
     ensures { Made (by_conversion source.now book.now (conversion book.now OUT-BYTES)) out.new page.old page.new result }
 {
-    let made = convert(book, out);
-    match made {
-        Conversion::Refused(refusal, place) => refuse(page, refusal, place, source),
-        Conversion::Written(n) => accept(page, out, n),
+    match convert(book, out) {
+        Err(why) => refuse(page, why, source),
+        Ok(n) => accept(page, out, n),
     }
 }
 
@@ -228,13 +225,13 @@ fn withdraw(
 {
     let end = book.len();
     if end % records::RECORD_BYTES != 0 {
-        return refuse(page, Refusal::BookLength, 0, source);
+        return refuse(page, Refusal::BookLength.at(0), source);
     }
     if records::RECORDS < end / records::RECORD_BYTES {
-        return refuse(page, Refusal::TooManyRecords, 0, source);
+        return refuse(page, Refusal::TooManyRecords.at(0), source);
     }
     if end / records::RECORD_BYTES <= i {
-        return refuse(page, Refusal::NotStanding, 0, source);
+        return refuse(page, Refusal::NotStanding.at(0), source);
     }
     working::runs::write_without(book, records::RECORD_BYTES * i, end, out);
     let n = end - records::RECORD_BYTES;

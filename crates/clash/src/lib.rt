@@ -10,22 +10,14 @@ ghost use Rattle.clash.specs.Silenced.{silenced_byte, silenced, Placed, Behind};
 ghost use Rattle.chain_format.specs.Sizes.{CHAIN-BYTES};
 ghost use Rattle.records.specs.Sizes.{RECORD-BYTES};
 
-use contradiction::Row14;
 use derivations::showing::Fact;
 use matrices::Matrix;
-use records::{BookCheck, Record, Refusal};
+use records::{Record, Refusal, Refused};
 
-// What the call says: the book has no contradiction, or the refusal and its place.
-#[derive(Clone, Copy)]
-pub enum Reply {
-    Free,
-    Refused(Refusal, usize),
-}
-
-// And how many steps it wrote.
+// What the call says: the book has no contradiction, or the refusal and its place; and how many steps it wrote.
 #[derive(Clone, Copy)]
 pub struct Clash {
-    pub reply: Reply,
+    pub reply: Result<(), Refused>,
     pub steps: usize,
 }
 
@@ -96,7 +88,8 @@ fn write_behind(
     silence(book, place, &mut copy);
     let length = book.len();
     let run = &copy[..length];
-    contradiction::settle_run(run, n, voids, e, d, t);
+    // free, since the place is that of the first contradiction
+    let _ = contradiction::settle_run(run, n, voids, e, d, t);
     closure::edges(run, n, e);
     let claim = claim_at(book, place);
     let opposite = Fact {
@@ -120,27 +113,23 @@ fn judge(
     ensures { Written book.now c.old result c.new }
 {
     let mut voids = [0u64; matrices::ROW_WORDS];
-    let settled = contradiction::settle_book(book, n, &mut voids, e, d, t);
-    match settled {
-        Row14::Free => Clash {
-            reply: Reply::Free,
+    match contradiction::settle_book(book, n, &mut voids, e, d, t) {
+        Ok(()) => Clash {
+            reply: Ok(()),
             steps: 0,
         },
-        Row14::Clash(place) => {
-            let m = write_behind(book, place, n, &voids, e, d, t, c);
-            Clash {
-                reply: Reply::Refused(Refusal::Contradiction, place),
-                steps: m,
-            }
-        }
+        Err(clash) => Clash {
+            reply: Err(Refused::from(clash)),
+            steps: write_behind(book, clash.place, n, &voids, e, d, t, c),
+        },
     }
 }
 
-fn refuse(refusal: Refusal, place: usize) -> Clash
-    ensures { result ≡ record { reply = refused_at refusal place; steps = 0 } }
+fn refuse(refused: Refused) -> Clash
+    ensures { result ≡ record { reply = Err refused; steps = 0 } }
 {
     Clash {
-        reply: Reply::Refused(refusal, place),
+        reply: Err(refused),
         steps: 0,
     }
 }
@@ -156,12 +145,11 @@ pub fn write_clash(
     ensures { Written book.now steps.old result steps.new }
 {
     if steps.len() < chain_format::CHAIN_BYTES {
-        return refuse(Refusal::ShortSteps, 0);
+        return refuse(Refusal::ShortSteps.at(0));
     }
-    let checked = records::check_book(book);
-    match checked {
-        BookCheck::Refused(refusal, place) => refuse(refusal, place),
-        BookCheck::Accepted(n) => judge(book, n, steps, e, d, t),
+    match records::check_book(book) {
+        Err(refused) => refuse(refused),
+        Ok(n) => judge(book, n, steps, e, d, t),
     }
 }
 
@@ -195,10 +183,9 @@ fn check_sound(
     ensures { result ≡ passes book.now steps.now }
 {
     let mut voids = [0u64; matrices::ROW_WORDS];
-    let settled = contradiction::settle_book(book, n, &mut voids, e, d, t);
-    match settled {
-        Row14::Free => false,
-        Row14::Clash(place) => check_behind(book, place, n, &voids, steps),
+    match contradiction::settle_book(book, n, &mut voids, e, d, t) {
+        Ok(()) => false,
+        Err(clash) => check_behind(book, clash.place, n, &voids, steps),
     }
 }
 
@@ -212,9 +199,8 @@ pub fn check_clash(
 ) -> bool
     ensures { result ≡ passes book.now steps.now }
 {
-    let checked = records::check_book(book);
-    match checked {
-        BookCheck::Refused(_, _) => false,
-        BookCheck::Accepted(n) => check_sound(book, n, steps, e, d, t),
+    match records::check_book(book) {
+        Err(_) => false,
+        Ok(n) => check_sound(book, n, steps, e, d, t),
     }
 }

@@ -94,8 +94,8 @@ module _ (s t cs : List ℕ) where
       claims-told a.pieces b.pieces
       (λ n q fit.
       record {
-        a.pieces = a.pieces;
-        b.pieces = b.pieces;
+        a = a.pieces;
+        b = b.pieces;
         first = x;
         second = y;
         fit = rw q at fit;

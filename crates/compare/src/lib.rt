@@ -13,19 +13,34 @@ ghost use Rattle.compare.specs.Judging.{Judgeable, Ready, Rows, Judged};
 ghost use Rattle.records.specs.Sizes.{BOOK-BYTES};
 
 use matrices::Matrix;
-use outcomes::Outcome;
-use records::{BookCheck, ClaimsCheck, Refusal};
+use records::{Refusal, Refused};
 
 pub mod joint;
 
-// The number of the second book in a refusal.
+// The numbers of the books in a refusal: 0 for one of buffers and claims.
+pub const NEITHER: usize = 0;
+
+pub const FIRST: usize = 1;
+
 pub const SECOND: usize = 2;
 
-// What a comparison comes to: whether both books can be laid together, or the refusal of a book, 1 or 2, or of buffers and claims, 0, and its place.
-#[derive(Clone, Copy)]
-pub enum Comparison {
-    Compared(bool),
-    Refused(usize, Refusal, usize),
+// The refusal of a book, 1 or 2, or of buffers and claims, 0, and its place.
+#[derive(Clone, Copy, Debug, PartialEq, Eq)]
+pub struct RefusedOf {
+    pub book: usize,
+    pub refusal: Refusal,
+    pub place: usize,
+}
+
+// A refusal of whose book it is.
+fn refused_of(book: usize, refused: Refused) -> RefusedOf
+    ensures { result ≡ record { book = book; refusal = refused.refusal; place = refused.place } }
+{
+    RefusedOf {
+        book,
+        refusal: refused.refusal,
+        place: refused.place,
+    }
 }
 
 // Whether the records of a run can be laid in ice, all its marks counting. The matrices are scratch.
@@ -69,7 +84,7 @@ fn judge_both(
     u: &mut Matrix,
     p: &mut Matrix,
     q: &mut Matrix,
-) -> Comparison
+) -> Result<bool, RefusedOf>
     requires { Ready first.now second.now claims.now n × (3 * records claims.now ≤ length out.old) }
     ensures { Judged first.now second.now claims.now out.old result out.new }
 {
@@ -77,64 +92,47 @@ fn judge_both(
     let mut ours = [0u8; records::CLAIMS];
     let mut theirs = [0u8; records::CLAIMS];
     let one = answers::judge_alone(first, n, claims, e, d, t, u, p, q, &mut ours[..asked]);
-    if let Outcome::Refused(refusal, place) = one {
-        return Comparison::Refused(1, refusal, place);
+    if let Err(refused) = one {
+        return Err(refused_of(FIRST, refused));
     }
     let two = answers::judge_alone(second, n, claims, e, d, t, u, p, q, &mut theirs[..asked]);
-    if let Outcome::Refused(refusal, place) = two {
-        return Comparison::Refused(SECOND, refusal, place);
+    if let Err(refused) = two {
+        return Err(refused_of(SECOND, refused));
     }
     let consistent = lay_together(first, second, n, e, d, t);
     joint::write_answers(&ours[..asked], &theirs[..asked], out);
-    Comparison::Compared(consistent)
+    Ok(consistent)
 }
 
 // The refusal of the first book that a fresh call refuses, or what comes after both.
 fn after(
     first: &[u8],
     second: &[u8],
-    rest: Comparison,
+    rest: Result<bool, RefusedOf>,
     e: &mut Matrix,
     d: &mut Matrix,
     t: &mut Matrix,
-) -> Comparison
+) -> Result<bool, RefusedOf>
     ensures { result ≡ by_book 1 (fresh_call first.now []) (by_book 2 (fresh_call second.now []) rest) }
 {
-    let one = answers::judge_book(first, e, d, t);
-    match one {
-        BookCheck::Refused(refusal, place) => Comparison::Refused(1, refusal, place),
-        BookCheck::Accepted(_) => {
-            let two = answers::judge_book(second, e, d, t);
-            match two {
-                BookCheck::Refused(refusal, place) => Comparison::Refused(SECOND, refusal, place),
-                BookCheck::Accepted(_) => rest,
-            }
-        }
+    if let Err(refused) = answers::judge_book(first, e, d, t) {
+        return Err(refused_of(FIRST, refused));
     }
+    if let Err(refused) = answers::judge_book(second, e, d, t) {
+        return Err(refused_of(SECOND, refused));
+    }
+    rest
 }
 
 // Rows 3 to 13: the count of the larger book, or the first refusal, which row 14 of the books before it comes before.
-fn check_rows(first: &[u8], second: &[u8], claims: &[u8]) -> BookCheck
+fn check_rows(first: &[u8], second: &[u8], claims: &[u8]) -> Result<usize, Refused>
     ensures { Rows first.now second.now claims.now result }
 {
-    let one = records::check_book(first);
-    match one {
-        BookCheck::Refused(refusal, place) => BookCheck::Refused(refusal, place),
-        BookCheck::Accepted(own) => {
-            let two = records::check_book(second);
-            match two {
-                BookCheck::Refused(refusal, place) => BookCheck::Refused(refusal, place),
-                BookCheck::Accepted(other) => {
-                    let n = numbers::larger_of(own, other);
-                    let fit = records::check_claims(claims, n);
-                    match fit {
-                        ClaimsCheck::Refused(refusal, place) => BookCheck::Refused(refusal, place),
-                        ClaimsCheck::Accepted => BookCheck::Accepted(n),
-                    }
-                }
-            }
-        }
-    }
+    let own = records::check_book(first)?;
+    let other = records::check_book(second)?;
+    let n = own.max(other);
+    records::check_claims(claims, n)?;
+    Ok(n)
 }
 
 // Compares two books: for each claim both answers, then 1 SAME, 2 ONE OPEN or 3 OPPOSED.
@@ -149,26 +147,16 @@ pub fn compare(
     u: &mut Matrix,
     p: &mut Matrix,
     q: &mut Matrix,
-) -> Comparison
+) -> Result<bool, RefusedOf>
     ensures determined { Determined first.now second.now claims.now out.old result out.new }
     ensures demanded { Demanded first.now second.now claims.now (length out.old) out.new result }
 {
     let asked = claims.len() / records::RECORD_BYTES;
     if out.len() < joint::COMPARED_BYTES * asked {
-        return Comparison::Refused(0, Refusal::ShortBuffer, 0);
+        return Err(refused_of(NEITHER, Refusal::ShortBuffer.at(0)));
     }
-    let rows = check_rows(first, second, claims);
-    match rows {
-        BookCheck::Refused(refusal, place) => {
-            after(
-                first,
-                second,
-                Comparison::Refused(0, refusal, place),
-                e,
-                d,
-                t,
-            )
-        }
-        BookCheck::Accepted(n) => { judge_both(first, second, n, claims, out, e, d, t, u, p, q) }
+    match check_rows(first, second, claims) {
+        Err(refused) => after(first, second, Err(refused_of(NEITHER, refused)), e, d, t),
+        Ok(n) => judge_both(first, second, n, claims, out, e, d, t, u, p, q),
     }
 }

@@ -8,16 +8,9 @@ ghost use Rattle.convert.specs.Conversion.{number, Determined};
 ghost use Rattle.convert.specs.Same.{InForce, SameAnswers};
 ghost use Rattle.convert.specs.Writing.{FormerBook, Judged, Room};
 
-use contradiction::Row14;
+use contradiction::Clash;
 use matrices::Matrix;
-use records::{BookCheck, Refusal};
-
-// What a conversion comes to: how many bytes were written, or the refusal and its place.
-#[derive(Clone, Copy)]
-pub enum Conversion {
-    Written(usize),
-    Refused(Refusal, usize),
-}
+use records::{Refusal, Refused};
 
 // Writes the records that are no TRAY records to the front of `out`, and says how many bytes they have.
 fn drop_trays(book: &[u8], out: &mut [u8]) -> usize
@@ -56,7 +49,13 @@ fn write_book(book: &[u8], n: usize, out: &mut [u8]) -> usize
 }
 
 // Row 14 of a book of the former edition, which has no marks.
-fn settle(book: &[u8], n: usize, e: &mut Matrix, d: &mut Matrix, t: &mut Matrix) -> Row14
+fn settle(
+    book: &[u8],
+    n: usize,
+    e: &mut Matrix,
+    d: &mut Matrix,
+    t: &mut Matrix,
+) -> Result<(), Clash>
     requires { FormerBook book.now n }
     ensures { Judged book.now n result }
 {
@@ -66,30 +65,22 @@ fn settle(book: &[u8], n: usize, e: &mut Matrix, d: &mut Matrix, t: &mut Matrix)
     contradiction::settle_alone(book, n, &voids, e, &mut order, &mut lead, d, t)
 }
 
-// Converts a book of the former edition to the one in force.
+// Converts a book of the former edition to the one in force, and says how many bytes were written.
 pub fn convert(
     book: &[u8],
     out: &mut [u8],
     e: &mut Matrix,
     d: &mut Matrix,
     t: &mut Matrix,
-) -> Conversion
+) -> Result<usize, Refused>
     ensures determined { Determined book.now out.old result out.new }
     ensures accepted { number result ≡ 0 → InForce book.now (converted book.now) }
     ensures same { number result ≡ 0 → SameAnswers book.now (converted book.now) }
 {
     if out.len() < book.len() {
-        return Conversion::Refused(Refusal::ShortBuffer, 0);
+        return Err(Refusal::ShortBuffer.at(0));
     }
-    let checked = records::check_former(book);
-    match checked {
-        BookCheck::Refused(refusal, place) => Conversion::Refused(refusal, place),
-        BookCheck::Accepted(n) => {
-            let settled = settle(book, n, e, d, t);
-            match settled {
-                Row14::Clash(place) => Conversion::Refused(Refusal::Contradiction, place),
-                Row14::Free => Conversion::Written(write_book(book, n, out)),
-            }
-        }
-    }
+    let n = records::check_former(book)?;
+    settle(book, n, e, d, t)?;
+    Ok(write_book(book, n, out))
 }

@@ -1,7 +1,7 @@
 // The grids of a book of at most 64 pieces, one for each kind of claim: its facts as bits, closed under the rules by rounds.
 #![tactic(auto)]
 
-ghost use Rattle.std.specs.Prelude.{◌≡◌, not, ◌&&◌, [], ℕ, ◌<◌, ◌≤◌, eqb, ltb};
+ghost use Rattle.std.specs.Prelude.{◌≡◌, not, ◌&&◌, [], ℕ, ◌<◌, ◌≤◌, eqb, ltb, Ok, Err};
 ghost use Rattle.matrices.specs.Matrix.{bit};
 ghost use Rattle.rules.specs.Fact.{fact_of};
 ghost use Rattle.grids.specs.Grid.{Inserted};
@@ -15,8 +15,8 @@ ghost use Rattle.grids.specs.Sizes.{SIDE};
 ghost use Rattle.records.specs.Sizes.{NOTPART, PART};
 
 use matrices::Matrix;
-use outcomes::Outcome;
-use records::{BookCheck, Refusal};
+use outcomes::Counts;
+use records::{Refusal, Refused};
 use rounds::{Grid, Grids};
 
 pub mod rounds;
@@ -160,22 +160,22 @@ fn load(book: &[u8], n: usize, marks: u64) -> Grids
 // What the call comes to, and the grids: without a bit where it is refused.
 #[derive(Clone, Copy)]
 pub struct GridAnswer {
-    pub outcome: Outcome,
+    pub outcome: Result<Counts, Refused>,
     pub grids: Grids,
 }
 
-fn refuse(refusal: Refusal, place: usize) -> GridAnswer
-    ensures { (result.outcome ≡ Outcome.Refused refusal place) × Blank result.grids }
+fn refuse(refused: Refused) -> GridAnswer
+    ensures { (result.outcome ≡ Err refused) × Blank result.grids }
 {
     GridAnswer {
-        outcome: Outcome::Refused(refusal, place),
+        outcome: Err(refused),
         grids: no_bits(),
     }
 }
 
 // The grids of an accepted book of n pieces.
 fn grids_of(book: &[u8], n: usize) -> Grids
-    requires { (book_check book.now ≡ BookCheck.Accepted n) × (n ≤ SIDE) }
+    requires { (book_check book.now ≡ Ok n) × (n ≤ SIDE) }
     ensures { Answers (marked book.now) n (facts book.now) result }
 {
     let mut voids = [0u64; matrices::ROW_WORDS];
@@ -189,15 +189,14 @@ pub fn grid(book: &[u8], e: &mut Matrix, d: &mut Matrix, t: &mut Matrix) -> Grid
 {
     let outcome = answers::judge_run(book, e, d, t);
     match outcome {
-        Outcome::Refused(refusal, place) => refuse(refusal, place),
-        Outcome::Accepted(n, nodes, shadows) => {
-            if rounds::SIDE < n {
-                return refuse(Refusal::TooManyPieces, 0);
+        Err(refused) => refuse(refused),
+        Ok(counts) => {
+            if rounds::SIDE < counts.pieces {
+                return refuse(Refusal::TooManyPieces.at(0));
             }
-            let grids = grids_of(book, n);
             GridAnswer {
-                outcome: Outcome::Accepted(n, nodes, shadows),
-                grids,
+                outcome,
+                grids: grids_of(book, counts.pieces),
             }
         }
     }

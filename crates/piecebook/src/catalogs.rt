@@ -4,9 +4,10 @@ ghost use Rattle.std.specs.Prelude.{◌≡◌};
 ghost use Rattle.catalog.specs.Lent.{lent};
 ghost use Rattle.areas.specs.Subtree.{range_from, range_to};
 
-use catalog::Listing;
+use catalog::Counts;
 use index::{DatasetId, TreeId};
 use matrices::Matrix;
+use records::Refused;
 
 // A catalog's outcome as include/piecebook.h has it.
 #[repr(C)]
@@ -23,11 +24,11 @@ pub struct PiecebookCatalogResult {
     pub notpart: usize,
 }
 
-pub fn counted_of(listing: Listing) -> PiecebookCatalogResult
+pub fn counted_of(listing: Result<Counts, Refused>) -> PiecebookCatalogResult
     ensures { Counted listing result }
 {
     match listing {
-        Listing::Written(counts) => PiecebookCatalogResult {
+        Ok(counts) => PiecebookCatalogResult {
             number: 0,
             place: 0,
             pieces: counts.pieces,
@@ -38,9 +39,9 @@ pub fn counted_of(listing: Listing) -> PiecebookCatalogResult
             apart: counts.apart,
             notpart: counts.notpart,
         },
-        Listing::Refused(refusal, place) => PiecebookCatalogResult {
-            number: numbers::wide(records::refusal_number(refusal)),
-            place,
+        Err(refused) => PiecebookCatalogResult {
+            number: usize::from(records::refusal_number(refused.refusal)),
+            place: refused.place,
             pieces: 0,
             nodes: 0,
             shadows: 0,

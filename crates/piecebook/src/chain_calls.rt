@@ -7,8 +7,9 @@ ghost use Rattle.chain_check.specs.Call.{passes};
 ghost use Rattle.clash.specs.Clash as clashing;
 ghost use Rattle.piecebook.specs.Clashes.{Clashed};
 
-use chain_writing::Reply;
 use matrices::Matrix;
+use records::Refused;
+use verdicts::Answer;
 
 // What the writer comes to, as include/piecebook.h has it.
 #[repr(C)]
@@ -20,19 +21,19 @@ pub struct PiecebookChainResult {
     pub steps: usize,
 }
 
-pub fn chained(reply: Reply, steps: usize) -> PiecebookChainResult
+pub fn chained(reply: Result<Answer, Refused>, steps: usize) -> PiecebookChainResult
     ensures { Replied reply steps result }
 {
     match reply {
-        Reply::Answered(answer) => PiecebookChainResult {
+        Ok(answer) => PiecebookChainResult {
             number: 0,
             place: 0,
-            answer: numbers::wide(verdicts::byte_of(answer)),
+            answer: usize::from(verdicts::byte_of(answer)),
             steps,
         },
-        Reply::Refused(refusal, place) => PiecebookChainResult {
-            number: numbers::wide(records::refusal_number(refusal)),
-            place,
+        Err(refused) => PiecebookChainResult {
+            number: usize::from(records::refusal_number(refused.refusal)),
+            place: refused.place,
             answer: 0,
             steps,
         },
@@ -48,18 +49,18 @@ pub struct PiecebookClashResult {
     pub steps: usize,
 }
 
-pub fn clashed(reply: clash::Reply, steps: usize) -> PiecebookClashResult
+pub fn clashed(reply: Result<(), Refused>, steps: usize) -> PiecebookClashResult
     ensures { clashes.Replied reply steps result }
 {
     match reply {
-        clash::Reply::Free => PiecebookClashResult {
+        Ok(()) => PiecebookClashResult {
             number: 0,
             place: 0,
             steps,
         },
-        clash::Reply::Refused(refusal, place) => PiecebookClashResult {
-            number: numbers::wide(records::refusal_number(refusal)),
-            place,
+        Err(refused) => PiecebookClashResult {
+            number: usize::from(records::refusal_number(refused.refusal)),
+            place: refused.place,
             steps,
         },
     }
@@ -92,10 +93,7 @@ pub extern "C" fn piecebook_chain_check_with(
 ) -> usize
     ensures { result ≡ num (passes book.now claim.now steps.now) }
 {
-    if chain_check::check_chain(book, claim, steps, e, d, t) {
-        return 1;
-    }
-    0
+    usize::from(chain_check::check_chain(book, claim, steps, e, d, t))
 }
 
 #[unsafe(no_mangle)]
@@ -123,8 +121,5 @@ pub extern "C" fn piecebook_clash_check_with(
 ) -> usize
     ensures { result ≡ num (clashing.passes book.now steps.now) }
 {
-    if clash::check_clash(book, steps, e, d, t) {
-        return 1;
-    }
-    0
+    usize::from(clash::check_clash(book, steps, e, d, t))
 }

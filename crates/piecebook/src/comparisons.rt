@@ -4,7 +4,7 @@ ghost use Rattle.piecebook.specs.Compares.{Reported, Compares};
 ghost use Rattle.std.specs.Prelude.{length};
 ghost use Rattle.compare.specs.Demands.{Demanded};
 
-use compare::Comparison;
+use compare::RefusedOf;
 use matrices::Matrix;
 
 // A comparison's outcome as include/piecebook.h has it.
@@ -17,20 +17,20 @@ pub struct PiecebookComparison {
     pub together: usize,
 }
 
-pub fn reported_of(comparison: Comparison) -> PiecebookComparison
+pub fn reported_of(comparison: Result<bool, RefusedOf>) -> PiecebookComparison
     ensures { Reported comparison result }
 {
     match comparison {
-        Comparison::Compared(consistent) => PiecebookComparison {
+        Ok(consistent) => PiecebookComparison {
             number: 0,
             place: 0,
             book: 0,
-            together: consistent as usize,
+            together: usize::from(consistent),
         },
-        Comparison::Refused(book, refusal, place) => PiecebookComparison {
-            number: numbers::wide(records::refusal_number(refusal)),
-            place,
-            book,
+        Err(refused) => PiecebookComparison {
+            number: usize::from(records::refusal_number(refused.refusal)),
+            place: refused.place,
+            book: refused.book,
             together: 0,
         },
     }

@@ -15,7 +15,8 @@ ghost use Rattle.piecebook.specs.Replicates.{Replicates};
 
 use grids::rounds::Grid;
 use matrices::Matrix;
-use outcomes::Outcome;
+use outcomes::Counts;
+use records::Refused;
 use replicates::Window;
 use results::{PiecebookConverted, PiecebookResult};
 use working::{Settled, Working};
@@ -142,18 +143,18 @@ pub struct PiecebookWorked {
     pub result: PiecebookWorkingResult,
 }
 
-fn told(outcome: Outcome, answer: usize) -> PiecebookWorkingResult
+fn told(outcome: Result<Counts, Refused>, answer: usize) -> PiecebookWorkingResult
     ensures { Replied outcome answer result }
 {
     match outcome {
-        Outcome::Accepted(_, _, _) => PiecebookWorkingResult {
+        Ok(_) => PiecebookWorkingResult {
             number: 0,
             place: 0,
             answer,
         },
-        Outcome::Refused(refusal, place) => PiecebookWorkingResult {
-            number: numbers::wide(records::refusal_number(refusal)),
-            place,
+        Err(refused) => PiecebookWorkingResult {
+            number: usize::from(records::refusal_number(refused.refusal)),
+            place: refused.place,
             answer,
         },
     }
@@ -226,7 +227,7 @@ pub fn ask_of(
 {
     let asked = working::ask_of(state_of(was), area, claim, e, d, t, u, p, q);
     let outcome = asked.outcome;
-    told(outcome, numbers::wide(asked.answer))
+    told(outcome, usize::from(asked.answer))
 }
 
 // The counts are lent as two numbers, which is how C lays them out. A refused start leaves them.
@@ -243,10 +244,9 @@ pub extern "C" fn piecebook_start_with(
     let settled = working::start(area, e, d, t);
     let begun = settled.working;
     let outcome = settled.outcome;
-    let Outcome::Accepted(_, _, _) = outcome else {
-        return told(outcome, 0);
-    };
-    *state = [begun.records, begun.pieces];
+    if outcome.is_ok() {
+        *state = [begun.records, begun.pieces];
+    }
     told(outcome, 0)
 }
 

@@ -2,8 +2,8 @@
 ghost use Rattle.piecebook.specs.Exported.{Reported};
 ghost use Rattle.piecebook.specs.Converts.{Told};
 
-use convert::Conversion;
-use outcomes::Outcome;
+use outcomes::Counts;
+use records::Refused;
 
 // The outcome as include/piecebook.h has it.
 #[repr(C)]
@@ -16,20 +16,20 @@ pub struct PiecebookResult {
     pub shadows: usize,
 }
 
-pub fn result_of(outcome: Outcome) -> PiecebookResult
+pub fn result_of(outcome: Result<Counts, Refused>) -> PiecebookResult
     ensures { Reported outcome result }
 {
     match outcome {
-        Outcome::Accepted(pieces, nodes, shadows) => PiecebookResult {
+        Ok(counts) => PiecebookResult {
             number: 0,
             place: 0,
-            pieces,
-            nodes,
-            shadows,
+            pieces: counts.pieces,
+            nodes: counts.nodes,
+            shadows: counts.shadows,
         },
-        Outcome::Refused(refusal, place) => PiecebookResult {
-            number: numbers::wide(records::refusal_number(refusal)),
-            place,
+        Err(refused) => PiecebookResult {
+            number: usize::from(records::refusal_number(refused.refusal)),
+            place: refused.place,
             pieces: 0,
             nodes: 0,
             shadows: 0,
@@ -46,18 +46,18 @@ pub struct PiecebookConverted {
     pub length: usize,
 }
 
-pub fn converted_of(conversion: Conversion) -> PiecebookConverted
+pub fn converted_of(conversion: Result<usize, Refused>) -> PiecebookConverted
     ensures { Told conversion result }
 {
     match conversion {
-        Conversion::Written(length) => PiecebookConverted {
+        Ok(length) => PiecebookConverted {
             number: 0,
             place: 0,
             length,
         },
-        Conversion::Refused(refusal, place) => PiecebookConverted {
-            number: numbers::wide(records::refusal_number(refusal)),
-            place,
+        Err(refused) => PiecebookConverted {
+            number: usize::from(records::refusal_number(refused.refusal)),
+            place: refused.place,
             length: 0,
         },
     }

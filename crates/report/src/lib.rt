@@ -13,9 +13,9 @@ ghost use Rattle.report.specs.Asked.{Asked};
 ghost use Rattle.report.specs.Rooms.{ANSWERS-MOST, ANSWERS-ROOM};
 ghost use Rattle.text.specs.Rooms.{CLAIMS-ROOM};
 
-use outcomes::Outcome;
+use outcomes::Counts;
 use pages::Written;
-use records::Record;
+use records::{Record, Refused};
 
 // Bytes of claims that a session reads: one claim more than row 11 lets pass, so that row 11 can tell.
 pub const CLAIMS_READ: usize = 24582;
@@ -83,7 +83,7 @@ pub fn put_claims(page: &mut [u8], at: usize, claims: &[u8], answers: &[u8]) -> 
 }
 
 // Answers the claims, with an index that nobody asks for.
-pub fn answer(book: &[u8], claims: &[u8], answers: &mut [u8]) -> Outcome
+pub fn answer(book: &[u8], claims: &[u8], answers: &mut [u8]) -> Result<Counts, Refused>
     requires { answers.old ≡ replicate ANSWERS-MOST 0 }
     ensures { Answered book.now claims.now answers.new result }
 {
@@ -104,14 +104,13 @@ fn write_session(book: &[u8], claims: &[u8], page: &mut [u8]) -> usize
     ensures { Printed page.old (printed book.now claims.now) page.new result }
 {
     let mut answers = [0u8; records::CLAIMS + 1];
-    let outcome = answer(book, claims, &mut answers);
-    match outcome {
-        Outcome::Refused(refusal, place) => {
-            let number = records::refusal_number(refusal);
-            put_refusal(page, 0, number as usize, place)
+    match answer(book, claims, &mut answers) {
+        Err(refused) => {
+            let number = records::refusal_number(refused.refusal);
+            put_refusal(page, 0, usize::from(number), refused.place)
         }
-        Outcome::Accepted(pieces, nodes, shadowed) => {
-            let at = put_counts(page, 0, pieces, nodes, shadowed);
+        Ok(counts) => {
+            let at = put_counts(page, 0, counts.pieces, counts.nodes, counts.shadows);
             put_claims(page, at, claims, &answers)
         }
     }

@@ -61,7 +61,7 @@ module _ (w : Working) (area s run : List ℕ) (S : Stands w area s) where
       let g = good n.pieces n.nodes n.shadows refl in
       subst (λ (x : Working). Stands x area' run) (sym b) (subst (λ (y : List ℕ). Stands (record { records = records run; pieces = n.pieces }) y run) (sym c) (kept area run g.1.0 n.pieces n.nodes n.shadows S.long g.1.1.0 g.1.1.1 g.0))
   step (Err x) good r w' area' (a, (b, c)) =
-      subst (λ (x.refusal : Working). Stands x.refusal area' s) (sym b) (subst (λ (y : List ℕ). Stands w y s) (sym c) S)
+      subst (λ (v : Working). Stands v area' s) (sym b) (subst (λ (y : List ℕ). Stands w y s) (sym c) S)
 
 -- ---- an addition
 module _ (w : Working) (area s a : List ℕ) (S : Stands w area s) where

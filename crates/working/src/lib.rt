@@ -11,7 +11,6 @@ ghost use Rattle.records.specs.Sizes.{BOOK-BYTES, RECORD-BYTES};
 use keeping::Asked;
 pub use keeping::{Settled, Working};
 use matrices::Matrix;
-use outcomes::Outcome;
 use records::Refusal;
 
 pub mod keeping;
@@ -139,13 +138,13 @@ pub fn ask_of(
     let records = was.records;
     if area.len() < records::BOOK_BYTES {
         return Asked {
-            outcome: Outcome::Refused(Refusal::ShortBuffer, 0),
+            outcome: Err(Refusal::ShortBuffer.at(0)),
             answer: 0,
         };
     }
     if records::RECORDS < records {
         return Asked {
-            outcome: Outcome::Refused(Refusal::TooManyRecords, 0),
+            outcome: Err(Refusal::TooManyRecords.at(0)),
             answer: 0,
         };
     }

@@ -17,7 +17,7 @@ returns-then-area-lt-BOOK_BYTES c =
     let k = c.args.was.records in
     let s = c.args.area.now in
     let q = c.args.claim.now in
-    (sym (ask-short s q k (omega arith)), no_answer (standing s k) q ShortBuffer)
+    rw c.at.ensures (sym (ask-short s q k (omega arith)), no_answer (standing s k) q ShortBuffer)
 
 -- src/lib.rt:243:9
 pub returns-then-records-gt-RECORDS : goal.returns-then-records-gt-RECORDS
@@ -25,7 +25,7 @@ returns-then-records-gt-RECORDS c =
     let k = c.args.was.records in
     let s = c.args.area.now in
     let q = c.args.claim.now in
-    (sym (ask-many s q k (omega arith) (omega arith)), no_answer (standing s k) q TooManyRecords)
+    rw c.at-then-records-gt-RECORDS.ensures (sym (ask-many s q k (omega arith) (omega arith)), no_answer (standing s k) q TooManyRecords)
 
 -- src/lib.rt:250:30
 pub slice_bounds-misfit-end : goal.slice_bounds-misfit-end
