@@ -5,7 +5,4 @@ use Rattle.grids.proofs.Loads.{Upto}
 use Rattle.grids.proofs.load.Given as goal
 
 abbrev pub invariant-loop-i : goal.invariant-loop-i
-invariant-loop-i l = (l.i ≤ records l.book) × Upto (bit l.marks) l.n l.book l.i l.g
-
-abbrev pub decreases-loop-i : goal.decreases-loop-i
-decreases-loop-i l = records l.book - l.i
+invariant-loop-i l = Upto (bit l.marks) l.n l.book l.i l.g
