@@ -1,6 +1,4 @@
-use Prim.Native.Nat.{◌≤◌, ◌-◌}
 use Rattle.matrices.specs.Matrix.{bit}
-use Rattle.records.specs.Record.{records}
 use Rattle.grids.proofs.Loads.{Upto}
 use Rattle.grids.proofs.load.Given as goal
 

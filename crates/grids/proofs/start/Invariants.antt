@@ -1,4 +1,3 @@
-use Prim.Native.Nat.{◌≤◌, ◌-◌}
 use Rattle.rules.specs.Fact.{PART, APART, MEETS}
 use Rattle.grids.proofs.Starts.{Made}
 use Rattle.grids.proofs.start.Given as goal

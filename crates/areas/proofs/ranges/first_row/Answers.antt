@@ -4,5 +4,5 @@ use native.Mathlib.Omega.{arith}
 use Rattle.areas.proofs.Searches.{lower-half}
 use Rattle.areas.proofs.ranges.first_row.Goals as goal
 
-pub loop-low-preserved-then-wide-row : goal.loop-low-preserved-then-wide-row
-loop-low-preserved-then-wide-row c = (omega arith, omega arith, lower-half _ _ _ _ (omega arith) (omega (arith, c.wide.ensures)))
+pub loop-low-preserved-then-from-row : goal.loop-low-preserved-then-from-row
+loop-low-preserved-then-from-row c = (omega arith, omega arith, lower-half _ _ _ _ (omega arith) (omega (arith, c.from.ensures)))

@@ -1,8 +1,7 @@
-use Prim.Native.Nat.{◌-◌}
 use native.Mathlib.Omega.{arith}
 use Rattle.matrices.proofs.Laws.{one_shl}
 use Rattle.grids.specs.Grid.{bit_at}
-use Rattle.grids.proofs.Rows.{row-none, row_more, row-all}
+use Rattle.grids.proofs.Rows.{row-none, row_more}
 use Rattle.grids.proofs.rounds.column.Goals as goal
 
 pub loop-g-init : goal.loop-g-init
