@@ -1,7 +1,6 @@
 -- `ranges::fact_between` meets its contract: one order, and in unordered kinds the other. Assumes nothing.
 use mathlib.Core.Path.{sym, ◌∙◌}
 use native.Mathlib.Omega.{arith}
-use borrow.Author.Tests.{not-true, not-false}
 use Rattle.lists.proofs.Bools.{left_or}
 use Rattle.areas.proofs.Filled.{left-rises, left-long, left-between, neither, other}
 use Rattle.areas.proofs.ranges.fact_between.Goals as goal

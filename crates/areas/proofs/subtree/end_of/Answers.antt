@@ -1,8 +1,5 @@
 -- `subtree::end_of` meets its contract. Assumes nothing.
-use mathlib.Core.Path.{sym}
 use mathlib.Core.Logic.{inl, inr}
-use native.Mathlib.Omega.{arith}
-use lib.Seq.{length-take-le}
 use Rattle.areas.proofs.Subtrees.{short-parens, short-places, end-there}
 use Rattle.areas.proofs.subtree.end_of.Goals as goal
 
