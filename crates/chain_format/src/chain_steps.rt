@@ -41,9 +41,7 @@ fn void_apart(book: &[u8], s: Step) -> bool
 fn void_part(book: &[u8], s: Step) -> bool
     ensures { (claim : of.Record) → result ≡ (eqb s.second 0 && (showing s 1 s.a s.b && marks_piece s.a (get_or (citing claim book.now) s.first none))) }
 {
-    s.second == 0
-        && steps::shows(s, records::PART, s.a, s.b)
-        && marks_piece(book, s.first, s.a)
+    s.second == 0 && steps::shows(s, records::PART, s.a, s.b) && marks_piece(book, s.first, s.a)
 }
 
 // Whether the step shows a fact for which nothing is asked.

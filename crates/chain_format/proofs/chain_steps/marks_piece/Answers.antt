@@ -1,3 +1,5 @@
+use borrow.Author.Tests.{ne_eqb}
+use mathlib.Core.Path.{◌∙◌}
 -- `chain_steps::marks_piece` meets its contract. Assumes nothing.
 use Rattle.chain_format.proofs.Computed.{marks-beyond, marks-no, marks-it}
 use native.Mathlib.Omega.{arith}
@@ -10,4 +12,4 @@ pub returns-then-r-eq-VOID : goal.returns-then-r-eq-VOID
 returns-then-r-eq-VOID c = λ claim. marks-it claim _ _ _ (omega arith) _ c.record_at-r.ensures c.if-r-eq-VOID.true
 
 pub returns-else-r-eq-VOID : goal.returns-else-r-eq-VOID
-returns-else-r-eq-VOID c = λ claim. c.if-r-eq-VOID.false-is ∙ marks-no claim _ _ _ (omega arith) _ c.record_at-r.ensures c.if-r-eq-VOID.false
+returns-else-r-eq-VOID c = λ claim. ne_eqb _ _ c.if-r-eq-VOID.false ∙ marks-no claim _ _ _ (omega arith) _ c.record_at-r.ensures c.if-r-eq-VOID.false

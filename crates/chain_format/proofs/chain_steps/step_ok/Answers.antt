@@ -1,3 +1,6 @@
+use borrow.Author.Tests.{ne_eqb}
+use mathlib.Core.Path.{ap}
+use mathlib.Core.Bool.{not}
 use mathlib.Core.Logic.{inl, inr}
 -- `chain_steps::step_ok` meets its contract. Assumes nothing.
 use mathlib.Core.Path.{◌∙◌}
@@ -21,7 +24,7 @@ returns-then-s-eq0 c =
     c.cites.ensures ∙ stored-cites _ _ _ _ _ c.step_at-s.ensures c.if-n-s.false c.if-n-s-2.false c.in-0.is c.if-s-eq0.true
 
 pub returns-else-s-eq0 : goal.returns-else-s-eq0
-returns-else-s-eq0 c = stored-second _ _ _ _ _ c.step_at-s.ensures c.if-n-s.false c.if-n-s-2.false c.in-0.is c.if-s-eq0.false
+returns-else-s-eq0 c = ne_eqb _ _ c.if-s-eq0.false ∙ stored-second _ _ _ _ _ c.step_at-s.ensures c.if-n-s.false c.if-n-s-2.false c.in-0.is c.if-s-eq0.false
 
 pub returns-then-not-has : goal.returns-then-not-has
 returns-then-not-has c =
@@ -29,7 +32,7 @@ returns-then-not-has c =
 
 pub returns-else-not-has : goal.returns-else-not-has
 returns-else-not-has c =
-    marked-e' _ _ _ _ _ c.step_at-s.ensures c.if-n-s.false c.if-n-s-2.false c.in-9.is (marks-read _ _ _ c.requires.1.1 _ _ c.has.ensures ∙ c.if-not-has.false)
+    ap not c.if-not-has.false ∙ marked-e' _ _ _ _ _ c.step_at-s.ensures c.if-n-s.false c.if-n-s-2.false c.in-9.is (marks-read _ _ _ c.requires.1.1 _ _ c.has.ensures ∙ c.if-not-has.false)
 
 pub returns-then-i-s : goal.returns-then-i-s
 returns-then-i-s c =
