@@ -2,7 +2,6 @@ use mathlib.Core.Logic.{inl, inr}
 -- `chain_steps::check_steps` meets its contract: the loop keeps that the steps passed are justified. Assumes nothing.
 use mathlib.Core.Path.{sym, ◌∙◌}
 use native.Mathlib.Omega.{arith}
-use borrow.Author.Rules.{rules}
 use Rattle.chain_format.proofs.Passing.{ragged-steps, no_steps, many-steps, bad-step, all_none, all_more, all_done, kind-most, ends-claim, ends-opposite}
 use Rattle.chain_format.proofs.chain_steps.check_steps.Goals as goal
 

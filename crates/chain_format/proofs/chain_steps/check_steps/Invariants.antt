@@ -1,5 +1,4 @@
 -- `chain_steps::check_steps` meets its contract: the loop keeps that the steps passed are justified. Assumes nothing.
-use Prim.Native.Nat.{◌-◌, ◌≤◌}
 use mathlib.Core.Path.{◌≡◌}
 use mathlib.Core.Bool.{true}
 use Rattle.chain_format.specs.Citing.{citing}

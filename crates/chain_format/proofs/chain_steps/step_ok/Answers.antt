@@ -16,9 +16,6 @@ returns-then-n-s c =
       | inr r ↦ outside_b _ _ _ _ _ c.step_at-s.ensures r.0 r.1
     ]
 
-pub has-requires : goal.has-requires
-has-requires c = (c.requires.1.0.sized, omega (arith, c.if-n-s.false, c.requires.0))
-
 pub returns-then-s-eq0 : goal.returns-then-s-eq0
 returns-then-s-eq0 c =
     c.cites.ensures ∙ stored-cites _ _ _ _ _ c.step_at-s.ensures c.if-n-s.false c.if-n-s-2.false c.in-0.is c.if-s-eq0.true
