@@ -2,7 +2,7 @@
 use Prim.Native.Nat.{ℕ, ◌≤◌, ◌<◌}
 use mathlib.Core.Path.{◌≡◌, refl, sym, ap, subst, ◌∙◌}
 use mathlib.Core.Logic.{◌⊎◌, inl, inr}
-use mathlib.Core.Bool.{Bool, true, false, not, ◌&&◌, false≢true}
+use mathlib.Core.Bool.{Bool, true, false, not, ◌&&◌}
 use mathlib.Core.List.{List}
 use native.Mathlib.Omega.{arith}
 use lib.ListN.{get_or}
@@ -27,7 +27,7 @@ use Rattle.chain_format.proofs.Showing.{straight, ends-show}
 use Rattle.chain_format.proofs.Citings.{marks-same}
 use Rattle.derivations.specs.declared.search.Aim.TheVariants.{Apart, Meets, NotPart, Outside}
 use Rattle.derivations.specs.declared.search.Witness.{Witness}
-use Rattle.derivations.specs.Aim.{joining, serving}
+use Rattle.derivations.specs.Aim.{joining}
 use Rattle.derivations.specs.Written.{Put}
 use Rattle.derivations.specs.Shown.{Writes}
 use Rattle.derivations.specs.Lifts.{Inside, apart, notpart, Routed, Spans, Outlies}

@@ -1,13 +1,10 @@
 -- Searches place by place. Assumes nothing.
-use Prim.Native.Nat.{ℕ, ◌+◌, ◌≤◌, ◌<◌}
-use mathlib.Core.Path.{◌≡◌, sym, ap, ◌∙◌}
+use Prim.Native.Nat.{ℕ}
+use mathlib.Core.Path.{◌≡◌, sym, ◌∙◌}
 use mathlib.Core.Bool.{Bool, true, false, not, ◌&&◌}
 use mathlib.Core.List.{List}
-use native.Mathlib.Omega.{arith}
-use native.Mathlib.Decide.{ℕ_discrete}
 use Rattle.matrices.specs.Matrix.{bit_of}
 use Rattle.closure.specs.Void.{void_of}
-use Rattle.derivations.specs.Found.{Found}
 
 -- a piece in two others that is not marked
 module _ (voids d : List ℕ) (a b x : ℕ) (v : Bool) (e : v ≡ bit_of voids 0 x) where

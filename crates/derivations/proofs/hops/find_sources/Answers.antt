@@ -3,10 +3,9 @@ use Prim.Native.Nat.{ℕ}
 use mathlib.Core.Path.{subst, sym, ap, ◌∙◌}
 use mathlib.Core.Bool.{false≢true}
 use native.Mathlib.Omega.{arith}
-use lib.ListN.{length, get_or}
+use lib.ListN.{get_or}
 use Rattle.derivations.specs.Sources.{Says}
-use Rattle.derivations.proofs.Sourcing.{part-said, says-part, said-ends, part_small, sources-none, sources-all, sources-skip, sources-store}
-use Rattle.derivations.proofs.Towards.{filled-length, filled}
+use Rattle.derivations.proofs.Sourcing.{part-said, says-part, said-ends, part_small, sources-skip, sources-store}
 use Rattle.derivations.proofs.hops.find_sources.Goals as goal
 use Rattle.derivations.proofs.hops.find_sources.Goals.{then-r-eq-PART+then-lets+then-from-r, else-r-eq-PART, else-r-eq-PART-via-then-r-eq-PART+then-lets+else-from-r, else-r-eq-PART-via-then-r-eq-PART+else-lets, else-r-eq-PART-via-else-r-eq-PART}
 use mathlib.Core.Path.{refl}

@@ -1,13 +1,10 @@
 -- `derivations::kinds::chain_apart` meets its contract. Assumes nothing.
 use mathlib.Core.Path.{refl, ◌∙◌}
 use mathlib.Core.Logic.{inl, inr}
-use Rattle.derivations.proofs.Grounds.{small, citable, setting, all-within, void-read, apart_none}
+use Rattle.derivations.proofs.Grounds.{small, setting, void-read, apart_none}
 use Rattle.derivations.proofs.Chaining.{chained-none, apart-marked, apart-routed, apart-chained}
 use native.Mathlib.Omega.{arith}
 use Rattle.derivations.proofs.kinds.chain_apart.Goals as goal
-
-pub has-requires : goal.has-requires
-has-requires c = let l = small c.requires.0 in (c.requires.0.void.0.sized, omega (arith, c.requires.1))
 
 pub void_step-requires : goal.void_step-requires
 void_step-requires c =
@@ -16,18 +13,12 @@ void_step-requires c =
 pub returns-then-has : goal.returns-then-has
 returns-then-has c = apart-marked c.requires.0 c.requires.1 c.requires.2 _ (inl refl) c.void_step.ensures
 
-pub has-requires-2 : goal.has-requires-2
-has-requires-2 c = let l = small c.requires.0 in (c.requires.0.void.0.sized, omega (arith, c.requires.2))
-
 pub void_step-requires-then-has-2 : goal.void_step-requires-then-has-2
 void_step-requires-then-has-2 c =
     let l = small c.requires.0 in (void-read c.requires.0 _ _ c.has-2.ensures ∙ c.if-has-2.true, c.requires.0.few, omega (arith, c.requires.1), omega (arith, c.requires.2), c.requires.3)
 
 pub returns-then-has-2 : goal.returns-then-has-2
 returns-then-has-2 c = apart-marked c.requires.0 c.requires.1 c.requires.2 _ (inr refl) c.void_step-then-has-2.ensures
-
-pub find_witness-requires : goal.find_witness-requires
-find_witness-requires c = (citable c.requires.0, small c.requires.0, c.requires.1, c.requires.2, all-within c.requires.0)
 
 pub returns-in_default : goal.returns-in_default
 returns-in_default c =

@@ -1,12 +1,8 @@
 -- `derivations::kinds::chain_meets` meets its contract. Assumes nothing.
-use borrow.Author.Tests.{not-true, not-false}
 use Rattle.derivations.proofs.Grounds.{setting, telling}
-use Rattle.derivations.proofs.Chaining.{chained-none, meets-chained}
+use Rattle.derivations.proofs.Chaining.{meets-chained}
 use native.Mathlib.Omega.{arith}
 use Rattle.derivations.proofs.kinds.chain_meets.Goals as goal
-
-pub returns-in_default : goal.returns-in_default
-returns-in_default c = chained-none c.requires.0 c.in_default.ensures
 
 pub show_meeting-requires : goal.show_meeting-requires
 show_meeting-requires c =

@@ -1,12 +1,8 @@
 -- `derivations::kinds::chain_notpart` meets its contract. Assumes nothing.
-use Rattle.derivations.proofs.Grounds.{small, citable, setting, all-within, marks-out, marks-silent, notpart-none}
+use Rattle.derivations.proofs.Grounds.{setting, marks-out, marks-silent, notpart-none}
 use Rattle.derivations.proofs.Chaining.{chained-none, notpart-routed, notpart-chained}
 use native.Mathlib.Omega.{arith}
 use Rattle.derivations.proofs.kinds.chain_notpart.Goals as goal
-
-pub marks_tell-requires : goal.marks_tell-requires
-marks_tell-requires c =
-    let l = small c.requires.0 in (c.requires.0.void.0.sized, omega (arith, c.requires.1), omega (arith, c.requires.2))
 
 pub chain_outside_void-requires : goal.chain_outside_void-requires
 chain_outside_void-requires c =

@@ -1,13 +1,9 @@
 -- `derivations::kinds::chain_outside` meets its contract. Assumes nothing.
 use mathlib.Core.Path.{sym, ◌∙◌}
 use mathlib.Core.Bool.{false≢true}
-use borrow.Author.Tests.{not-true, not-false}
-use Rattle.derivations.proofs.Grounds.{citable, setting, telling}
+use Rattle.derivations.proofs.Grounds.{setting, telling}
 use Rattle.derivations.proofs.Chaining.{outside-parts, outside-chained}
 use Rattle.derivations.proofs.kinds.chain_outside.Goals as goal
-
-pub find_meeting-requires : goal.find_meeting-requires
-find_meeting-requires c = (c.requires.0, c.requires.1, c.requires.3.right)
 
 pub returns-in_default : goal.returns-in_default
 returns-in_default c = absurd (false≢true (sym c.in_default.ensures ∙ (outside-parts c.requires.0 c.requires.1 c.requires.2 c.requires.3).1))

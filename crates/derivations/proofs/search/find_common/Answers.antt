@@ -1,18 +1,10 @@
 -- `derivations::search::find_common` meets its contract. Assumes nothing.
 use mathlib.Core.Path.{◌∙◌}
 use native.Mathlib.Omega.{arith}
-use borrow.Author.Rules.{rules}
 use Rattle.derivations.proofs.Searching.{common-void, common-both}
 use Rattle.derivations.proofs.search.find_common.Goals as goal
 use Rattle.derivations.proofs.search.find_common.Goals.{else-not-has-via-then-not-has+else-both, else-not-has-via-else-not-has}
 use borrow.Author.Count.{below_more}
-
-pub has-requires : goal.has-requires
-has-requires c = (c.requires.1, omega (arith, c.loop-x-test.true, c.requires.0))
-
-pub both-requires : goal.both-requires
-both-requires c =
-    (c.requires.2, c.requires.3, omega (arith, c.loop-x-test.true, c.requires.0), c.requires.4, omega (arith, c.loop-x-test.true, c.requires.0))
 
 pub returns-then-both : goal.returns-then-both
 returns-then-both c = (omega arith, common-both _ _ _ _ _ _ c.has.ensures c.if-not-has.true _ c.both.ensures ∙ c.if-both.true)

@@ -4,7 +4,6 @@ use Rattle.lists.proofs.Bools.{not-true}
 use Rattle.records.specs.Marked.{marks}
 use Rattle.records.proofs.Marks.{marks-from, marks-here, marks-not}
 use native.Mathlib.Omega.{arith}
-use borrow.Author.Rules.{rules}
 use borrow.Author.Count.{below_more}
 use mathlib.Core.Logic.{inl, inr}
 use Rattle.derivations.proofs.search.find_mark.Goals as goal

@@ -1,5 +1,5 @@
 -- `derivations::search::joins` meets its contract. Assumes nothing.
-use mathlib.Core.Path.{◌≡◌, sym, ◌∙◌}
+use mathlib.Core.Path.{sym, ◌∙◌}
 use Rattle.derivations.proofs.Serving.{joins-apart, joins-meets, joins-notpart, joins-outside}
 use Rattle.derivations.proofs.search.joins.Goals as goal
 

@@ -1,8 +1,6 @@
 -- `derivations::search::serves` meets its contract. Assumes nothing.
-use mathlib.Core.Logic.{inl, inr}
 use mathlib.Core.Path.{sym, ◌∙◌}
-use Rattle.derivations.proofs.Serving.{kind-range, serves-other, serves-barred, serves-straight, serves-ordered, serves-swapped}
-use native.Mathlib.Omega.{arith}
+use Rattle.derivations.proofs.Serving.{serves-other, serves-barred, serves-straight, serves-ordered, serves-swapped}
 use Rattle.derivations.proofs.search.serves.Goals as goal
 use Rattle.derivations.proofs.search.serves.Goals.{then-r-kind_for-via-then-r-kind_for, then-r-kind_for-via-else-r-kind_for+then-not-lets}
 use borrow.Author.Tests.{eq-eqb}
@@ -16,16 +14,8 @@ returns-then-r-kind_for c =
       | then-r-kind_for-via-else-r-kind_for+then-not-lets w ↦ serves-barred _ _ _ _ _ _ _ (w.if-r-kind_for.false ∙ c.kind_for.ensures) (sym w.lets.ensures ∙ w.if-not-lets.true)
     ]
 
-pub joins-requires : goal.joins-requires
-joins-requires c =
-    let k = c.if-r-kind_for.false ∙ c.kind_for.ensures in let z = kind-range c.args.aim in let w = c.requires.4 (omega (arith, k, z.0)) (omega (arith, k, z.1)) in (c.requires.0, c.requires.1, c.requires.2, c.requires.3, w.0, w.1)
-
 pub returns-then-joins : goal.returns-then-joins
 returns-then-joins c = c.if-joins.true ∙ serves-straight _ _ _ _ _ _ _ (c.if-r-kind_for.false ∙ c.kind_for.ensures) (sym c.lets.ensures ∙ c.if-not-lets.false) (sym c.joins.ensures ∙ c.if-joins.true)
-
-pub joins-requires-then-r-ne-NOTPART : goal.joins-requires-then-r-ne-NOTPART
-joins-requires-then-r-ne-NOTPART c =
-    let k = c.if-r-kind_for.false ∙ c.kind_for.ensures in let z = kind-range c.args.aim in let w = c.requires.4 (omega (arith, k, z.0)) (omega (arith, k, z.1)) in (c.requires.0, c.requires.1, c.requires.2, c.requires.3, w.1, w.0)
 
 pub returns-then-r-ne-NOTPART : goal.returns-then-r-ne-NOTPART
 returns-then-r-ne-NOTPART c =

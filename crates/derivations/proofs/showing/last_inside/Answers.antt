@@ -1,21 +1,12 @@
 -- `showing::last_inside` meets its contract: the loop keeps `Walking`. Assumes nothing.
 use mathlib.Core.Path.{sym, ◌∙◌}
 use native.Mathlib.Omega.{arith}
-use Rattle.derivations.proofs.Commoning.{walk_start, walk-done, walk_end, walk-low, walk_up, walk-in, walk-out}
+use Rattle.derivations.proofs.Commoning.{walk-done, walk_end, walk_up, walk-in, walk-out}
 use Rattle.derivations.proofs.showing.last_inside.Goals as goal
 use Rattle.derivations.proofs.showing.last_inside.Goals.{then-test, else-test}
 
-pub loop-taken-init : goal.loop-taken-init
-loop-taken-init c = walk_start c.requires.3 c.requires.4
-
 pub returns-then-y-a : goal.returns-then-y-a
 returns-then-y-a c = walk-done c.loop-taken.invariant c.if-y-a.true
-
-pub offset_bounds-hop-y : goal.offset_bounds-hop-y
-offset_bounds-hop-y c = omega (arith, walk-low c.loop-taken.invariant c.if-y-a.false)
-
-pub bounds-hop-y : goal.bounds-hop-y
-bounds-hop-y c = omega (arith, walk-low c.loop-taken.invariant c.if-y-a.false, c.requires.0)
 
 pub test-requires : goal.test-requires
 test-requires c = (c.requires.1, c.requires.2, c.requires.5 _ (walk_up c.loop-taken.invariant c.if-y-a.false _ c.from-y.ensures))
