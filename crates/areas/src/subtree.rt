@@ -15,10 +15,7 @@ pub struct Range {
 fn end_of(parens: &[u8], places: &[u16], g: DatasetId) -> TreeId
     ensures { result.0 ≡ end_of parens.now places.now g.0 }
 {
-    if parens.len() < index::PARENTHESES_BYTES {
-        return TreeId(0);
-    }
-    if places.len() <= g.0 {
+    if parens.len() < index::PARENTHESES_BYTES || places.len() <= g.0 {
         return TreeId(0);
     }
     let place = index::place_of(places, g);
@@ -30,7 +27,7 @@ fn end_of(parens: &[u8], places: &[u16], g: DatasetId) -> TreeId
 pub fn subtree_range(parens: &[u8], places: &[u16], g: DatasetId) -> Range
     ensures { (result.from.0 ≡ range_from parens.now places.now g.0) × (result.to.0 ≡ range_to parens.now places.now g.0) }
 {
-    let end = end_of(parens, places, DatasetId(g.0));
+    let end = end_of(parens, places, g);
     if end.0 == 0 {
         return Range {
             from: TreeId(1),
@@ -39,7 +36,7 @@ pub fn subtree_range(parens: &[u8], places: &[u16], g: DatasetId) -> Range
     }
     let place = index::place_of(places, g);
     Range {
-        from: TreeId(place.0),
+        from: place,
         to: TreeId(end.0 - 1),
     }
 }

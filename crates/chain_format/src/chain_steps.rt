@@ -25,91 +25,66 @@ fn marks_piece(book: &[u8], i: usize, g: usize) -> bool
         return false;
     }
     let r = records::record_at(book, i);
-    if r.kind != records::VOID {
-        return false;
-    }
-    r.a == g
+    r.kind == records::VOID && r.a == g
 }
 
 // Whether the step shows that two pieces are apart, and cites a mark of one of them and nothing else.
 fn void_apart(book: &[u8], s: Step) -> bool
     ensures { (claim : of.Record) → result ≡ (eqb s.second 0 && (showing s 2 s.a s.b && (marks_piece s.a (get_or (citing claim book.now) s.first none) || marks_piece s.b (get_or (citing claim book.now) s.first none)))) }
 {
-    if s.second != 0 {
-        return false;
-    }
-    if !steps::shows(s, records::APART, s.a, s.b) {
-        return false;
-    }
-    if marks_piece(book, s.first, s.a) {
-        return true;
-    }
-    marks_piece(book, s.first, s.b)
+    s.second == 0
+        && steps::shows(s, records::APART, s.a, s.b)
+        && (marks_piece(book, s.first, s.a) || marks_piece(book, s.first, s.b))
 }
 
 // Whether the step shows that a piece is part of another, and cites its mark and nothing else.
 fn void_part(book: &[u8], s: Step) -> bool
     ensures { (claim : of.Record) → result ≡ (eqb s.second 0 && (showing s 1 s.a s.b && marks_piece s.a (get_or (citing claim book.now) s.first none))) }
 {
-    if s.second != 0 {
-        return false;
-    }
-    if !steps::shows(s, records::PART, s.a, s.b) {
-        return false;
-    }
-    marks_piece(book, s.first, s.a)
+    s.second == 0 && steps::shows(s, records::PART, s.a, s.b) && marks_piece(book, s.first, s.a)
 }
 
 // Whether the step shows a fact for which nothing is asked.
 fn shows_freely(s: Step, kind: u8, a: usize, b: usize) -> bool
     ensures { result ≡ ((eqb s.first 0 && eqb s.second 0) && showing s kind a b) }
 {
-    if s.first != 0 {
-        return false;
-    }
-    if s.second != 0 {
-        return false;
-    }
-    steps::shows(s, kind, a, b)
+    s.first == 0 && s.second == 0 && steps::shows(s, kind, a, b)
 }
 
 // Of x and y the one that is not z.
+#[tactic(auto, unfolding(crate::specs::Other::other))]
 fn other(x: usize, y: usize, z: usize) -> usize
     ensures { result ≡ end.other x y z }
 {
-    if x == z {
-        return y;
-    }
-    x
+    if x == z { y } else { x }
 }
 
 // A fact: its kind and its pieces.
 #[derive(Clone, Copy)]
 struct Fact(u8, usize, usize);
 
+fn shows_fact(s: Step, f: Fact) -> bool
+    ensures { result ≡ showing s f.0 f.1 f.2 }
+{
+    steps::shows(s, f.0, f.1, f.2)
+}
+
 // Two premises, and what they show.
 #[derive(Clone, Copy)]
 struct Form(Fact, Fact, Fact);
 
-// Whether p and q show the premises x and y, and s shows f.
-fn follows(p: Step, x: Fact, q: Step, y: Fact, s: Step, f: Fact) -> bool
-    ensures { result ≡ (showing s f.0 f.1 f.2 && (showing p x.0 x.1 x.2 && showing q y.0 y.1 y.2)) }
+// Whether p and q show the premises of a form, and s shows what follows.
+fn follows(form: Form, p: Step, q: Step, s: Step) -> bool
+    ensures { result ≡ (showing s form.2.0 form.2.1 form.2.2 && (showing p form.0.0 form.0.1 form.0.2 && showing q form.1.0 form.1.1 form.1.2)) }
 {
-    if !steps::shows(s, f.0, f.1, f.2) {
-        return false;
-    }
-    if !steps::shows(p, x.0, x.1, x.2) {
-        return false;
-    }
-    steps::shows(q, y.0, y.1, y.2)
+    shows_fact(s, form.2) && shows_fact(p, form.0) && shows_fact(q, form.1)
 }
 
 // Whether the step follows from the premises p and q by its rule about g, h and k.
 fn by_rule(s: Step, p: Step, q: Step, g: usize, h: usize, k: usize) -> bool
     ensures { result ≡ premised s p q (rule s.rule g h k) }
 {
-    let number = s.rule;
-    let form = match number {
+    let form = match s.rule {
         crate::RULE_A => Form(
             Fact(records::PART, g, h),
             Fact(records::PART, h, k),
@@ -142,15 +117,14 @@ fn by_rule(s: Step, p: Step, q: Step, g: usize, h: usize, k: usize) -> bool
         ),
         _ => return false,
     };
-    follows(p, form.0, q, form.1, s, form.2)
+    follows(form, p, q, s)
 }
 
 // Whether the step follows by its rule from the premises p and q. Where the rule holds of any g, h, k, it is of these.
 fn by_premises(s: Step, p: Step, q: Step) -> bool
     ensures { result ≡ some (named s p q) (λ g h k. premised s p q (rule s.rule g h k)) }
 {
-    let number = s.rule;
-    match number {
+    match s.rule {
         crate::RULE_A => by_rule(s, p, q, s.a, p.b, s.b),
         crate::RULE_B => by_rule(s, p, q, p.a, p.b, other(q.a, q.b, p.b)),
         crate::RULE_A_PRIME => by_rule(s, p, q, p.a, s.a, s.b),
@@ -167,35 +141,20 @@ fn step_ok(book: &[u8], n: usize, voids: &[u64], claim: Record, c: &[u8], i: usi
     ensures { result ≡ step_ok n (citing claim book.now) c.now i }
 {
     let s = steps::step_at(c, i);
-    if n <= s.a {
+    if n <= s.a || n <= s.b {
         return false;
     }
-    if n <= s.b {
-        return false;
-    }
-    let number = s.rule;
-    match number {
-        crate::STORED => {
-            if s.second != 0 {
-                return false;
-            }
-            steps::cites(claim, book, s)
-        }
+    match s.rule {
+        crate::STORED => s.second == 0 && steps::cites(claim, book, s),
         crate::RULE_C => shows_freely(s, records::PART, s.a, s.a),
         crate::RULE_F => shows_freely(s, records::PART, s.a, 0),
         crate::RULE_E_PRIME => {
-            if matrices::has(voids, s.a) {
-                return false;
-            }
-            shows_freely(s, records::MEETS, s.a, s.a)
+            !matrices::has(voids, s.a) && shows_freely(s, records::MEETS, s.a, s.a)
         }
         crate::RULE_D => void_apart(book, s),
         crate::RULE_E => void_part(book, s),
         _ => {
-            if i <= s.first {
-                return false;
-            }
-            if i <= s.second {
+            if i <= s.first || i <= s.second {
                 return false;
             }
             let p = steps::step_at(c, s.first);
@@ -214,22 +173,15 @@ pub fn check_steps(book: &[u8], n: usize, voids: &[u64], claim: Record, c: &[u8]
         return false;
     }
     let m = c.len() / crate::STEP_BYTES;
-    if m < 1 {
+    if m < 1 || crate::STEPS < m {
         return false;
     }
-    if crate::STEPS < m {
-        return false;
-    }
-    let mut i: usize = 0;
-    while i < m {
+    for i in 0..m {
         if !step_ok(book, n, voids, claim, c, i) {
             return false;
         }
-        i += 1;
     }
     let last = steps::step_at(c, m - 1);
-    if steps::shows(last, claim.kind, claim.a, claim.b) {
-        return true;
-    }
-    steps::shows(last, records::OPPOSITES - claim.kind, claim.a, claim.b)
+    steps::shows(last, claim.kind, claim.a, claim.b)
+        || steps::shows(last, records::OPPOSITES - claim.kind, claim.a, claim.b)
 }

@@ -11,7 +11,8 @@ ghost use Rattle.chain_format.specs.Sizes.{STEP-BYTES};
 
 use records::Record;
 
-// A step: its rule, the kind and the pieces of the fact that it shows, and its premises, or the record that it cites.
+// A step: its rule, the kind and the pieces of the fact that it shows, and its premises, or the record that it cites. A step read back may hold any
+// byte for its rule and its kind, and is written as it was read.
 #[derive(Clone, Copy)]
 pub struct Step {
     pub rule: u8,
@@ -28,17 +29,13 @@ pub fn step_at(c: &[u8], i: usize) -> Step
     ensures { result ≡ step_at c.now i }
 {
     let at = crate::STEP_BYTES * i;
-    let a = numbers::number_at(c, at + 2);
-    let b = numbers::number_at(c, at + 4);
-    let first = numbers::number_at(c, at + 6);
-    let second = numbers::number_at(c, at + 8);
     Step {
         rule: c[at],
         kind: c[at + 1],
-        a,
-        b,
-        first,
-        second,
+        a: numbers::number_at(c, at + 2),
+        b: numbers::number_at(c, at + 4),
+        first: numbers::number_at(c, at + 6),
+        second: numbers::number_at(c, at + 8),
     }
 }
 
@@ -47,21 +44,17 @@ pub fn put_step(c: &mut [u8], i: usize, s: Step)
     requires { STEP-BYTES * i + STEP-BYTES ≤ length c.old }
     ensures { c.new ≡ placed (STEP-BYTES * i) (step_bytes s) c.old }
 {
-    let a = s.a;
-    let b = s.b;
-    let first = s.first;
-    let second = s.second;
     let ten = [
         s.rule,
         s.kind,
-        numbers::low(a),
-        numbers::low(a / numbers::BYTE_VALUES),
-        numbers::low(b),
-        numbers::low(b / numbers::BYTE_VALUES),
-        numbers::low(first),
-        numbers::low(first / numbers::BYTE_VALUES),
-        numbers::low(second),
-        numbers::low(second / numbers::BYTE_VALUES),
+        numbers::low(s.a),
+        numbers::low(s.a / numbers::BYTE_VALUES),
+        numbers::low(s.b),
+        numbers::low(s.b / numbers::BYTE_VALUES),
+        numbers::low(s.first),
+        numbers::low(s.first / numbers::BYTE_VALUES),
+        numbers::low(s.second),
+        numbers::low(s.second / numbers::BYTE_VALUES),
     ];
     numbers::copy_to(&ten, c, crate::STEP_BYTES * i);
 }
@@ -70,45 +63,28 @@ pub fn put_step(c: &mut [u8], i: usize, s: Step)
 fn unordered(kind: u8) -> bool
     ensures { result ≡ on.unordered kind }
 {
-    if kind == records::APART {
-        return true;
-    }
-    kind == records::MEETS
+    kind == records::APART || kind == records::MEETS
 }
 
 fn has_ends(s: Step, a: usize, b: usize) -> bool
     ensures { result ≡ (eqb s.a a && eqb s.b b) }
 {
-    if s.a != a {
-        return false;
-    }
-    s.b == b
+    s.a == a && s.b == b
 }
 
 // Whether the step shows the fact of that kind about a and b.
+#[tactic(auto, unfolding(crate::specs::Step::showing))]
 pub fn shows(s: Step, kind: u8, a: usize, b: usize) -> bool
     ensures { result ≡ showing s kind a b }
 {
-    if s.kind != kind {
-        return false;
-    }
-    if has_ends(s, a, b) {
-        return true;
-    }
-    if !unordered(kind) {
-        return false;
-    }
-    has_ends(s, b, a)
+    s.kind == kind && (has_ends(s, a, b) || unordered(kind) && has_ends(s, b, a))
 }
 
 // Whether the claim lets a record's fact be cited.
 pub fn lets(claim: Record, r: Record) -> bool
     ensures { result ≡ may.lets claim r }
 {
-    if claim.origin == 0 {
-        return true;
-    }
-    r.origin == 0
+    claim.origin == 0 || r.origin == 0
 }
 
 // Whether the record that the step cites may be cited, and says what the step shows.
@@ -119,11 +95,5 @@ pub fn cites(claim: Record, book: &[u8], s: Step) -> bool
         return false;
     }
     let r = records::record_at(book, s.first);
-    if !records::states_fact(r) {
-        return false;
-    }
-    if !lets(claim, r) {
-        return false;
-    }
-    shows(s, r.kind, r.a, r.b)
+    records::states_fact(r) && lets(claim, r) && shows(s, r.kind, r.a, r.b)
 }

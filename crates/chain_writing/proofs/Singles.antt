@@ -30,7 +30,7 @@ use Rattle.chain_format.specs.Twice.{Differ}
 use Rattle.derivations.specs.Shown.{Writes}
 use Rattle.derivations.proofs.Puts.{step-put}
 use Rattle.derivations.proofs.Composed.{writes_one}
-use Rattle.derivations.specs.declared.search.Single.{Single}
+use Rattle.chain_format.specs.declared.steps.Step.{Step}
 use Rattle.derivations.specs.Found.{Singly}
 use Rattle.derivations.proofs.Grounds.{written-follows}
 use Rattle.chain_writing.specs.Call.{answer_for, Answering}
@@ -47,18 +47,18 @@ module _ (n : ℕ) (claim : Record) (s c : List ℕ) (room : 164000 ≤ length c
   positive : 0 < n
   positive = accepted-positive (accepted s n sound)
 
-  module _ {x : Single} {c' : List ℕ} (found : x.found ≡ true) (p : c' ≡ placed (10 * 0) (step_bytes x.step) c) where
-    one : (g : Fact) → {k a b : ℕ} → Singly n (citing claim s) k a b x → shows x.step g ≡ true → Writes n (citing claim s) g 12285 c 0 c' 1
+  module _ {x : Step} {c' : List ℕ} (p : c' ≡ placed (10 * 0) (step_bytes x) c) where
+    one : (g : Fact) → {k a b : ℕ} → Singly n (citing claim s) k a b x → shows x g ≡ true → Writes n (citing claim s) g 12285 c 0 c' 1
     one g S q =
-        let G = S.grounded found in
-        let P = step-put c c' 0 x.step (omega arith) p G.left G.right G.first G.second in
+        let G = S.grounded in
+        let P = step-put c c' 0 x (omega arith) p G.left G.right G.first G.second in
         let W = writes_one P (G.holds _ _ _) g q in
         record { more = W.more; few = omega (arith, W.few); edited = W.edited; shown = W.shown; ok = W.ok }
 
     pub single-follows : Singly n (citing claim s) claim.kind claim.a claim.b x → Answering n claim s c (record { reply = Ok Follows; steps = 1 }) c'
     unfolding answer_for
     single-follows S =
-        let W = one (saying claim) S (rw (says-kind claim t, says-left claim, says-right claim) (S.shown found)) in
+        let W = one (saying claim) S (rw (says-kind claim t, says-left claim, says-right claim) S.shown) in
         spoken n claim s c room Follows (is-answer n claim s c room true _ (written-follows claim s within positive (saying claim) inside W, refl)) (saying claim) (inl refl) W (alone c') refl
 
     pub single-denied :
@@ -66,7 +66,7 @@ module _ (n : ℕ) (claim : Record) (s c : List ℕ) (room : 164000 ≤ length c
     unfolding answer_for
     single-denied free S =
         let z = kind-of claim t in
-        let W = one (opposite (saying claim)) S (sym (shows-opposite x.step claim.kind claim.a claim.b z.0 z.1) ∙ S.shown found) in
+        let W = one (opposite (saying claim)) S (sym (shows-opposite x claim.kind claim.a claim.b z.0 z.1) ∙ S.shown) in
         let o = opposite-within n (saying claim) inside in
         let y = written-follows claim s within positive (opposite (saying claim)) o W in
         spoken n claim s c room Denied (is-answer n claim s c room false true (not-true _ (no y), y)) (opposite (saying claim)) (inr refl) W (alone c') refl

@@ -89,18 +89,15 @@ fn write_whole(
     let kind = claim.kind;
     let a = claim.a;
     let b = claim.b;
-    let single = derivations::search::find_single(n, claim, book, kind, a, b);
-    if single.found {
-        let step = single.step;
+    if let Some(step) = derivations::search::find_single(n, claim, book, kind, a, b) {
         chain_format::put_step(c, 0, step);
         return Chain {
             reply: Ok(Answer::Follows),
             steps: 1,
         };
     }
-    let other = derivations::search::find_single(n, claim, book, records::OPPOSITES - kind, a, b);
-    if other.found {
-        let step = other.step;
+    let opposite = records::OPPOSITES - kind;
+    if let Some(step) = derivations::search::find_single(n, claim, book, opposite, a, b) {
         chain_format::put_step(c, 0, step);
         return Chain {
             reply: Ok(Answer::Denied),

@@ -2,7 +2,7 @@
 use Prim.Native.Nat.{ℕ, ◌≤◌, ◌<◌}
 use mathlib.Core.Path.{◌≡◌, refl, sym, ap, subst, ◌∙◌}
 use mathlib.Core.Logic.{◌⊎◌, inl, inr}
-use mathlib.Core.Bool.{Bool, true, false, not, ◌&&◌, false≢true}
+use mathlib.Core.Bool.{Bool, true, false, not, ◌&&◌}
 use mathlib.Core.List.{List}
 use native.Mathlib.Omega.{arith}
 use lib.ListN.{get_or}
@@ -27,19 +27,19 @@ use Rattle.chain_format.proofs.Showing.{straight, ends-show}
 use Rattle.chain_format.proofs.Citings.{marks-same}
 use Rattle.derivations.specs.declared.search.Aim.TheVariants.{Apart, Meets, NotPart, Outside}
 use Rattle.derivations.specs.declared.search.Witness.{Witness}
-use Rattle.derivations.specs.declared.search.Meeting.{Meeting}
-use Rattle.derivations.specs.Aim.{joining, serving}
+use Rattle.derivations.specs.Aim.{joining}
 use Rattle.derivations.specs.Written.{Put}
 use Rattle.derivations.specs.Shown.{Writes}
 use Rattle.derivations.specs.Lifts.{Inside, apart, notpart, Routed, Spans, Outlies}
 use Rattle.derivations.specs.Routes.{route_to}
 use Rattle.derivations.specs.Commons.{Joined}
 use Rattle.derivations.specs.Found as of
-use Rattle.derivations.specs.Found.{Found, Ground, Witnessed, Met, Voided, Chained}
+use Rattle.derivations.specs.Found.{Found, Ground, Witnessed, Sought, Met, Voided, Chained}
 use Rattle.derivations.proofs.Carries.{saying, as_said, itself-grounded, void-grounded, empty-grounded}
 use Rattle.derivations.proofs.Joining.{justified-d'}
 use Rattle.derivations.proofs.Composed.{still-shown, writes_one, writes-put}
 use Rattle.derivations.proofs.Ways.{cited-derives, apart-disjoint, notpart-disjoint, meets-disjoint, meets-unmarked, outside-disjoint}
+use Rattle.std.specs.Prelude.{Option, Some, None}
 use Rattle.derivations.proofs.Grounds.{small, bit-inside, common-meets, writes-follows, marks-cited, found-mark, meets-none}
 
 module _ {n : ℕ} {claim : Record} {s voids e d t : List ℕ} (G : Ground n claim s voids e d t) where
@@ -59,9 +59,9 @@ module _ {n : ℕ} {claim : Record} {s voids e d t : List ℕ} (G : Ground n cla
   module _ {a b : ℕ} (la : a < n) (lb : b < n) where
     -- a mark of a
     pub part-marked :
-        {c c' : List ℕ} (i : ℕ) → marked s a ≡ true → Found (λ i. marks a (record_at s i)) (records s) i → Put c c' 0 (saying 11 1 a b i) → Chained n claim s (PART a b) c c' 1
-    part-marked i m F p =
-        let k = found-mark G a i m F in
+        {c c' : List ℕ} (i : ℕ) {r : Option ℕ} → Found (λ i. marks a (record_at s i)) (records s) r → r ≡ Some i → Put c c' 0 (saying 11 1 a b i) → Chained n claim s (PART a b) c c' 1
+    part-marked i F e p =
+        let k = found-mark G a i _ F e in
         let f = G.few in
         let E = empty-grounded n (citing claim s) (small G) a b i la lb (omega (arith, k.0)) k.1 in
         chained-some (PART a b) (la, lb) (writes_one p (E.holds _ _ _) (PART a b) (as_said 11 1 a b i)) (alone _) (omega arith)
@@ -95,10 +95,10 @@ module _ {n : ℕ} {claim : Record} {s voids e d t : List ℕ} (G : Ground n cla
 
     -- a is not marked, and b is
     pub outside-marked :
-        {c c₁ c₂ c₃ : List ℕ} (i : ℕ) → marked s a ≡ false → marked s b ≡ true → Found (λ i. marks b (record_at s i)) (records s) i → Put c c₁ 0 (saying 9 3 a a 0)
+        {c c₁ c₂ c₃ : List ℕ} (i : ℕ) {r : Option ℕ} → marked s a ≡ false → Found (λ i. marks b (record_at s i)) (records s) r → r ≡ Some i → Put c c₁ 0 (saying 9 3 a a 0)
         → Put c₁ c₂ 1 (saying 10 2 b a i) → Put c₂ c₃ 2 (record { rule = 8; kind = 4; a = a; b = b; first = 0; second = 1 }) → Chained n claim s (NOTPART a b) c c₃ 3
-    outside-marked {c} {c₁} {c₂} {c₃} i ma mb F p q t =
-        let k = found-mark G b i mb F in
+    outside-marked {c} {c₁} {c₂} {c₃} i ma F e p q t =
+        let k = found-mark G b i _ F e in
         let f = G.few in
         let E = itself-grounded n (citing claim s) (small G) a la (marks-same claim s a ∙ ma) in
         let M = void-grounded n (citing claim s) (small G) b a i lb la (omega (arith, k.0)) (inl k.1) in
@@ -174,52 +174,45 @@ module _ {n : ℕ} {claim : Record} {s voids e d t : List ℕ} (G : Ground n cla
 
     -- ---- meetings
 
-    pub met-common : (x : ℕ) → x < n → (not (void_of voids x) && (bit_of d a x && bit_of d b x)) ≡ true → Met n claim s a b (record { found = true; witness = record { step = saying 9 3 x x 0; x = x; y = x } })
+    pub met-common : (x : ℕ) → x < n → (not (void_of voids x) && (bit_of d a x && bit_of d b x)) ≡ true → of.Meets n claim s a b (record { step = saying 9 3 x x 0; x = x; y = x })
     met-common x lx e =
         let j = and_both _ _ e in
         let k = and_both _ _ j.1 in
         let m : marked s x ≡ false = ap (λ (f : ℕ → Bool). f x) (sym G.void.1) ∙ not-is-true _ j.0 in
         record {
-          yes = λ q.
-              record {
-                grounded = itself-grounded n (citing claim s) (small G) x lx (marks-same claim s x ∙ m);
-                shown = as_said 9 3 x x 0;
-                left = lx;
-                right = lx;
-                first = bit-inside G lx la k.0;
-                second = bit-inside G lx lb k.1;
-                meets = rule-e' m lx;
-                unmarked = λ o. meets-unmarked G lx o (rule-e' m lx);
-                disjoint = λ o. absurd (o refl);
-              };
-          no = λ q. absurd (false≢true (sym q));
+          grounded = itself-grounded n (citing claim s) (small G) x lx (marks-same claim s x ∙ m);
+          shown = as_said 9 3 x x 0;
+          left = lx;
+          right = lx;
+          first = bit-inside G lx la k.0;
+          second = bit-inside G lx lb k.1;
+          meets = rule-e' m lx;
+          unmarked = λ o. meets-unmarked G lx o (rule-e' m lx);
+          disjoint = λ o. absurd (o refl);
         }
 
-    pub met-stored :
-        (x : ℕ) → n ≤ x → Found (λ x. not (void_of voids x) && (bit_of d a x && bit_of d b x)) n x → (w : Witness) → Witnessed n (citing claim s) Meets d t a b w → Met n claim s a b (record { found = true; witness = w })
-    met-stored x o F w W =
+    met-stored :
+        Found (λ x. not (void_of voids x) && (bit_of d a x && bit_of d b x)) n None → (w : Witness) → Witnessed n (citing claim s) Meets d t a b w → of.Meets n claim s a b w
+    met-stored F w W =
         let p = meets-parts W in
         let m = cited-derives G w.step W.cited (MEETS w.x w.y) W.shown in
         record {
-          yes = λ q.
-              record {
-                grounded = W.grounded;
-                shown = W.shown;
-                left = W.left;
-                right = W.right;
-                first = p.0;
-                second = p.1;
-                meets = m;
-                unmarked = λ e. meets-unmarked G W.left e m;
-                disjoint = λ z. meets-disjoint G W.left W.right la lb m (F.none o);
-              };
-          no = λ q. absurd (false≢true (sym q));
+          grounded = W.grounded;
+          shown = W.shown;
+          left = W.left;
+          right = W.right;
+          first = p.0;
+          second = p.1;
+          meets = m;
+          unmarked = λ e. meets-unmarked G W.left e m;
+          disjoint = λ z. meets-disjoint G W.left W.right la lb m F;
         }
 
-    pub met-none :
-        {w : Meeting} → w.found ≡ false → (x i : ℕ) → Found (λ x. not (void_of voids x) && (bit_of d a x && bit_of d b x)) n x → n ≤ x
-        → Found (λ j. serving Meets claim d t a b (record_at s j)) (records s) i → records s ≤ i → Met n claim s a b w
-    met-none e x i X l F k = record { yes = λ q. absurd (false≢true (sym e ∙ q)); no = λ q. meets-none G la lb (X.none l) (F.none k) }
+    -- where no common piece is found
+    pub met-sought :
+        (r : Option Witness) → Found (λ x. not (void_of voids x) && (bit_of d a x && bit_of d b x)) n None → Sought n claim s Meets d t a b r → Met n claim s a b r
+    met-sought None X F = meets-none G la lb X F
+    met-sought (Some w) X W = met-stored X w W
 
 -- ---- by the number of a kind
 

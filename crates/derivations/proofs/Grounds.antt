@@ -5,7 +5,6 @@ use mathlib.Core.Logic.{◌⊎◌, inl, inr}
 use mathlib.Core.Bool.{Bool, true, false, not, ◌&&◌, ◌||◌, false≢true}
 use mathlib.Core.List.{List, Memᴰ}
 use native.Mathlib.Omega.{arith}
-use native.Mathlib.Decide.{dec_lt}
 use lib.Dec.{eqb, ltb}
 use lib.ListN.{get_or}
 use borrow.Author.Tests.{eqb-true, eq-eqb, lt-ltb, le-leb}
@@ -46,17 +45,20 @@ use Rattle.derivations.specs.Aim.{kind_for, joining, serving}
 use Rattle.derivations.specs.Sources.{Stepped}
 use Rattle.derivations.specs.Lifts.{Setting, Telling, Inside}
 use Rattle.derivations.specs.Shown.{Writes}
+use Rattle.std.specs.Prelude.{Option, Some, None, IsSome}
+use borrow.Author.Rules.{rules}
 use Rattle.derivations.specs.Found.{Ground, Citable, Found}
 
 -- a search for a mark that is there finds it
-pub mark-there : (s : List ℕ) (g i : ℕ) → marked s g ≡ true → (records s ≤ i → (j : ℕ) → j < records s → marks g (record_at s j) ≡ false) → i < records s
-mark-there s g i m off =
-    elim (dec_lt i (records s)) [
-      | yes h ↦ h
-      | no h ↦
-          let f = marked_from s g m in
-          absurd (false≢true (sym (off (omega arith) f.0 f.1) ∙ marks-here (record_at s f.0) g f.2 f.3))
-    ]
+pub mark-there : (s : List ℕ) (g : ℕ) (r : Option ℕ) → marked s g ≡ true → Found (λ i. marks g (record_at s i)) (records s) r → IsSome r
+mark-there s g (Some i) m F = search rules
+mark-there s g None m F =
+    let f = marked_from s g m in
+    absurd (false≢true (sym (F f.0 f.1) ∙ marks-here (record_at s f.0) g f.2 f.3))
+
+-- what is found, of a search that finds something
+pub found-there : (test : ℕ → Bool) {m : ℕ} {r : Option ℕ} (i : ℕ) → Found test m r → r ≡ Some i → (i < m) × (test i ≡ true)
+found-there test {m} i F e = subst (Found test m) e F
 
 -- what is written follows
 pub written-follows :
@@ -165,10 +167,8 @@ module _ {n : ℕ} {claim : Record} {s voids e d t : List ℕ} (G : Ground n cla
   pub marks-cited : (g i : ℕ) → i < records s → marks g (record_at s i) ≡ true → marks_piece g (get_or (citing claim s) i none) ≡ true
   marks-cited g i h m = let k = marks-from (record_at s i) g m in marked-cited claim s i g h k.0 k.1
 
-  pub found-mark : (g i : ℕ) → marked s g ≡ true → Found (λ i. marks g (record_at s i)) (records s) i → (i < records s) × (marks_piece g (get_or (citing claim s) i none) ≡ true)
-  found-mark g i m F =
-      let h = mark-there s g i m F.none in
-      (h, marks-cited g i h (F.hit h))
+  pub found-mark : (g i : ℕ) (r : Option ℕ) → Found (λ i. marks g (record_at s i)) (records s) r → r ≡ Some i → (i < records s) × (marks_piece g (get_or (citing claim s) i none) ≡ true)
+  found-mark g i r F e = let G = found-there _ i F e in (G.0, marks-cited g i G.0 G.1)
 
   -- ---- no record serves
 

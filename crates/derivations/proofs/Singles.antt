@@ -1,11 +1,10 @@
 -- Steps that need no earlier one. Assumes nothing.
 use Prim.Native.Nat.{ℕ, ◌≤◌, ◌<◌}
 use mathlib.Core.Path.{◌≡◌, refl, sym, ◌∙◌}
-use mathlib.Core.Bool.{true, false, false≢true}
+use mathlib.Core.Bool.{true}
 use mathlib.Core.List.{List}
 use native.Mathlib.Omega.{arith}
 use lib.ListN.{get_or}
-use Rattle.chain_format.specs.declared.steps.Step.{Step}
 use Rattle.chain_format.specs.Step.{showing}
 use Rattle.chain_format.specs.Citing.{Cited, none}
 use Rattle.chain_format.specs.Justified.{cites}
@@ -16,10 +15,10 @@ use Rattle.derivations.specs.Found.{Singly}
 
 module _ {n : ℕ} {es : List Cited} {k a b : ℕ} (small : n ≤ 2048) (la : a < n) (lb : b < n) where
   -- by rule (f)
-  pub single-top : showing (saying 4 k a b 0) 1 a 0 ≡ true → Singly n es k a b (record { found = true; step = saying 4 k a b 0 })
+  pub single-top : showing (saying 4 k a b 0) 1 a 0 ≡ true → Singly n es k a b (saying 4 k a b 0)
   single-top q =
       record {
-        grounded = λ f.
+        grounded =
             record {
               holds = λ j x y. justify n es j (saying 4 k a b 0) x y la lb (sym (by-f es j (saying 4 k a b 0) x y 4 refl) ∙ q);
               left = omega arith;
@@ -27,15 +26,9 @@ module _ {n : ℕ} {es : List Cited} {k a b : ℕ} (small : n ≤ 2048) (la : a 
               first = omega arith;
               second = omega arith;
             };
-        shown = λ f. as_said 4 k a b 0;
+        shown = as_said 4 k a b 0;
       }
 
   -- by a record
-  pub single-cited :
-      (i : ℕ) → i < 65536 → cites (get_or es i none) (saying 0 k a b i) ≡ true
-      → Singly n es k a b (record { found = true; step = saying 0 k a b i })
-  single-cited i l q =
-      record { grounded = λ f. stored-grounded n es small k a b i la lb l q; shown = λ f. as_said 0 k a b i }
-
-  pub single-none : (x : Step) → Singly n es k a b (record { found = false; step = x })
-  single-none x = record { grounded = λ f. absurd (false≢true f); shown = λ f. absurd (false≢true f) }
+  pub single-cited : (i : ℕ) → i < 65536 → cites (get_or es i none) (saying 0 k a b i) ≡ true → Singly n es k a b (saying 0 k a b i)
+  single-cited i l q = record { grounded = stored-grounded n es small k a b i la lb l q; shown = as_said 0 k a b i }

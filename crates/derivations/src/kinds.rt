@@ -1,17 +1,17 @@
 // The chain that ends in a given fact, from step 0 on: its length, or 0 where the fact does not follow.
 ghost use Rattle.std.specs.Prelude.{◌≡◌, true, false, ◌<◌, ◌≤◌, length};
 ghost use Rattle.rules.specs.Fact as fact;
-ghost use Rattle.records.specs.Record.{record_at, records};
+ghost use Rattle.records.specs.Record.{records};
+ghost use Rattle.chain_format.specs.Citing.{citing};
 ghost use Rattle.records.specs.Marked.{marked};
-ghost use Rattle.derivations.specs.Aim.{serving};
 ghost use Rattle.derivations.specs.declared.search.Aim.TheVariants.{Outside};
-ghost use Rattle.derivations.specs.Found.{Ground, Voided, Chained};
+ghost use Rattle.derivations.specs.Found.{Ground, Voided, Witnessed, Chained};
 ghost use Rattle.chain_format.specs.Sizes.{CHAIN-BYTES};
 ghost use Rattle.records.specs.Sizes.{PIECES, RECORDS};
 
-use crate::search::Aim;
-use crate::showing;
+use crate::search::{Aim, Witness};
 use crate::showing::Fact;
+use crate::{search, showing};
 use chain_format::Step;
 use records::Record;
 
@@ -33,7 +33,7 @@ fn chain_part(
     let a = f.a;
     let b = f.b;
     if matrices::has(voids, a) {
-        let i = crate::search::find_mark(book, a);
+        let i = search::find_mark(book, a).unwrap();
         crate::writing::put_step(
             c,
             0,
@@ -59,7 +59,7 @@ fn void_step(book: &[u8], g: usize, a: usize, b: usize, c: &mut [u8]) -> usize
     requires { (marked book.now g ≡ true) × (records book.now ≤ RECORDS) × (a < PIECES) × (b < PIECES) × (CHAIN-BYTES ≤ length c.old) }
     ensures { Voided book.now g a b c.old c.new result }
 {
-    let i = crate::search::find_mark(book, g);
+    let i = search::find_mark(book, g).unwrap();
     crate::writing::put_step(
         c,
         0,
@@ -98,15 +98,12 @@ fn chain_apart(
     if matrices::has(voids, b) {
         return void_step(book, b, a, b, c);
     }
-    let i = crate::search::find_record(Aim::Apart, claim, book, d, t, a, b);
-    if book.len() / records::RECORD_BYTES <= i {
+    let Some(w) = search::find_witness(Aim::Apart, n, claim, book, d, t, a, b) else {
         return 0;
-    }
-    let w = crate::search::cite_record(Aim::Apart, n, claim, book, d, t, a, b, i);
+    };
     let apart = Fact {
         kind: records::APART,
-        a,
-        b,
+        ..f
     };
     showing::show_fact(book, n, claim, e, w, apart, c, 0)
 }
@@ -126,11 +123,9 @@ fn chain_meets(
     requires { Ground n claim book.now voids.now e.now d.now t.now × (f.a < n) × (f.b < n) × (CHAIN-BYTES ≤ length c.old) }
     ensures { Chained n claim book.now (fact.MEETS f.a f.b) c.old c.new result }
 {
-    let met = crate::search::find_meeting(n, claim, book, voids, e, d, t, f.a, f.b);
-    if !met.found {
+    let Some(w) = search::find_meeting(n, claim, book, voids, e, d, t, f.a, f.b) else {
         return 0;
-    }
-    let w = met.witness;
+    };
     showing::show_meeting(book, n, claim, e, d, w, f, c, 0)
 }
 
@@ -151,7 +146,7 @@ fn chain_outside_void(
 {
     let a = f.a;
     let b = f.b;
-    let i = crate::search::find_mark(book, b);
+    let i = search::find_mark(book, b).unwrap();
     crate::writing::put_step(
         c,
         0,
@@ -191,7 +186,7 @@ fn chain_outside_void(
     3
 }
 
-// a NOTPART b by a stored APART of which b lies in one piece and a meets the other.
+// a NOTPART b by the stored APART that u cites, of which b lies in one piece and a meets the other.
 fn chain_outside(
     n: usize,
     claim: Record,
@@ -201,18 +196,15 @@ fn chain_outside(
     d: &[u64],
     t: &[u64],
     f: Fact,
-    i: usize,
+    u: Witness,
     c: &mut [u8],
 ) -> usize
-    requires { Ground n claim book.now voids.now e.now d.now t.now × (f.a < n) × (f.b < n) × (i < records book.now) × (serving Outside claim d.now t.now f.a f.b (record_at book.now i) ≡ true) × (CHAIN-BYTES ≤ length c.old) }
+    requires { Ground n claim book.now voids.now e.now d.now t.now × (f.a < n) × (f.b < n) × Witnessed n (citing claim book.now) Outside d.now t.now f.a f.b u × (CHAIN-BYTES ≤ length c.old) }
     ensures { Chained n claim book.now (fact.NOTPART f.a f.b) c.old c.new result }
 {
-    let u = crate::search::cite_record(Aim::Outside, n, claim, book, d, t, f.a, f.b, i);
-    let met = crate::search::find_meeting(n, claim, book, voids, e, d, t, f.a, u.y);
-    if !met.found {
+    let Some(w) = search::find_meeting(n, claim, book, voids, e, d, t, f.a, u.y) else {
         return 0;
-    }
-    let w = met.witness;
+    };
     showing::show_outside(book, n, claim, e, d, u, w, f, c)
 }
 
@@ -236,22 +228,17 @@ fn chain_notpart(
     if verdicts::marks_tell(records::NOTPART, a, b, voids) {
         return chain_outside_void(n, claim, book, voids, e, d, t, f, c);
     }
-    let m = book.len() / records::RECORD_BYTES;
-    let i = crate::search::find_record(Aim::NotPart, claim, book, d, t, a, b);
-    if i < m {
-        let w = crate::search::cite_record(Aim::NotPart, n, claim, book, d, t, a, b, i);
+    if let Some(w) = search::find_witness(Aim::NotPart, n, claim, book, d, t, a, b) {
         let outside = Fact {
             kind: records::NOTPART,
-            a,
-            b,
+            ..f
         };
         return showing::show_fact(book, n, claim, e, w, outside, c, 0);
     }
-    let j = crate::search::find_record(Aim::Outside, claim, book, d, t, a, b);
-    if m <= j {
+    let Some(u) = search::find_witness(Aim::Outside, n, claim, book, d, t, a, b) else {
         return 0;
-    }
-    chain_outside(n, claim, book, voids, e, d, t, f, j, c)
+    };
+    chain_outside(n, claim, book, voids, e, d, t, f, u, c)
 }
 
 // The fact f, of a kind 1 to 4.
@@ -269,14 +256,10 @@ pub fn chain_for(
     requires { Ground n claim book.now voids.now e.now d.now t.now × (f.a < n) × (f.b < n) × (CHAIN-BYTES ≤ length c.old) }
     ensures { Chained n claim book.now (fact.fact_of f.kind f.a f.b) c.old c.new result }
 {
-    if f.kind == records::PART {
-        return chain_part(n, claim, book, voids, e, d, t, f, c);
+    match f.kind {
+        records::PART => chain_part(n, claim, book, voids, e, d, t, f, c),
+        records::APART => chain_apart(n, claim, book, voids, e, d, t, f, c),
+        records::MEETS => chain_meets(n, claim, book, voids, e, d, t, f, c),
+        _ => chain_notpart(n, claim, book, voids, e, d, t, f, c),
     }
-    if f.kind == records::APART {
-        return chain_apart(n, claim, book, voids, e, d, t, f, c);
-    }
-    if f.kind == records::MEETS {
-        return chain_meets(n, claim, book, voids, e, d, t, f, c);
-    }
-    chain_notpart(n, claim, book, voids, e, d, t, f, c)
 }

@@ -79,32 +79,18 @@ pub fn show_lift(
         return at;
     }
     let m = show_part(book, n, claim, e, l.g, l.k, c, at);
-    let s = l.step;
-    if l.first {
-        crate::writing::put_step(
-            c,
-            m,
-            Step {
-                rule: s.rule,
-                kind: s.kind,
-                a: s.a,
-                b: s.b,
-                first: m - 1,
-                second: at - 1,
-            },
-        );
-        return m + 1;
-    }
+    let (first, second) = if l.first {
+        (m - 1, at - 1)
+    } else {
+        (at - 1, m - 1)
+    };
     crate::writing::put_step(
         c,
         m,
         Step {
-            rule: s.rule,
-            kind: s.kind,
-            a: s.a,
-            b: s.b,
-            first: at - 1,
-            second: m - 1,
+            first,
+            second,
+            ..l.step
         },
     );
     m + 1
@@ -154,24 +140,21 @@ fn lift_to(g: usize, k: usize, rule: u8, first: bool, f: Fact) -> Lift
 fn route_to(f: Fact, x: usize, y: usize) -> Route
     ensures { result ≡ route_to f.kind f.a f.b x y }
 {
-    let half = Fact {
-        kind: f.kind,
-        a: f.a,
-        b: y,
-    };
-    if f.kind == records::APART {
-        let once = lift_to(f.a, x, chain_format::RULE_B, true, half);
-        let twice = lift_to(f.b, y, chain_format::RULE_B, true, f);
-        return Route { once, twice };
+    let half = Fact { b: y, ..f };
+    match f.kind {
+        records::APART => Route {
+            once: lift_to(f.a, x, chain_format::RULE_B, true, half),
+            twice: lift_to(f.b, y, chain_format::RULE_B, true, f),
+        },
+        records::MEETS => Route {
+            once: lift_to(x, f.a, chain_format::RULE_C_PRIME, true, half),
+            twice: lift_to(y, f.b, chain_format::RULE_C_PRIME, true, f),
+        },
+        _ => Route {
+            once: lift_to(x, f.a, chain_format::RULE_A_PRIME, true, half),
+            twice: lift_to(f.b, y, chain_format::RULE_B_PRIME, false, f),
+        },
     }
-    if f.kind == records::MEETS {
-        let once = lift_to(x, f.a, chain_format::RULE_C_PRIME, true, half);
-        let twice = lift_to(y, f.b, chain_format::RULE_C_PRIME, true, f);
-        return Route { once, twice };
-    }
-    let once = lift_to(x, f.a, chain_format::RULE_A_PRIME, true, half);
-    let twice = lift_to(f.b, y, chain_format::RULE_B_PRIME, false, f);
-    Route { once, twice }
 }
 
 // The fact f, from the fact of its kind that w shows.
@@ -201,20 +184,20 @@ fn rise(n: usize, hop: &[u16], source: &[u16], g: usize, k: usize, c: &mut [u8],
     if g == k {
         return at;
     }
-    let m = crate::writing::write_part(g, k, hop, source, c, at);
+    let top = crate::writing::write_part(g, k, hop, source, c, at);
     crate::writing::put_step(
         c,
-        m,
+        top,
         Step {
             rule: chain_format::RULE_C_PRIME,
             kind: records::MEETS,
             a: k,
             b: g,
-            first: m - 1,
+            first: top - 1,
             second: at - 1,
         },
     );
-    m + 1
+    top + 1
 }
 
 // The last piece in b on the way that the hops lead from x, which is in b, to a.
@@ -224,16 +207,13 @@ fn last_inside(hop: &[u16], d: &[u64], x: usize, a: usize, b: usize) -> usize
 {
     let mut last = x;
     let mut y = x;
-    let mut i: usize = 0;
-    while i < records::LAST_PIECE {
+    for _taken in 0..records::LAST_PIECE {
         if y == a {
             return last;
         }
-        y = numbers::shorts::wide(hop[y]);
-        i += 1;
+        y = usize::from(hop[y]);
         if matrices::test(d, b, y) {
             last = y;
-            continue;
         }
     }
     last
@@ -311,8 +291,7 @@ pub fn show_meeting(
     }
     let meets = Fact {
         kind: records::MEETS,
-        a: f.a,
-        b: f.b,
+        ..f
     };
     show_fact(book, n, claim, e, w, meets, c, at)
 }

@@ -11,7 +11,6 @@ ghost use Rattle.numbers.specs.Sizes.{SHORT-VALUES};
 ghost use Rattle.records.specs.Sizes.{PIECES};
 
 use chain_format::Step;
-use numbers::shorts;
 
 // A step whose numbers fit in sixteen bits: it is read back as it was.
 pub fn put_step(c: &mut [u8], i: usize, s: Step)
@@ -61,8 +60,8 @@ fn climb(
     let mut x = from;
     let mut i = at;
     while x != k {
-        let y = shorts::wide(hop[x]);
-        let t = shorts::wide(source[x]);
+        let y = usize::from(hop[x]);
+        let t = usize::from(source[x]);
         put_step(c, i, hop_step(x, y, t));
         put_step(
             c,
@@ -102,8 +101,8 @@ pub fn write_part(g: usize, k: usize, hop: &[u16], source: &[u16], c: &mut [u8],
         );
         return at + 1;
     }
-    let y = shorts::wide(hop[g]);
-    let t = shorts::wide(source[g]);
+    let y = usize::from(hop[g]);
+    let t = usize::from(source[g]);
     put_step(c, at, hop_step(g, y, t));
     climb(g, k, y, hop, source, c, at + 1)
 }

@@ -28,6 +28,10 @@ pub record Swept (x r : List ℕ) : Type 0 where
 pub record Inserted (l r : List ℕ) (a b : ℕ) : Type 0 where
   pub bits : (x y : ℕ) → x < 64 → y < 64 → bit_at r x y ≡ (bit_at l x y || (eqb a x && eqb b y))
 
+-- r is y with the transpose of x put in
+pub record TurnedOnto (y x r : List ℕ) : Type 0 where
+  pub bits : (g k : ℕ) → g < 64 → k < 64 → bit_at r g k ≡ (bit_at y g k || bit_at x k g)
+
 -- r is the transpose of x
 pub record Turned (x r : List ℕ) : Type 0 where
   pub bits : (g k : ℕ) → g < 64 → k < 64 → bit_at r g k ≡ bit_at x k g

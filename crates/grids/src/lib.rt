@@ -36,43 +36,23 @@ fn put(g: Grids, kind: u8, a: usize, b: usize) -> Grids
     requires { (PART ≤ kind) × (kind ≤ NOTPART) × (a < SIDE) × (b < SIDE) }
     ensures { Put g result (fact_of kind a b) }
 {
-    let part = g.part;
-    let apart = g.apart;
-    let meets = g.meets;
-    let notpart = g.notpart;
-    if kind == records::PART {
-        let with = insert(part, a, b);
-        return Grids {
-            part: with,
-            apart,
-            meets,
-            notpart,
-        };
-    }
-    if kind == records::APART {
-        let with = insert(apart, a, b);
-        return Grids {
-            part,
-            apart: with,
-            meets,
-            notpart,
-        };
-    }
-    if kind == records::MEETS {
-        let with = insert(meets, a, b);
-        return Grids {
-            part,
-            apart,
-            meets: with,
-            notpart,
-        };
-    }
-    let with = insert(notpart, a, b);
-    Grids {
-        part,
-        apart,
-        meets,
-        notpart: with,
+    match kind {
+        records::PART => Grids {
+            part: insert(g.part, a, b),
+            ..g
+        },
+        records::APART => Grids {
+            apart: insert(g.apart, a, b),
+            ..g
+        },
+        records::MEETS => Grids {
+            meets: insert(g.meets, a, b),
+            ..g
+        },
+        _ => Grids {
+            notpart: insert(g.notpart, a, b),
+            ..g
+        },
     }
 }
 
@@ -82,10 +62,8 @@ fn pieces_below(n: usize) -> u64
     ensures { (k : ℕ) → bit result k ≡ ltb k n }
 {
     let mut r: u64 = 0;
-    let mut i: usize = 0;
-    while i < n {
-        r = r | (1 << i);
-        i += 1;
+    for i in 0..n {
+        r |= 1 << i;
     }
     r
 }
@@ -122,13 +100,11 @@ fn start(n: usize, marks: u64) -> Grids
     let mut part = [0u64; rounds::SIDE];
     let mut apart = [0u64; rounds::SIDE];
     let mut meets = [0u64; rounds::SIDE];
-    let mut a: usize = 0;
-    while a < rounds::SIDE {
+    for a in 0..rounds::SIDE {
         let whole = rounds::chosen(marks, a, all);
         part[a] = rounds::chosen(all, a, all & ((1 << a) | 1 | whole));
         apart[a] = rounds::chosen(all, a, whole);
         meets[a] = rounds::chosen(all, a, all & live(marks, a));
-        a += 1;
     }
     Grids {
         part,
@@ -145,14 +121,11 @@ fn load(book: &[u8], n: usize, marks: u64) -> Grids
 {
     let count = book.len() / records::RECORD_BYTES;
     let mut g = start(n, marks);
-    let mut i: usize = 0;
-    while i < count {
+    for i in 0..count {
         let r = records::record_at(book, i);
-        i += 1;
-        if !records::states_fact(r) {
-            continue;
+        if records::states_fact(r) {
+            g = put(g, r.kind, r.a, r.b);
         }
-        g = put(g, r.kind, r.a, r.b);
     }
     g
 }

@@ -1,12 +1,16 @@
 -- The sequence that a call looks at: how long it is, what stands where in it, and that its pieces are the book's. Assumes nothing.
 use Prim.Native.Nat.{ℕ, ◌+◌, ◌-◌, ◌<◌, ◌≤◌}
 use mathlib.Core.Path.{◌≡◌, refl, sym, ap, ap₂, ◌∙◌}
-use mathlib.Core.List.{List}
+use mathlib.Core.List.{List, ◌++◌}
 use native.Mathlib.Decide.{dec_lt}
 use native.Mathlib.Numerals.{add-one}
 use native.Mathlib.Omega.{arith}
-use lib.ListN.{length, get_or, take, set, replicate, length-append, length-take, length-drop, get_or-append}
+use lib.ListN.{length, get_or, take, drop, set, replicate, length-append, length-take, length-drop, get_or-append}
 use lib.Seq.{get_or-take, get_or-append-add, get_or-set_same, get_or-set_other, ext_get_or, take-suc, take_all, get_or-drop}
+use Rattle.std.proofs.lemmas.List.{drop-replicate}
+use Rattle.lists.specs.Tally.{num}
+use mir.Val.{bool_byte}
+use mathlib.Core.Bool.{Bool, true, false}
 use Rattle.lists.proofs.Tabs.{tab-at, tab-length}
 use Rattle.parentheses.specs.Padded.{padded}
 use Rattle.parentheses.proofs.Paddeds.{padded-more}
@@ -115,3 +119,17 @@ window-is xs ps k e f = rw (e, f)
 
 pub last-all : (xs : List ℕ) (i : ℕ) → i ≡ length (last_of xs) → take i (last_of xs) ≡ last_of xs
 last-all xs i e = rw e (take_all (length (last_of xs)) (last_of xs) (omega arith))
+
+-- the last entries copied to the front of a list of zeros
+pub window-copied :
+    (xs new : List ℕ) (from : ℕ) → from ≡ length xs - 31 → new ≡ drop from xs
+    → record { pieces = new ++ drop (length xs - from) (replicate 31 0); count = length xs - from } ≡ window_of xs
+unfolding window_of padded last_of
+window-copied xs new from e f =
+    let k : length (drop (length xs - 31) xs) ≡ length xs - from = simp length-drop (omega arith) in
+    rw (f, drop-replicate, k, ← e)
+
+-- a flag as the language writes it
+pub as_num : (b : Bool) → bool_byte b ≡ num b
+as_num true = refl
+as_num false = refl

@@ -5,7 +5,6 @@ ghost use Rattle.records.specs.Refused.{refused_at};
 ghost use Rattle.outcomes.specs.Accepted.{accepted_with};
 ghost use Rattle.std.specs.Prelude.{◌≡◌, length, ◌+◌, ◌*◌, ◌-◌, ◌<◌, ◌≤◌, Ok};
 ghost use Rattle.lists.specs.Front.{front};
-ghost use Rattle.lists.specs.Tally.{num};
 ghost use Rattle.matrices.specs.Matrix.{bit_of};
 ghost use Rattle.replicates.specs.Before.{bytes_from};
 ghost use Rattle.replicates.specs.Looking.{Sequence};
@@ -47,29 +46,18 @@ pub struct Replicated {
     pub window: Window,
 }
 
-fn flag(b: bool) -> u8
-    ensures { result ≡ num b }
-{
-    if b {
-        return 1;
-    }
-    0
-}
-
 // The two bytes of each entry from number c on.
 fn write_bytes(xs: &[u16], c: usize, a: &[u64], out: &mut [u8])
     requires { Sequence xs.now a.now × (c ≤ length xs.now) × (length xs.now < SEQUENCE) × (2 * length xs.now ≤ 2 * c + length out.old) }
     ensures { out.new ≡ front (bytes_from (bit_of a.now) xs.now c (length xs.now - c)) out.old }
 {
     let mut start = windows::reach(xs, c, a);
-    let mut q = c;
-    while q < xs.len() {
+    for q in c..xs.len() {
         let seen = windows::look(xs, q, a);
-        start = numbers::larger_of(start, seen.from);
+        start = start.max(seen.from);
         let at = ENTRY_BYTES * (q - c);
         out[at] = seen.apart;
-        out[at + 1] = flag(start <= windows::oldest_of(q));
-        q += 1;
+        out[at + 1] = u8::from(start <= windows::oldest_of(q));
     }
 }
 
@@ -78,7 +66,7 @@ fn entry_at(log: &[u8], i: usize) -> u16
     requires { 2 * i + 2 ≤ length log.now }
     ensures { result ≡ entry_at log.now i }
 {
-    numbers::shorts::narrow(numbers::number_at(log, ENTRY_BYTES * i))
+    numbers::number_at(log, ENTRY_BYTES * i) as u16
 }
 
 // Row 21 of the window.
@@ -90,12 +78,10 @@ fn bad_window(n: usize, window: Window) -> bool
     if windows::WINDOW < count {
         return true;
     }
-    let mut j: usize = 0;
-    while j < count {
-        if n <= pieces[j] as usize {
+    for j in 0..count {
+        if n <= usize::from(pieces[j]) {
             return true;
         }
-        j += 1;
     }
     false
 }
@@ -104,13 +90,10 @@ fn bad_window(n: usize, window: Window) -> bool
 fn check_entries(n: usize, nodes: usize, shadows: usize, log: &[u8]) -> Outcome
     ensures { result ≡ scan refused_at (accepted_with n nodes shadows) (entry_finding n log.now) 0 (entry_count log.now) }
 {
-    let count = log.len() / ENTRY_BYTES;
-    let mut i: usize = 0;
-    while i < count {
-        if n <= entry_at(log, i) as usize {
+    for i in 0..log.len() / ENTRY_BYTES {
+        if n <= usize::from(entry_at(log, i)) {
             return Outcome::Refused(Refusal::ReplicatePiece, i);
         }
-        i += 1;
     }
     Outcome::Accepted(n, nodes, shadows)
 }
@@ -119,10 +102,7 @@ fn check_entries(n: usize, nodes: usize, shadows: usize, log: &[u8]) -> Outcome
 fn check_part(n: usize, nodes: usize, shadows: usize, window: Window, log: &[u8]) -> Outcome
     ensures { result ≡ by_part window log.now (accepted_with n nodes shadows) }
 {
-    if log.len() % ENTRY_BYTES != 0 {
-        return Outcome::Refused(Refusal::LogLength, 0);
-    }
-    if LOG_ENTRIES < log.len() / ENTRY_BYTES {
+    if log.len() % ENTRY_BYTES != 0 || LOG_ENTRIES < log.len() / ENTRY_BYTES {
         return Outcome::Refused(Refusal::LogLength, 0);
     }
     if bad_window(n, window) {
@@ -137,12 +117,7 @@ fn put_window(window: Window, xs: &mut [u16])
     ensures { Begun window xs.new }
 {
     let count = window.count;
-    let pieces = window.pieces;
-    let mut j: usize = 0;
-    while j < count {
-        xs[j] = pieces[j];
-        j += 1;
-    }
+    xs[..count].copy_from_slice(&window.pieces[..count]);
 }
 
 // Puts the entries of a part behind the first c places.
@@ -150,11 +125,8 @@ fn put_entries(log: &[u8], c: usize, xs: &mut [u16])
     requires { (c + entry_count log.now ≤ length xs.old) × (c ≤ WINDOW) }
     ensures { Followed log.now c xs.old xs.new }
 {
-    let count = log.len() / ENTRY_BYTES;
-    let mut i: usize = 0;
-    while i < count {
+    for i in 0..log.len() / ENTRY_BYTES {
         xs[c + i] = entry_at(log, i);
-        i += 1;
     }
 }
 
@@ -165,11 +137,7 @@ fn last_window(xs: &[u16]) -> Window
     let from = windows::oldest_of(xs.len());
     let count = xs.len() - from;
     let mut pieces = [0u16; windows::WINDOW];
-    let mut i: usize = 0;
-    while i < count {
-        pieces[i] = xs[from + i];
-        i += 1;
-    }
+    pieces[..count].copy_from_slice(&xs[from..]);
     Window { pieces, count }
 }
 

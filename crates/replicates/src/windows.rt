@@ -19,10 +19,7 @@ pub struct Seen {
 pub fn oldest_of(q: usize) -> usize
     ensures { result ≡ oldest q }
 {
-    if q < WINDOW {
-        return 0;
-    }
-    q - WINDOW
+    q.saturating_sub(WINDOW)
 }
 
 // One entry more, number j, that is apart or not.
@@ -31,14 +28,15 @@ fn see(seen: Seen, j: usize, apart: bool) -> Seen
     ensures { result ≡ seeing seen j apart }
 {
     if apart {
-        return Seen {
+        Seen {
             apart: seen.apart + 1,
-            from: seen.from,
-        };
-    }
-    Seen {
-        apart: seen.apart,
-        from: j + 1,
+            ..seen
+        }
+    } else {
+        Seen {
+            from: j + 1,
+            ..seen
+        }
     }
 }
 
@@ -48,15 +46,13 @@ pub fn look(xs: &[u16], q: usize, a: &[u64]) -> Seen
     ensures { Looked (bit_of a.now) xs.now q result }
 {
     let oldest = oldest_of(q);
-    let piece = xs[q] as usize;
+    let piece = usize::from(xs[q]);
     let mut seen = Seen {
         apart: 0,
         from: oldest,
     };
-    let mut j = oldest;
-    while j < q {
-        seen = see(seen, j, matrices::test(a, xs[j] as usize, piece));
-        j += 1;
+    for j in oldest..q {
+        seen = see(seen, j, matrices::test(a, usize::from(xs[j]), piece));
     }
     seen
 }
@@ -67,11 +63,8 @@ pub fn reach(xs: &[u16], c: usize, a: &[u64]) -> usize
     ensures { Reach (bit_of a.now) xs.now c result }
 {
     let mut start: usize = 0;
-    let mut q: usize = 0;
-    while q < c {
-        let seen = look(xs, q, a);
-        start = numbers::larger_of(start, seen.from);
-        q += 1;
+    for q in 0..c {
+        start = start.max(look(xs, q, a).from);
     }
     start
 }

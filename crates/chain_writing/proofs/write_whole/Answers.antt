@@ -9,30 +9,30 @@ use Rattle.chain_writing.proofs.Replies.{by-marks, ground-of}
 use Rattle.chain_writing.proofs.Singles.{single-follows, single-denied}
 use Rattle.chain_writing.proofs.write_whole.Goals as goal
 
-pub find_single-single-requires : goal.find_single-single-requires
-find_single-single-requires c =
+pub find_single-requires : goal.find_single-requires
+find_single-requires c =
     let A = accepted _ _ c.requires.0 in let w = claim-ends c.args.claim c.requires.5 in (accepted-pieces A, w.0, w.1, A.few)
 
 pub put_step-requires : goal.put_step-requires
 put_step-requires c = omega (arith, c.requires.6)
 
-pub returns-then-single : goal.returns-then-single
-returns-then-single c =
-    single-follows _ _ _ _ c.requires.6 c.requires.0 c.requires.3 c.requires.4 c.requires.5 c.if-single.true c.put_step.ensures c.find_single-single.ensures
+pub returns-in-Some : goal.returns-in-Some
+returns-in-Some c =
+    single-follows _ _ _ _ c.requires.6 c.requires.0 c.requires.3 c.requires.4 c.requires.5 c.put_step.ensures c.in-Some.ensures
 
-pub overflow_sub-kind : goal.overflow_sub-kind
-overflow_sub-kind c = let z = kind-of _ c.requires.4 in omega (arith, z.1)
+pub overflow_sub-opposite : goal.overflow_sub-opposite
+overflow_sub-opposite c = let z = kind-of _ c.requires.4 in omega (arith, z.1)
 
-pub find_single-other-requires : goal.find_single-other-requires
-find_single-other-requires c =
+pub find_single-requires-2 : goal.find_single-requires-2
+find_single-requires-2 c =
     let A = accepted _ _ c.requires.0 in let w = claim-ends c.args.claim c.requires.5 in (accepted-pieces A, w.0, w.1, A.few)
 
-pub put_step-requires-then-other : goal.put_step-requires-then-other
-put_step-requires-then-other c = omega (arith, c.requires.6)
+pub put_step-requires-in-Some-find_single : goal.put_step-requires-in-Some-find_single
+put_step-requires-in-Some-find_single c = omega (arith, c.requires.6)
 
-pub returns-then-other : goal.returns-then-other
-returns-then-other c =
-    single-denied _ _ _ _ c.requires.6 c.requires.0 c.requires.3 c.requires.4 c.requires.5 c.if-other.true c.put_step-then-other.ensures (by-marks _ _ _ c.requires.1 c.requires.2).is c.find_single-other.ensures
+pub returns-in-Some-find_single : goal.returns-in-Some-find_single
+returns-in-Some-find_single c =
+    single-denied _ _ _ _ c.requires.6 c.requires.0 c.requires.3 c.requires.4 c.requires.5 c.put_step-in-Some-find_single.ensures (by-marks _ _ _ c.requires.1 c.requires.2).is c.in-Some-find_single.ensures
 
 pub edges-requires : goal.edges-requires
 edges-requires c = ((settleable _ _ c.requires.0).bounded, search rules)

@@ -5,22 +5,20 @@ use Rattle.grids.specs.Loaded.{same_fact}
 use Rattle.grids.proofs.Puts.{put_all, other}
 use Rattle.grids.proofs.put.Goals as goal
 
-pub returns-then-kind-eq-PART : goal.returns-then-kind-eq-PART
+pub returns-in-1 : goal.returns-in-1
 unfolding fact_of same_fact
-returns-then-kind-eq-PART c = rw c.if-kind-eq-PART.true (put_all _ _ _ c.insert-with.ensures.bits (other _) (other _) (other _))
+returns-in-1 c = let e : c.args.kind ≡ 1 = omega arith in rw e (put_all _ _ _ c.insert.ensures.bits (other _) (other _) (other _))
 
-pub returns-then-kind-eq-APART : goal.returns-then-kind-eq-APART
+pub returns-in-2 : goal.returns-in-2
 unfolding fact_of same_fact
-returns-then-kind-eq-APART c =
-    rw c.if-kind-eq-APART.true (put_all _ _ _ (other _) c.insert-with-then-kind-eq-APART.ensures.bits (other _) (other _))
+returns-in-2 c = let e : c.args.kind ≡ 2 = omega arith in rw e (put_all _ _ _ (other _) c.insert-in-2.ensures.bits (other _) (other _))
 
-pub returns-then-kind-eq-MEETS : goal.returns-then-kind-eq-MEETS
+pub returns-in-3 : goal.returns-in-3
 unfolding fact_of same_fact
-returns-then-kind-eq-MEETS c =
-    rw c.if-kind-eq-MEETS.true (put_all _ _ _ (other _) (other _) c.insert-with-then-kind-eq-MEETS.ensures.bits (other _))
+returns-in-3 c = let e : c.args.kind ≡ 3 = omega arith in rw e (put_all _ _ _ (other _) (other _) c.insert-in-3.ensures.bits (other _))
 
-pub returns : goal.returns
+pub returns-in_default : goal.returns-in_default
 unfolding fact_of same_fact
-returns c =
+returns-in_default c =
     let e : c.args.kind ≡ 4 = omega arith in
-    rw e (put_all _ _ _ (other _) (other _) (other _) c.insert-with-2.ensures.bits)
+    rw e (put_all _ _ _ (other _) (other _) (other _) c.insert-in_default.ensures.bits)

@@ -1,11 +1,7 @@
-use Prim.Native.Nat.{◌≤◌, ◌-◌}
 use Rattle.rules.specs.Fact.{PART, APART, MEETS}
 use Rattle.grids.proofs.Starts.{Made}
 use Rattle.grids.proofs.start.Given as goal
 
 abbrev pub invariant-loop-a : goal.invariant-loop-a
 invariant-loop-a l =
-    (l.a ≤ 64) × Made l.marks l.n PART l.part l.a × Made l.marks l.n APART l.apart l.a × Made l.marks l.n MEETS l.meets l.a
-
-abbrev pub decreases-loop-a : goal.decreases-loop-a
-decreases-loop-a l = 64 - l.a
+    Made l.marks l.n PART l.part l.a × Made l.marks l.n APART l.apart l.a × Made l.marks l.n MEETS l.meets l.a

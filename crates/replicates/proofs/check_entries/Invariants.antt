@@ -6,7 +6,4 @@ use Rattle.replicates.proofs.Rows.{Left}
 use Rattle.replicates.proofs.check_entries.Given as goal
 
 abbrev pub invariant-loop-i : goal.invariant-loop-i
-invariant-loop-i l = (l.count ≡ entry_count l.log) × (l.i ≤ l.count) × Left l.n l.nodes l.shadows l.log l.i
-
-abbrev pub decreases-loop-i : goal.decreases-loop-i
-decreases-loop-i l = l.count - l.i
+invariant-loop-i l = Left l.n l.nodes l.shadows l.log l.i

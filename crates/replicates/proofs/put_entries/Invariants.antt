@@ -7,7 +7,4 @@ use Rattle.replicates.proofs.put_entries.Given as goal
 
 abbrev pub invariant-loop-i : goal.invariant-loop-i
 invariant-loop-i l =
-    (l.count ≡ entry_count l.log) × (l.i ≤ l.count) × (length l.xs ≡ length l.initial.xs) × ((j : ℕ) → j < l.c → get_or l.xs j 0 ≡ get_or l.initial.xs j 0) × ((j : ℕ) → j < l.i → get_or l.xs (l.c + j) 0 ≡ entry_at l.log j)
-
-abbrev pub decreases-loop-i : goal.decreases-loop-i
-decreases-loop-i l = l.count - l.i
+    ((j : ℕ) → j < l.c → get_or l.xs j 0 ≡ get_or l.initial.xs j 0) × ((j : ℕ) → j < l.i → get_or l.xs (l.c + j) 0 ≡ entry_at l.log j)

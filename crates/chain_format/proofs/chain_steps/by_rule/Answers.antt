@@ -23,7 +23,7 @@ returns c =
     let a = c.args in
     let f = told a.s a.p a.q in
     c.follows.ensures
-    ∙ elim c.match-number.branch [
+    ∙ elim c.match-s.branch [
       | in-1 w ↦ ap f w.form-is ∙ asked-a _ _ _ _ _ _ _ (cc)
       | in-2 w ↦ ap f w.form-is ∙ asked-b _ _ _ _ _ _ _ (cc)
       | in-5 w ↦ ap f w.form-is ∙ asked-a' _ _ _ _ _ _ _ (cc)

@@ -1,5 +1,4 @@
 -- `chain_steps::check_steps` meets its contract: the loop keeps that the steps passed are justified. Assumes nothing.
-use Prim.Native.Nat.{◌-◌, ◌≤◌}
 use mathlib.Core.Path.{◌≡◌}
 use mathlib.Core.Bool.{true}
 use Rattle.chain_format.specs.Citing.{citing}
@@ -7,7 +6,4 @@ use Rattle.chain_format.specs.Chain.{all_ok}
 use Rattle.chain_format.proofs.chain_steps.check_steps.Given as goal
 
 abbrev pub invariant-loop-i : goal.invariant-loop-i
-invariant-loop-i l = (l.i ≤ l.m) × (all_ok l.n (citing l.claim l.book) l.c l.i ≡ true)
-
-abbrev pub decreases-loop-i : goal.decreases-loop-i
-decreases-loop-i l = l.m - l.i
+invariant-loop-i l = (all_ok l.n (citing l.claim l.book) l.c l.i ≡ true)

@@ -4,4 +4,4 @@ use Rattle.chain_format.proofs.steps.step_at.Goals as goal
 
 pub returns : goal.returns
 returns c =
-    read_step _ _ _ _ _ _ c.number_at-a.ensures.0 c.number_at-b.ensures.0 c.number_at-first.ensures.0 c.number_at-second.ensures.0
+    read_step _ _ _ _ _ _ c.number_at.ensures.0 c.number_at-2.ensures.0 c.number_at-3.ensures.0 c.number_at-4.ensures.0

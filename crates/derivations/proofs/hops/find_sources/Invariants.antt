@@ -1,10 +1,6 @@
 -- `hops::find_sources` meets its contract: the loop keeps the sources among the records passed. Assumes nothing.
-use Prim.Native.Nat.{◌-◌, ◌≤◌}
 use Rattle.derivations.specs.Sources.{Sources}
 use Rattle.derivations.proofs.hops.find_sources.Given as goal
 
 abbrev pub invariant-loop-i : goal.invariant-loop-i
-invariant-loop-i l = (l.i ≤ l.m) × Sources l.claim l.book l.hop l.i l.source
-
-abbrev pub decreases-loop-i : goal.decreases-loop-i
-decreases-loop-i l = l.m - l.i
+invariant-loop-i l = Sources l.claim l.book l.hop l.i l.source

@@ -1,13 +1,10 @@
 -- `derivations::kinds::chain_apart` meets its contract. Assumes nothing.
 use mathlib.Core.Path.{refl, ◌∙◌}
 use mathlib.Core.Logic.{inl, inr}
-use Rattle.derivations.proofs.Grounds.{small, citable, setting, all-within, void-read, apart_none}
+use Rattle.derivations.proofs.Grounds.{small, setting, void-read, apart_none}
 use Rattle.derivations.proofs.Chaining.{chained-none, apart-marked, apart-routed, apart-chained}
 use native.Mathlib.Omega.{arith}
 use Rattle.derivations.proofs.kinds.chain_apart.Goals as goal
-
-pub has-requires : goal.has-requires
-has-requires c = let l = small c.requires.0 in (c.requires.0.void.0.sized, omega (arith, c.requires.1))
 
 pub void_step-requires : goal.void_step-requires
 void_step-requires c =
@@ -16,9 +13,6 @@ void_step-requires c =
 pub returns-then-has : goal.returns-then-has
 returns-then-has c = apart-marked c.requires.0 c.requires.1 c.requires.2 _ (inl refl) c.void_step.ensures
 
-pub has-requires-2 : goal.has-requires-2
-has-requires-2 c = let l = small c.requires.0 in (c.requires.0.void.0.sized, omega (arith, c.requires.2))
-
 pub void_step-requires-then-has-2 : goal.void_step-requires-then-has-2
 void_step-requires-then-has-2 c =
     let l = small c.requires.0 in (void-read c.requires.0 _ _ c.has-2.ensures ∙ c.if-has-2.true, c.requires.0.few, omega (arith, c.requires.1), omega (arith, c.requires.2), c.requires.3)
@@ -26,22 +20,14 @@ void_step-requires-then-has-2 c =
 pub returns-then-has-2 : goal.returns-then-has-2
 returns-then-has-2 c = apart-marked c.requires.0 c.requires.1 c.requires.2 _ (inr refl) c.void_step-then-has-2.ensures
 
-pub find_record-i-requires : goal.find_record-i-requires
-find_record-i-requires c =
-    let l = small c.requires.0 in (c.requires.0.parts.sized, c.requires.0.toward.sized, omega (arith, c.requires.1), omega (arith, c.requires.2), all-within c.requires.0)
-
-pub returns-then-book-i : goal.returns-then-book-i
-returns-then-book-i c =
-    chained-none c.requires.0 (apart_none c.requires.0 c.requires.1 c.requires.2 (void-read c.requires.0 _ _ c.has.ensures ∙ c.if-has.false) (void-read c.requires.0 _ _ c.has-2.ensures ∙ c.if-has-2.false) (c.find_record-i.ensures.none c.if-book-i.true))
-
-pub cite_record-w-requires : goal.cite_record-w-requires
-cite_record-w-requires c =
-    (citable c.requires.0, c.requires.1, c.requires.2, c.if-book-i.false, c.find_record-i.ensures.hit c.if-book-i.false)
+pub returns-in_default : goal.returns-in_default
+returns-in_default c =
+    chained-none c.requires.0 (apart_none c.requires.0 c.requires.1 c.requires.2 (void-read c.requires.0 _ _ c.has.ensures ∙ c.if-has.false) (void-read c.requires.0 _ _ c.has-2.ensures ∙ c.if-has-2.false) c.in_default.ensures)
 
 pub show_fact-requires : goal.show_fact-requires
 show_fact-requires c =
-    let w = c.cite_record-w.ensures in (setting c.requires.0, w.grounded, w.shown, apart-routed c.requires.0 c.requires.1 c.requires.2 w, c.requires.3, omega arith)
+    let w = c.in-Some.ensures in (setting c.requires.0, w.grounded, w.shown, apart-routed c.requires.0 c.requires.1 c.requires.2 w, c.requires.3, omega arith)
 
 pub returns : goal.returns
 returns c =
-    apart-chained c.requires.0 c.requires.1 c.requires.2 (void-read c.requires.0 _ _ c.has.ensures ∙ c.if-has.false) c.cite_record-w.ensures c.show_fact.ensures
+    apart-chained c.requires.0 c.requires.1 c.requires.2 (void-read c.requires.0 _ _ c.has.ensures ∙ c.if-has.false) c.in-Some.ensures c.show_fact.ensures

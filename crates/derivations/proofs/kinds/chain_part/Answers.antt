@@ -1,25 +1,16 @@
 -- `derivations::kinds::chain_part` meets its contract. Assumes nothing.
 use mathlib.Core.Path.{sym, ◌∙◌}
 use Rattle.rules.specs.Fact.{PART}
-use Rattle.derivations.proofs.Grounds.{small, setting, bit-inside, void-read, found-mark, part_none}
+use Rattle.derivations.proofs.Grounds.{mark-there, setting, bit-inside, void-read, part_none}
 use Rattle.derivations.proofs.Chaining.{chained-none, chained-some, part-marked}
 use native.Mathlib.Omega.{arith}
 use Rattle.derivations.proofs.kinds.chain_part.Goals as goal
 
-pub has-requires : goal.has-requires
-has-requires c = let l = small c.requires.0 in (c.requires.0.void.0.sized, omega (arith, c.requires.1))
-
-pub put_step-requires : goal.put_step-requires
-put_step-requires c =
-    let l = small c.requires.0 in let f = c.requires.0.few in let k = found-mark c.requires.0 _ _ (void-read c.requires.0 _ _ c.has.ensures ∙ c.if-has.true) c.find_mark-i.ensures in (omega (arith, c.requires.3), omega (arith, c.requires.1), omega (arith, c.requires.2), omega (arith, k.0), omega arith)
+pub unwrap-i-requires : goal.unwrap-i-requires
+unwrap-i-requires c = mark-there _ _ _ (void-read c.requires.0 _ _ c.has.ensures ∙ c.if-has.true) c.find_mark.ensures
 
 pub returns-then-has : goal.returns-then-has
-returns-then-has c =
-    part-marked c.requires.0 c.requires.1 c.requires.2 _ (void-read c.requires.0 _ _ c.has.ensures ∙ c.if-has.true) c.find_mark-i.ensures c.put_step.ensures
-
-pub test-requires : goal.test-requires
-test-requires c =
-    let l = small c.requires.0 in (c.requires.0.parts.sized, omega (arith, c.requires.2), omega (arith, c.requires.1))
+returns-then-has c = part-marked c.requires.0 c.requires.1 c.requires.2 _ c.find_mark.ensures c.unwrap-i.ensures c.put_step.ensures
 
 pub returns-then-not-test : goal.returns-then-not-test
 returns-then-not-test c =

@@ -12,6 +12,6 @@ pub returns-then-joins : goal.returns-then-joins
 returns-then-joins c =
     cited-straight c.requires.0 _ _ _ _ _ c.requires.3 c.requires.4 _ c.record_at-r.ensures (sym c.joins.ensures ∙ c.if-joins.true)
 
-pub returns : goal.returns
-returns c =
+pub returns-else-joins : goal.returns-else-joins
+returns-else-joins c =
     cited-swapped c.requires.0 _ _ _ _ _ c.requires.3 c.requires.4 _ c.record_at-r.ensures (sym c.joins.ensures ∙ c.if-joins.false)

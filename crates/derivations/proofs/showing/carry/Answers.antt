@@ -4,24 +4,12 @@ use native.Mathlib.Omega.{arith}
 use Rattle.derivations.proofs.Lifting.{carried-once, carried-twice, carried_none}
 use Rattle.derivations.proofs.showing.carry.Goals as goal
 
-pub put_step-requires : goal.put_step-requires
-put_step-requires c =
-    (omega (arith, c.requires.5, c.requires.6), c.requires.1.left, c.requires.1.right, c.requires.1.first, c.requires.1.second)
-
 pub returns-then-shows : goal.returns-then-shows
 returns-then-shows c = carried_none c.requires.1 c.requires.2 c.put_step.ensures (sym c.shows.ensures ∙ c.if-shows.true)
-
-pub show_lift-m-requires : goal.show_lift-m-requires
-show_lift-m-requires c =
-    (c.requires.0, c.requires.3, omega (arith, c.put_step.ensures.edited.sized, c.requires.5), omega (arith, c.requires.6), omega arith)
 
 pub show_lift-requires : goal.show_lift-requires
 show_lift-requires c =
     let o = carried-once c.requires.1 c.requires.2 c.put_step.ensures c.show_lift-m.ensures in (c.requires.0, c.requires.4, omega (arith, o.edited.sized, c.requires.5), omega (arith, o.few, c.requires.6), omega (arith, o.more))
-
-pub shape_of-c : goal.shape_of-c
-shape_of-c c =
-    (carried-twice c.requires.1 c.requires.2 c.put_step.ensures c.show_lift-m.ensures c.show_lift.ensures (sym c.shows.ensures ∙ c.if-shows.false)).writes.edited.sized
 
 pub returns : goal.returns
 returns c =

@@ -1,20 +1,13 @@
 -- `showing::show_common` meets its contract: the hops to a, the last piece in b on the way, and two lifts. Assumes nothing.
-use mathlib.Core.Path.{refl, ◌∙◌}
+use mathlib.Core.Path.{◌∙◌}
 use native.Mathlib.Omega.{arith}
-use Rattle.derivations.proofs.Linked.{all-wider, reaches, upward-between}
+use Rattle.derivations.proofs.Linked.{reaches, upward-between}
 use Rattle.derivations.proofs.Commoning.{last-low, last-inside, risen-writes, common-joined}
 use Rattle.derivations.proofs.showing.show_common.Goals as goal
-
-pub find_sources-requires : goal.find_sources-requires
-find_sources-requires c = (c.find_hops.ensures.sized, refl, c.requires.0.few, all-wider _ _ c.requires.0.small c.requires.0.within)
 
 pub last_inside-g-requires : goal.last_inside-g-requires
 last_inside-g-requires c =
     (c.find_hops.ensures.sized, c.requires.1.sized, omega (arith, c.requires.5, c.requires.0.small), (reaches c.requires.0 c.requires.3 c.requires.4 c.find_hops.ensures c.requires.6), c.requires.1.tells _ _ c.requires.3 c.requires.5 ∙ c.requires.7, λ y u. omega (arith, c.requires.0.small, (upward-between c.requires.0 c.requires.4 c.find_hops.ensures c.requires.3 u).present))
-
-pub put_step-requires : goal.put_step-requires
-put_step-requires c =
-    let l = last-low c.requires.0 c.requires.1 c.requires.2 c.requires.3 c.requires.4 c.requires.5 c.find_hops.ensures c.last_inside-g.ensures in (omega (arith, c.requires.8, c.requires.9), omega (arith, l, c.requires.0.small), omega (arith, l, c.requires.0.small), omega arith, omega arith)
 
 pub rise-m-requires : goal.rise-m-requires
 rise-m-requires c =

@@ -3,19 +3,9 @@ use native.Mathlib.Omega.{arith}
 use Rattle.derivations.proofs.Carries.{outside-apart, outside-outlies}
 use Rattle.derivations.proofs.showing.show_outside.Goals as goal
 
-pub put_step-requires : goal.put_step-requires
-put_step-requires c = (omega (arith, c.requires.16), c.requires.1.left, c.requires.1.right, c.requires.1.first, c.requires.1.second)
-
-pub show_lift-i-requires : goal.show_lift-i-requires
-show_lift-i-requires c =
-    (c.requires.0, record { low = c.requires.12; high = c.requires.7; inside = c.requires.13; left = c.requires.12; right = c.requires.8 }, omega (arith, c.put_step.ensures.edited.sized, c.requires.16), omega arith, omega arith)
-
 pub show_meeting-j-requires : goal.show_meeting-j-requires
 show_meeting-j-requires c =
     let o = outside-apart c.requires.1 c.requires.2 c.put_step.ensures c.show_lift-i.ensures in (c.requires.0, c.requires.5, c.requires.3, c.requires.4, c.requires.6, c.requires.9, c.requires.10, c.requires.11, c.requires.8, c.requires.14, c.requires.15, omega (arith, o.edited.sized, c.requires.16), omega (arith, o.few))
-
-pub overflow_sub-j : goal.overflow_sub-j
-overflow_sub-j c = omega (arith, c.show_meeting-j.ensures.writes.more)
 
 pub overflow_sub-i : goal.overflow_sub-i
 overflow_sub-i c =

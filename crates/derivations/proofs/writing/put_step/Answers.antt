@@ -2,8 +2,5 @@
 use Rattle.derivations.proofs.Puts.{step-put}
 use Rattle.derivations.proofs.writing.put_step.Goals as goal
 
-pub put_step-requires : goal.put_step-requires
-put_step-requires c = c.requires.0
-
 pub returns : goal.returns
 returns c = let P = c.requires in step-put _ _ _ _ P.0 c.put_step.ensures P.1 P.2 P.3 P.4

@@ -1,4 +1,4 @@
-use Prim.Native.Nat.{ℕ, ◌≤◌, ◌-◌}
+use Prim.Native.Nat.{ℕ}
 use mathlib.Core.Path.{◌≡◌}
 use mathlib.Core.Bool.{◌&&◌, ◌||◌}
 use Rattle.lists.specs.Any.{any_below}
@@ -7,7 +7,4 @@ use Rattle.grids.specs.Grid.{bit_at}
 use Rattle.grids.proofs.rounds.gather.Given as goal
 
 abbrev pub invariant-loop-h : goal.invariant-loop-h
-invariant-loop-h l = (l.h ≤ 64) × ((k : ℕ) → bit l.r k ≡ (bit l.y k || any_below (λ j. bit l.x j && bit_at l.z j k) l.h))
-
-abbrev pub decreases-loop-h : goal.decreases-loop-h
-decreases-loop-h l = 64 - l.h
+invariant-loop-h l = ((k : ℕ) → bit l.r k ≡ (bit l.y k || any_below (λ j. bit l.x j && bit_at l.z j k) l.h))

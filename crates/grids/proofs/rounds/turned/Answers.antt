@@ -1,20 +1,5 @@
-use borrow.Author.Rules.{rules}
-use Prim.Native.Nat.{ℕ, ◌<◌, ◌-◌}
-use mathlib.Core.Path.{◌≡◌}
-use native.Mathlib.Omega.{arith}
-use Rattle.matrices.specs.Matrix.{bit}
-use Rattle.grids.specs.Grid.{bit_at}
-use Rattle.grids.proofs.Rows.{rows_more}
+use Rattle.grids.proofs.Rows.{turned-onto_none}
 use Rattle.grids.proofs.rounds.turned.Goals as goal
 
-pub loop-g-init : goal.loop-g-init
-loop-g-init c = (search rules, search rules, λ a l. absurd (omega arith))
-
-pub loop-g-preserved : goal.loop-g-preserved
-unfolding bit_at
-loop-g-preserved c =
-    (search rules, search rules, rows_more (λ a v. (k : ℕ) → k < 64 → bit v k ≡ bit_at c.args.x k a) c.loop-g.r c.loop-g.g _ (search rules) c.loop-g.invariant.2 c.column.ensures)
-
 pub returns : goal.returns
-unfolding bit_at
-returns c = record { bits = λ a k l m. c.loop-g.invariant.2 a (omega arith) k m }
+returns c = record { bits = λ a k l m. turned-onto_none _ _ a k l (c.turned_onto.ensures.bits a k l m) }

@@ -5,7 +5,4 @@ use Rattle.replicates.proofs.Looks.{Looking}
 use Rattle.replicates.proofs.windows.look.Given as goal
 
 abbrev pub invariant-loop-j : goal.invariant-loop-j
-invariant-loop-j l = (l.j ≤ l.q) × (oldest l.q ≤ l.j) × Looking (bit_of l.a) l.xs l.q l.j l.seen.apart l.seen.from
-
-abbrev pub decreases-loop-j : goal.decreases-loop-j
-decreases-loop-j l = l.q - l.j
+invariant-loop-j l = (oldest l.q ≤ l.j) × Looking (bit_of l.a) l.xs l.q l.j l.seen.apart l.seen.from

@@ -4,7 +4,4 @@ use Rattle.replicates.specs.Looking.{Reach}
 use Rattle.replicates.proofs.windows.reach.Given as goal
 
 abbrev pub invariant-loop-q : goal.invariant-loop-q
-invariant-loop-q l = (l.q ≤ l.c) × Reach (bit_of l.a) l.xs l.q l.start
-
-abbrev pub decreases-loop-q : goal.decreases-loop-q
-decreases-loop-q l = l.c - l.q
+invariant-loop-q l = Reach (bit_of l.a) l.xs l.q l.start

@@ -1,8 +1,0 @@
--- `ranges::first_row` meets its contract: the invariant is that the rows below `low` are lower. Assumes nothing.
-use Prim.Native.Nat.{◌-◌}
-use native.Mathlib.Omega.{arith}
-use Rattle.areas.proofs.Searches.{lower-half}
-use Rattle.areas.proofs.ranges.first_row.Goals as goal
-
-pub loop-low-preserved-then-wide-row : goal.loop-low-preserved-then-wide-row
-loop-low-preserved-then-wide-row c = (omega arith, omega arith, lower-half _ _ _ _ (omega arith) (omega (arith, c.wide.ensures)))
