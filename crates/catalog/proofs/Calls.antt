@@ -1,4 +1,5 @@
 -- What a catalog comes to and leaves, row by row. Assumes nothing.
+use Rattle.records.proofs.Refuseds.{same-reason, same-place}
 use Rattle.std.specs.Prelude.{Err, Ok}
 use Rattle.records.specs.Refused.{BookCheck, refused_at}
 use Rattle.outcomes.specs.Accepted.{Outcome, accepted_with}
@@ -149,12 +150,12 @@ module _ (s : List ℕ) (k g : ℕ) (l : Lent) where
           rows :
               (m : ℕ) (a b : Bool) → refused_if a ClaimFormat (refused_if b ClaimPiece (Ok m)) ≡ refused_at r i
               → (refused_at r i ≡ refuse_if a ClaimFormat (refuse_if b ClaimPiece (by_index s k g (by_runs s m)))) × Other r
-          rows m true b e = let x : ClaimFormat ≡ r = cc in let y : 0 ≡ i = cc in (sym (ap₂ refused_at x y), subst Other x (omega arith))
-          rows m false true e = let x : ClaimPiece ≡ r = cc in let y : 0 ≡ i = cc in (sym (ap₂ refused_at x y), subst Other x (omega arith))
+          rows m true b e = let x : ClaimFormat ≡ r = same-reason e in let y : 0 ≡ i = same-place e in (sym (ap₂ refused_at x y), subst Other x (omega arith))
+          rows m false true e = let x : ClaimPiece ≡ r = same-reason e in let y : 0 ≡ i = same-place e in (sym (ap₂ refused_at x y), subst Other x (omega arith))
           rows m false false e = let z : ◌≡◌ {A = ℕ} 0 1 = cc in absurd (omega arith)
 
           pick : (b : BookCheck) → book_check s ≡ b → asked k g b ≡ refused_at r i → (refused_at r i ≡ by_book s k g b) × Other r
-          pick (Err x) e q = let a : x.refusal ≡ r = cc in let b : x.place ≡ i = cc in (sym (ap₂ refused_at a b), subst Other a (rw e at (book-other s)))
+          pick (Err x) e q = let a : x.refusal ≡ r = same-reason {r = x.refusal} {i = x.place} q in let b : x.place ≡ i = same-place {r = x.refusal} {i = x.place} q in (sym (ap₂ refused_at a b), subst Other a (rw e at (book-other s)))
           pick (Ok m) e q = rows m (not (leb 1 k && leb k 3)) (leb m g) q
 
       pub roomy : Roomy (length l.list) (length l.meets) (length l.apart) (length l.notpart)

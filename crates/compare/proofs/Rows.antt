@@ -1,4 +1,6 @@
 -- The outcome, row by row, and what it leaves. Assumes nothing.
+use Rattle.records.proofs.Refuseds.{same-reason, same-place}
+use Rattle.outcomes.proofs.Accepteds.{same-pieces}
 use Rattle.std.specs.Prelude.{Err, Ok}
 use Rattle.records.specs.Refused.{refused_at}
 use Rattle.outcomes.specs.Accepted.{Outcome, accepted_with}
@@ -101,7 +103,7 @@ answers-left s n cs was r answers long o l = record { outcome-is = o; answers-ar
         ∙ ap (λ (k : ℕ). answers_to s k cs) e
 
     are : (a b c : ℕ) → r ≡ accepted_with a b c → Known (leb (shortest_clash (marked s) n (entries s)) (records s)) → answers ≡ answers_to s n cs
-    are a b c q (is_false t) = let z = sym q ∙ o ∙ runs-free s n t in let e : a ≡ n = cc in own a b c e q
+    are a b c q (is_false t) = let z = sym q ∙ o ∙ runs-free s n t in let e : a ≡ n = same-pieces z in own a b c e q
     are a b c q (is_true t) = let z = sym q ∙ o ∙ runs-clash s n t in let y : ◌≡◌ {A = ℕ} 0 1 = cc in absurd (omega arith)
 
 -- a fresh call on it, and what comes after
@@ -221,7 +223,7 @@ module _ (s t cs : List ℕ) where
   pub rows-refuse : {x : Refusal} {i : ℕ} → by_rows s t cs ≡ by_book 1 (fresh_call s []) (by_book 2 (fresh_call t []) (refused_of 0 x i)) → Rows s t cs (refused_at x i)
   rows-refuse {x} {i} e = record {
     accepted = λ n q. let z : ◌≡◌ {A = ℕ} 0 1 = cc in absurd (omega arith);
-    refused = λ y j q. let a : x ≡ y = cc in let b : i ≡ j = cc in rw (a, b) at e;
+    refused = λ y j q. let a : x ≡ y = same-reason q in let b : i ≡ j = same-place q in rw (a, b) at e;
   }
 
   pub rows-accept : {n : ℕ} → Ready s t cs n → Rows s t cs (Ok n)

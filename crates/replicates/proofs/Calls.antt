@@ -1,4 +1,5 @@
 -- The call put together: what its inner functions ask and give, and its outcome, window and bytes. Assumes nothing.
+use Rattle.outcomes.proofs.Accepteds.{same-pieces}
 use Rattle.std.specs.Prelude.{Ok}
 use Rattle.records.specs.Refused.{refused_at}
 use Rattle.outcomes.specs.Accepted.{accepted_with}
@@ -92,7 +93,7 @@ module _ (s : List ℕ) (n : ℕ) (sound : book_check s ≡ Ok n) (w : Window) (
     unfolding handed_back left
     part-written a b c w' out' q v o =
         let z = (passes n nodes shadowed log w {a = a} {b = b} {c = c} (sym q)).1 in
-        let m : n ≡ a = cc in
+        let m : n ≡ a = same-pieces z in
         record { outcome-is = q ∙ ap (by_part w log) free; window-is = v; bytes-are = o ∙ ap (λ (k : ℕ). front (bytes_in s k w log) out) m }
 
 -- ---- rows 1 to 9

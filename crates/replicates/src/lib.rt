@@ -3,7 +3,7 @@
 
 ghost use Rattle.records.specs.Refused.{refused_at};
 ghost use Rattle.outcomes.specs.Accepted.{accepted_with};
-ghost use Rattle.std.specs.Prelude.{◌≡◌, length, ◌+◌, ◌*◌, ◌-◌, ◌<◌, ◌≤◌, Ok};
+ghost use Rattle.std.specs.Prelude.{◌≡◌, length, ◌+◌, ◌*◌, ◌-◌, ◌<◌, ◌≤◌, Ok, Err};
 ghost use Rattle.lists.specs.Front.{front};
 ghost use Rattle.matrices.specs.Matrix.{bit_of};
 ghost use Rattle.replicates.specs.Before.{bytes_from};
@@ -18,10 +18,9 @@ ghost use Rattle.closure.specs.Apart.{Aparts};
 ghost use Rattle.replicates.specs.Writing.{Free, Writable, Begun, Followed, Judged};
 ghost use Rattle.replicates.specs.Sizes.{SEQUENCE, WINDOW};
 
-use contradiction::Settled;
 use matrices::{Matrix, RowNumbers};
-use outcomes::Outcome;
-use records::{BookCheck, Refusal};
+use outcomes::Counts;
+use records::{Refusal, Refused};
 
 pub mod windows;
 
@@ -42,7 +41,7 @@ pub struct Window {
 // What a part of the log comes to, and the window to hand to the next.
 #[derive(Clone, Copy)]
 pub struct Replicated {
-    pub outcome: Outcome,
+    pub outcome: Result<Counts, Refused>,
     pub window: Window,
 }
 
@@ -87,28 +86,28 @@ fn bad_window(n: usize, window: Window) -> bool
 }
 
 // Row 21 of the entries, for a book with these counts.
-fn check_entries(n: usize, nodes: usize, shadows: usize, log: &[u8]) -> Outcome
-    ensures { result ≡ scan refused_at (accepted_with n nodes shadows) (entry_finding n log.now) 0 (entry_count log.now) }
+fn check_entries(counts: Counts, log: &[u8]) -> Result<Counts, Refused>
+    ensures { result ≡ scan refused_at (Ok counts) (entry_finding counts.pieces log.now) 0 (entry_count log.now) }
 {
     for i in 0..log.len() / ENTRY_BYTES {
-        if n <= usize::from(entry_at(log, i)) {
-            return Outcome::Refused(Refusal::ReplicatePiece, i);
+        if counts.pieces <= usize::from(entry_at(log, i)) {
+            return Err(Refusal::ReplicatePiece.at(i));
         }
     }
-    Outcome::Accepted(n, nodes, shadows)
+    Ok(counts)
 }
 
 // Rows 20 and 21, for a book with these counts.
-fn check_part(n: usize, nodes: usize, shadows: usize, window: Window, log: &[u8]) -> Outcome
-    ensures { result ≡ by_part window log.now (accepted_with n nodes shadows) }
+fn check_part(counts: Counts, window: Window, log: &[u8]) -> Result<Counts, Refused>
+    ensures { result ≡ by_part window log.now (Ok counts) }
 {
     if log.len() % ENTRY_BYTES != 0 || LOG_ENTRIES < log.len() / ENTRY_BYTES {
-        return Outcome::Refused(Refusal::LogLength, 0);
+        return Err(Refusal::LogLength.at(0));
     }
-    if bad_window(n, window) {
-        return Outcome::Refused(Refusal::ReplicatePiece, 0);
+    if bad_window(counts.pieces, window) {
+        return Err(Refusal::ReplicatePiece.at(0));
     }
-    check_entries(n, nodes, shadows, log)
+    check_entries(counts, log)
 }
 
 // Puts the window in front.
@@ -182,11 +181,11 @@ fn write_part(
 }
 
 // A refused part hands back the window that came.
-fn refuse(refusal: Refusal, place: usize, window: Window) -> Replicated
-    ensures { result ≡ record { outcome = refused_at refusal place; window = window } }
+fn refuse(refused: Refused, window: Window) -> Replicated
+    ensures { result ≡ record { outcome = Err refused; window = window } }
 {
     Replicated {
-        outcome: Outcome::Refused(refusal, place),
+        outcome: Err(refused),
         window,
     }
 }
@@ -213,15 +212,15 @@ fn judge(
         book, n, &mut voids, e, &mut order, &mut lead, d, t,
     );
     match settled {
-        Settled::Clash(place) => refuse(Refusal::Contradiction, place, window),
-        Settled::Free(nodes, shadowed) => {
-            let fit = check_part(n, nodes, shadowed, window, log);
+        Err(clash) => refuse(Refused::from(clash), window),
+        Ok(index) => {
+            let fit = check_part(Counts::of(n, index), window, log);
             match fit {
-                Outcome::Refused(refusal, place) => refuse(refusal, place, window),
-                Outcome::Accepted(pieces, all, hidden) => {
+                Err(refused) => refuse(refused, window),
+                Ok(_) => {
                     find_aparts(book, n, &voids, e, &order, &lead, d, t, a);
                     Replicated {
-                        outcome: Outcome::Accepted(pieces, all, hidden),
+                        outcome: fit,
                         window: write_part(book, n, a, window, log, out),
                     }
                 }
@@ -246,11 +245,10 @@ pub fn replicates(
 {
     let count = log.len() / ENTRY_BYTES;
     if out.len() < ENTRY_BYTES * count {
-        return refuse(Refusal::ShortBuffer, 0, window);
+        return refuse(Refusal::ShortBuffer.at(0), window);
     }
-    let checked = records::check_book(book);
-    match checked {
-        BookCheck::Refused(refusal, place) => refuse(refusal, place, window),
-        BookCheck::Accepted(n) => judge(book, n, window, log, out, e, d, t, a),
+    match records::check_book(book) {
+        Err(refused) => refuse(refused, window),
+        Ok(n) => judge(book, n, window, log, out, e, d, t, a),
     }
 }

@@ -1,4 +1,5 @@
 -- `catalog::write_catalog` meets its contract. Assumes nothing.
+use Rattle.std.proofs.lemmas.Result.{err_from_is_err_and}
 use mathlib.Core.Path.{◌≡◌, sym, ◌∙◌}
 use mathlib.Core.Bool.{Bool, ◌||◌}
 use mathlib.Core.List.{[]}
@@ -29,58 +30,34 @@ pub returns-then-short : goal.returns-then-short
 returns-then-short c =
     let A = c.args in
     let l = lent A.parens.now A.marks.now A.shadows.now A.places.now A.list.now A.meets.now A.apart.now A.notpart.now in
-    short-refused _ _ _ l (index-told l.index c.short.ensures c.if-short.true)
+    rw c.at.ensures (short-refused _ _ _ l (index-told l.index c.short.ensures c.if-short.true))
 
 pub returns-then-short-2 : goal.returns-then-short-2
 returns-then-short-2 c =
     let A = c.args in
     let l = lent A.parens.now A.marks.now A.shadows.now A.places.now A.list.now A.meets.now A.apart.now A.notpart.now in
-    catalog-refused _ _ _ l (index-told l.index c.short.ensures c.if-short.false) (catalog-told l c.short-2.ensures c.if-short-2.true)
+    rw c.at-then-short-2.ensures (catalog-refused _ _ _ l (index-told l.index c.short.ensures c.if-short.false) (catalog-told l c.short-2.ensures c.if-short-2.true))
 
-pub slice_bounds-judge-end : goal.slice_bounds-judge-end
-slice_bounds-judge-end c =
-    let A = c.args in
-    let i = lending.lent A.parens.now A.marks.now A.shadows.now A.places.now [] in
-    (long [] i (index-told i c.short.ensures c.if-short.false)).parens
-
-pub slice_bounds-judge-end-in-Accepted : goal.slice_bounds-judge-end-in-Accepted
-slice_bounds-judge-end-in-Accepted c =
+pub slice_bounds-judge-end-2 : goal.slice_bounds-judge-end-2
+slice_bounds-judge-end-2 c =
     let A = c.args in
     let i = lending.lent A.parens.now A.marks.now A.shadows.now A.places.now [] in
     sym (length-take-le 2560 A.parens.now (long [] i (index-told i c.short.ensures c.if-short.false)).parens)
 
-pub slice_bounds-judge-end-in-Accepted-2 : goal.slice_bounds-judge-end-in-Accepted-2
-slice_bounds-judge-end-in-Accepted-2 c =
-    let A = c.args in
-    let i = lending.lent A.parens.now A.marks.now A.shadows.now A.places.now [] in
-    (long [] i (index-told i c.short.ensures c.if-short.false)).marks
-
-pub slice_bounds-judge-end-in-Accepted-3 : goal.slice_bounds-judge-end-in-Accepted-3
-slice_bounds-judge-end-in-Accepted-3 c =
+pub slice_bounds-judge-end-4 : goal.slice_bounds-judge-end-4
+slice_bounds-judge-end-4 c =
     let A = c.args in
     let i = lending.lent A.parens.now A.marks.now A.shadows.now A.places.now [] in
     sym (length-take-le 1280 A.marks.now (long [] i (index-told i c.short.ensures c.if-short.false)).marks)
 
-pub slice_bounds-judge-end-in-Accepted-4 : goal.slice_bounds-judge-end-in-Accepted-4
-slice_bounds-judge-end-in-Accepted-4 c =
-    let A = c.args in
-    let i = lending.lent A.parens.now A.marks.now A.shadows.now A.places.now [] in
-    (long [] i (index-told i c.short.ensures c.if-short.false)).shadows
-
-pub slice_bounds-judge-end-in-Accepted-5 : goal.slice_bounds-judge-end-in-Accepted-5
-slice_bounds-judge-end-in-Accepted-5 c =
+pub slice_bounds-judge-end-6 : goal.slice_bounds-judge-end-6
+slice_bounds-judge-end-6 c =
     let A = c.args in
     let i = lending.lent A.parens.now A.marks.now A.shadows.now A.places.now [] in
     sym (length-take-le 8192 A.shadows.now (long [] i (index-told i c.short.ensures c.if-short.false)).shadows)
 
-pub slice_bounds-judge-end-in-Accepted-6 : goal.slice_bounds-judge-end-in-Accepted-6
-slice_bounds-judge-end-in-Accepted-6 c =
-    let A = c.args in
-    let i = lending.lent A.parens.now A.marks.now A.shadows.now A.places.now [] in
-    (long [] i (index-told i c.short.ensures c.if-short.false)).places
-
-pub slice_bounds-judge-end-in-Accepted-7 : goal.slice_bounds-judge-end-in-Accepted-7
-slice_bounds-judge-end-in-Accepted-7 c =
+pub slice_bounds-judge-end-8 : goal.slice_bounds-judge-end-8
+slice_bounds-judge-end-8 c =
     let A = c.args in
     let i = lending.lent A.parens.now A.marks.now A.shadows.now A.places.now [] in
     sym (length-take-le 2048 A.places.now (long [] i (index-told i c.short.ensures c.if-short.false)).places)
@@ -89,42 +66,19 @@ pub judge-requires : goal.judge-requires
 judge-requires c =
     let A = c.args in
     let l = lent A.parens.now A.marks.now A.shadows.now A.places.now A.list.now A.meets.now A.apart.now A.notpart.now in
-    let w = passed-asked _ _ _ (sym c.check_asked-checked.ensures ∙ c.in-Accepted.is) in
+    let w = passed-asked _ _ _ (sym c.in_ok-n.ensures) in
     (w.1, ready _ A.kind A.g l (index-told l.index c.short.ensures c.if-short.false) (catalog-told l c.short-2.ensures c.if-short-2.false) w.0)
 
-pub returns-in-Refused : goal.returns-in-Refused
-returns-in-Refused c =
+pub returns-in_err-n : goal.returns-in_err-n
+returns-in_err-n c =
     let A = c.args in
     let l = lent A.parens.now A.marks.now A.shadows.now A.places.now A.list.now A.meets.now A.apart.now A.notpart.now in
-    rows-refused _ _ _ l (index-told l.index c.short.ensures c.if-short.false) (catalog-told l c.short-2.ensures c.if-short-2.false) (sym c.check_asked-checked.ensures ∙ c.in-Refused.is)
+    let e = err_from_is_err_and c.from_residual.result c.from_residual.ensures.1 in
+    rw (e.1, e.2) (rows-refused _ _ _ l (index-told l.index c.short.ensures c.if-short.false) (catalog-told l c.short-2.ensures c.if-short-2.false) (sym c.in_err-n.ensures))
 
-pub shape_of-parens : goal.shape_of-parens
-shape_of-parens c = length_front c.args.parens.now c.judge.new.parens 2560 c.judge.auto.parens
-
-pub shape_of-marks : goal.shape_of-marks
-shape_of-marks c = length_front c.args.marks.now c.judge.new.marks 1280 c.judge.auto.marks
-
-pub shape_of-shadows : goal.shape_of-shadows
-shape_of-shadows c = length_front c.args.shadows.now c.judge.new.shadows 8192 c.judge.auto.shadows
-
-pub shape_of-places : goal.shape_of-places
-shape_of-places c = length_front c.args.places.now c.judge.new.places 2048 c.judge.auto.places
-
-pub shape_of-list : goal.shape_of-list
-shape_of-list c = c.judge.auto.list
-
-pub shape_of-meets : goal.shape_of-meets
-shape_of-meets c = c.judge.auto.meets
-
-pub shape_of-apart : goal.shape_of-apart
-shape_of-apart c = c.judge.auto.apart
-
-pub shape_of-notpart : goal.shape_of-notpart
-shape_of-notpart c = c.judge.auto.notpart
-
-pub returns-in-Accepted : goal.returns-in-Accepted
-returns-in-Accepted c =
+pub returns : goal.returns
+returns c =
     let A = c.args in
     let l = lent A.parens.now A.marks.now A.shadows.now A.places.now A.list.now A.meets.now A.apart.now A.notpart.now in
-    let w = passed-asked _ _ _ (sym c.check_asked-checked.ensures ∙ c.in-Accepted.is) in
+    let w = passed-asked _ _ _ (sym c.in_ok-n.ensures) in
     determined _ _ _ l (index-told l.index c.short.ensures c.if-short.false) (catalog-told l c.short-2.ensures c.if-short-2.false) w.0 _ _ w.1 c.judge.ensures

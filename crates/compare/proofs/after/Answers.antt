@@ -3,13 +3,13 @@ use mathlib.Core.Path.{sym, ◌∙◌}
 use Rattle.compare.proofs.Rows.{after-refused, after-accepted}
 use Rattle.compare.proofs.after.Goals as goal
 
-pub returns-in-Refused : goal.returns-in-Refused
-returns-in-Refused c = after-refused 1 _ _ (sym c.judge_book-one.ensures ∙ c.in-Refused.is)
+pub returns-in-Err : goal.returns-in-Err
+returns-in-Err c = rw c.refused_of.ensures (after-refused 1 _ _ (sym c.in-Err.ensures))
 
-pub returns-in-Refused-two : goal.returns-in-Refused-two
-returns-in-Refused-two c =
-    after-refused 2 _ _ (sym c.judge_book-two.ensures ∙ c.in-Refused-two.is) ∙ after-accepted 1 _ _ (sym c.judge_book-one.ensures ∙ c.in-Accepted.is)
+pub returns-in-Err-judge_book : goal.returns-in-Err-judge_book
+returns-in-Err-judge_book c =
+    rw c.refused_of-in-Err-judge_book.ensures (after-refused 2 _ _ (sym c.in-Err-judge_book.ensures) ∙ after-accepted 1 _ _ (sym c.in_default.ensures))
 
-pub returns-in-Accepted-two : goal.returns-in-Accepted-two
-returns-in-Accepted-two c =
-    after-accepted 2 _ _ (sym c.judge_book-two.ensures ∙ c.in-Accepted-two.is) ∙ after-accepted 1 _ _ (sym c.judge_book-one.ensures ∙ c.in-Accepted.is)
+pub returns : goal.returns
+returns c =
+    after-accepted 2 _ _ (sym c.in_default-judge_book.ensures) ∙ after-accepted 1 _ _ (sym c.in_default.ensures)

@@ -2,32 +2,38 @@
 use Prim.Native.Nat.{ℕ}
 use mathlib.Core.Path.{sym, ap, ◌∙◌}
 use mathlib.Core.List.{[]}
+use Rattle.std.proofs.lemmas.Result.{err_from_is_err_and}
 use Rattle.records.specs.Check.{claims_check}
 use Rattle.compare.proofs.Rows.{rows-first, rows-second, rows-claims, rows-refuse, rows-accept}
 use Rattle.compare.proofs.check_rows.Goals as goal
 
-pub returns-in-Refused : goal.returns-in-Refused
-returns-in-Refused c = rows-refuse _ _ _ (rows-first _ _ _ [] (sym c.check_book-one.ensures ∙ c.in-Refused.is))
+pub returns-in_err-own : goal.returns-in_err-own
+returns-in_err-own c =
+    let e = err_from_is_err_and c.from_residual.result c.from_residual.ensures.1 in
+    rw (e.1, e.2) (rows-refuse _ _ _ (rows-first _ _ _ [] (sym c.in_err-own.ensures)))
 
-pub returns-in-Refused-two : goal.returns-in-Refused-two
-returns-in-Refused-two c = rows-refuse _ _ _ (rows-second _ _ _ [] (sym c.check_book-two.ensures ∙ c.in-Refused-two.is))
+pub returns-in_err-other : goal.returns-in_err-other
+returns-in_err-other c =
+    let e = err_from_is_err_and c.from_residual-in_err-other.result c.from_residual-in_err-other.ensures.1 in
+    rw (e.1, e.2) (rows-refuse _ _ _ (rows-second _ _ _ [] (sym c.in_err-other.ensures)))
 
-pub returns-in-Refused-fit : goal.returns-in-Refused-fit
-returns-in-Refused-fit c =
+pub returns-in_err-check_claims : goal.returns-in_err-check_claims
+returns-in_err-check_claims c =
+    let e = err_from_is_err_and c.from_residual-in_err-check_claims.result c.from_residual-in_err-check_claims.ensures.1 in
     let cs = c.args.claims.now in
-    rows-refuse _ _ cs
-    (rows-claims _ _ cs [] (sym c.check_book-one.ensures ∙ c.in-Accepted.is) (sym c.check_book-two.ensures ∙ c.in-Accepted-two.is)
-    (ap (λ (k : ℕ). claims_check k cs) (sym c.larger_of-n.ensures) ∙ sym c.check_claims-fit.ensures ∙ c.in-Refused-fit.is))
+    rw (e.1, e.2) (rows-refuse _ _ cs
+    (rows-claims _ _ cs [] (sym c.in_ok-own.ensures) (sym c.in_ok-other.ensures)
+    (ap (λ (k : ℕ). claims_check k cs) (sym c.max-n.ensures) ∙ sym c.in_err-check_claims.ensures)))
 
-pub returns-in-Accepted-fit : goal.returns-in-Accepted-fit
-returns-in-Accepted-fit c =
+pub returns : goal.returns
+returns c =
     let cs = c.args.claims.now in
     rows-accept _ _ cs
     (record {
       own = _;
       other = _;
-      first = sym c.check_book-one.ensures ∙ c.in-Accepted.is;
-      second = sym c.check_book-two.ensures ∙ c.in-Accepted-two.is;
-      larger = c.larger_of-n.ensures;
-      fit = ap (λ (k : ℕ). claims_check k cs) (sym c.larger_of-n.ensures) ∙ sym c.check_claims-fit.ensures ∙ c.in-Accepted-fit.is;
+      first = sym c.in_ok-own.ensures;
+      second = sym c.in_ok-other.ensures;
+      larger = c.max-n.ensures;
+      fit = ap (λ (k : ℕ). claims_check k cs) (sym c.max-n.ensures) ∙ sym c.in_ok-check_claims.ensures;
     })

@@ -13,9 +13,9 @@ slice_bounds-judge_alone-end c = sym (front_long c.requires.0)
 pub judge_alone-one-requires : goal.judge_alone-one-requires
 judge_alone-one-requires c = first-answerable c.requires.0 (front_long c.requires.0)
 
-pub returns-in-Refused : goal.returns-in-Refused
-returns-in-Refused c =
-    first-refuses c.requires.0 (answers-left _ _ _ _ _ _ (front_long c.requires.0) c.judge_alone-one.ensures.0 c.judge_alone-one.ensures.1) c.in-Refused.is
+pub returns-in-Err : goal.returns-in-Err
+returns-in-Err c =
+    rw c.refused_of.ensures (first-refuses c.requires.0 (answers-left _ _ _ _ _ _ (front_long c.requires.0) c.judge_alone-one.ensures.0 c.judge_alone-one.ensures.1) c.in-Err.is)
 
 pub slice_bounds-theirs-end : goal.slice_bounds-theirs-end
 slice_bounds-theirs-end c = front-fit c.requires.0
@@ -26,9 +26,9 @@ slice_bounds-judge_alone-end-2 c = sym (front_long c.requires.0)
 pub judge_alone-two-requires : goal.judge_alone-two-requires
 judge_alone-two-requires c = second-answerable c.requires.0 (front_long c.requires.0)
 
-pub returns-in-Refused-two : goal.returns-in-Refused-two
-returns-in-Refused-two c =
-    second-refuses c.requires.0 (answers-left _ _ _ _ _ _ (front_long c.requires.0) c.judge_alone-one.ensures.0 c.judge_alone-one.ensures.1) c.in_default.is (answers-left _ _ _ _ _ _ (front_long c.requires.0) c.judge_alone-two.ensures.0 c.judge_alone-two.ensures.1) c.in-Refused-two.is
+pub returns-in-Err-two : goal.returns-in-Err-two
+returns-in-Err-two c =
+    rw c.refused_of-in-Err-two.ensures (second-refuses c.requires.0 (answers-left _ _ _ _ _ _ (front_long c.requires.0) c.judge_alone-one.ensures.0 c.judge_alone-one.ensures.1) c.in_default.is (answers-left _ _ _ _ _ _ (front_long c.requires.0) c.judge_alone-two.ensures.0 c.judge_alone-two.ensures.1) c.in-Err-two.is)
 
 pub lay_together-consistent-requires : goal.lay_together-consistent-requires
 lay_together-consistent-requires c = both-judgeable c.requires.0
@@ -48,9 +48,6 @@ slice_bounds-write_answers-end-2 c = sym (answers-long c.requires.0 c.judge_alon
 pub write_answers-requires : goal.write_answers-requires
 write_answers-requires c =
     answers-room c.args.claims.now c.requires.1 (answers-long c.requires.0 c.judge_alone-one.new.answers c.judge_alone-one.auto.answers) (answers-long c.requires.0 c.judge_alone-two.new.answers c.judge_alone-two.auto.answers)
-
-pub shape_of-out : goal.shape_of-out
-shape_of-out c = c.write_answers.auto.out
 
 pub returns : goal.returns
 returns c =

@@ -21,4 +21,4 @@ returns-in-Err c =
 pub returns-else-counts-gt-SIDE : goal.returns-else-counts-gt-SIDE
 returns-else-counts-gt-SIDE c =
     let e = sym c.judge_run-outcome.ensures ∙ c.in-Ok.is in
-    rw c.in-Ok.is (small-grid _ _ e (omega arith) c.grids_of.ensures)
+    small-grid _ _ e (omega arith) c.grids_of.ensures

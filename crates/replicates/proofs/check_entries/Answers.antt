@@ -6,13 +6,13 @@ use Rattle.replicates.proofs.Rows.{left-first, left-next, left-stop, left_end}
 use borrow.Author.Rules.{rules}
 use Rattle.replicates.proofs.check_entries.Goals as goal
 
-pub returns-then-n-from : goal.returns-then-n-from
-returns-then-n-from c =
-    let A = c.args in left-stop A.n A.nodes A.shadows A.log.now c.loop-i.i c.loop-i.invariant (omega arith) (omega (arith, c.entry_at.ensures, c.from.ensures))
+pub returns-then-counts-from : goal.returns-then-counts-from
+returns-then-counts-from c =
+    let A = c.args in rw c.at.ensures (left-stop A.counts.pieces A.counts.nodes A.counts.shadows A.log.now c.loop-i.i c.loop-i.invariant (omega arith) (omega (arith, c.entry_at.ensures, c.from.ensures)))
 
 pub loop-i-preserved : goal.loop-i-preserved
 loop-i-preserved c =
-    let A = c.args in left-next A.n A.nodes A.shadows A.log.now c.loop-i.i c.loop-i.invariant (omega arith) (omega (arith, c.entry_at.ensures, c.from.ensures))
+    let A = c.args in left-next A.counts.pieces A.counts.nodes A.counts.shadows A.log.now c.loop-i.i c.loop-i.invariant (omega arith) (omega (arith, c.entry_at.ensures, c.from.ensures))
 
 pub returns : goal.returns
-returns c = let A = c.args in left_end A.n A.nodes A.shadows A.log.now c.loop-i.i c.loop-i.invariant (omega arith)
+returns c = let A = c.args in left_end A.counts.pieces A.counts.nodes A.counts.shadows A.log.now c.loop-i.i c.loop-i.invariant (omega arith)

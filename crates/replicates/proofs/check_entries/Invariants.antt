@@ -6,4 +6,4 @@ use Rattle.replicates.proofs.Rows.{Left}
 use Rattle.replicates.proofs.check_entries.Given as goal
 
 abbrev pub invariant-loop-i : goal.invariant-loop-i
-invariant-loop-i l = Left l.n l.nodes l.shadows l.log l.i
+invariant-loop-i l = Left l.counts.pieces l.counts.nodes l.counts.shadows l.log l.i

@@ -8,16 +8,15 @@ use Rattle.replicates.proofs.check_part.Goals.{then-log-ne0-via-then-log-ne0, th
 pub returns-then-log-ne0 : goal.returns-then-log-ne0
 returns-then-log-ne0 c =
     let A = c.args in
-    elim c.then-log-ne0.branch [
-      | then-log-ne0-via-then-log-ne0 w ↦ part-odd A.n A.nodes A.shadows A.log.now A.window (λ e. omega arith)
-      | then-log-ne0-via-else-log-ne0+then-log-gt-LOG_ENTRIES w ↦ part-long A.n A.nodes A.shadows A.log.now A.window (omega arith)
-    ]
+    rw c.at.ensures (elim c.then-log-ne0.branch [
+      | then-log-ne0-via-then-log-ne0 w ↦ part-odd A.counts.pieces A.counts.nodes A.counts.shadows A.log.now A.window (λ e. omega arith)
+      | then-log-ne0-via-else-log-ne0+then-log-gt-LOG_ENTRIES w ↦ part-long A.counts.pieces A.counts.nodes A.counts.shadows A.log.now A.window (omega arith)
+    ])
 
 pub returns-then-bad_window : goal.returns-then-bad_window
 returns-then-bad_window c =
-    let A = c.args in part-window A.n A.nodes A.shadows A.log.now A.window (omega arith) (omega arith) (sym c.if-bad_window.true ∙ c.bad_window.ensures)
+    let A = c.args in rw c.at-then-bad_window.ensures (part-window A.counts.pieces A.counts.nodes A.counts.shadows A.log.now A.window (omega arith) (omega arith) (sym c.if-bad_window.true ∙ c.bad_window.ensures))
 
 pub returns : goal.returns
 returns c =
-    let A = c.args in c.check_entries.ensures ∙ part-entries A.n A.nodes A.shadows A.log.now A.window (omega arith) (omega arith) (sym c.if-bad_window.false ∙ c.bad_window.ensures)
-
+    let A = c.args in c.check_entries.ensures ∙ part-entries A.counts.pieces A.counts.nodes A.counts.shadows A.log.now A.window (omega arith) (omega arith) (sym c.if-bad_window.false ∙ c.bad_window.ensures)

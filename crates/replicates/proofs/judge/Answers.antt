@@ -17,7 +17,7 @@ slice_bounds-find_aparts-end c = sym c.settle_counted-settled.auto.voids
 pub find_aparts-requires : goal.find_aparts-requires
 find_aparts-requires c =
     let S = c.settle_counted-settled.ensures in
-    let q = row-free c.in-Free.is in
+    let q = row-free c.in-Ok.is in
     let O = S.1.free q in
     record { sound = c.requires.0; void = S.0; free = O.is; steps = S.2.free q; parts = O.parts }
 
@@ -26,32 +26,32 @@ write_part-requires c =
     record {
       sound = c.requires.0;
       aparts = c.find_aparts.ensures;
-      fits = (passes c.args.n _ _ c.args.log.now c.args.window (sym c.check_part-fit.ensures ∙ c.in-Accepted.is)).0;
+      fits = (passes c.args.n _ _ c.args.log.now c.args.window (sym (rw c.of.ensures at c.check_part-fit.ensures) ∙ c.in-Ok-fit.is)).0;
       wide = c.requires.1;
     }
 
-pub returns-in-Clash : goal.returns-in-Clash
-returns-in-Clash c =
+pub returns-in-Err : goal.returns-in-Err
+returns-in-Err c =
     let A = c.args in
     let S = c.settle_counted-settled.ensures in
-    clash-refused A.book.now A.n c.requires.0 A.window A.log.now A.out.now _ _ c.refuse.ensures
-    (rw S.0.1 at (S.1.clash _ (row-clash c.in-Clash.is)))
+    clash-refused A.book.now A.n c.requires.0 A.window A.log.now A.out.now _ _ (rw c.from.ensures at c.refuse.ensures)
+    (rw S.0.1 at (S.1.clash _ (row-clash c.in-Err.is)))
 
-pub returns-in-Refused : goal.returns-in-Refused
-returns-in-Refused c =
+pub returns-in-Err-fit : goal.returns-in-Err-fit
+returns-in-Err-fit c =
     let A = c.args in
     let S = c.settle_counted-settled.ensures in
     part-refused A.book.now A.n c.requires.0 A.window A.log.now A.out.now
-    (rw S.0.1 at (S.1.free (row-free c.in-Free.is)).is) (S.3.free _ _ c.in-Free.is) _ _ _ c.refuse-in-Refused.ensures
-    (sym c.in-Refused.is ∙ c.check_part-fit.ensures)
+    (rw S.0.1 at (S.1.free (row-free c.in-Ok.is)).is) (S.3.free _ _ c.in-Ok.is) _ _ _ c.refuse-in-Err-fit.ensures
+    (sym c.in-Err-fit.is ∙ (rw c.of.ensures at c.check_part-fit.ensures))
 
 pub shape_of-out : goal.shape_of-out
 shape_of-out c = c.write_part.auto.out
 
-pub returns-in-Accepted : goal.returns-in-Accepted
-returns-in-Accepted c =
+pub returns-in-Ok-fit : goal.returns-in-Ok-fit
+returns-in-Ok-fit c =
     let A = c.args in
     let S = c.settle_counted-settled.ensures in
-    part-written A.book.now A.n c.requires.0 A.window A.log.now A.out.now
-    (rw S.0.1 at (S.1.free (row-free c.in-Free.is)).is) (S.3.free _ _ c.in-Free.is) _ _ _ _ _
-    (sym c.in-Accepted.is ∙ c.check_part-fit.ensures) c.write_part.ensures.0 c.write_part.ensures.1
+    rw c.in-Ok-fit.is (part-written A.book.now A.n c.requires.0 A.window A.log.now A.out.now
+    (rw S.0.1 at (S.1.free (row-free c.in-Ok.is)).is) (S.3.free _ _ c.in-Ok.is) _ _ _ _ _
+    (sym c.in-Ok-fit.is ∙ (rw c.of.ensures at c.check_part-fit.ensures)) c.write_part.ensures.0 c.write_part.ensures.1)
