@@ -54,15 +54,21 @@ pub fn put(row: &mut [u64], i: usize)
     set_bit(row, 0, i);
 }
 
-// Puts row s of src into row d of dst. Two words a turn, both read before either is written: such a pair is one vector.
+// Puts row s of src into row d of dst. Two words a turn, both read before either is written: such a pair is one vector. One word a turn
+// takes half as long again.
 pub fn union_row(dst: &mut [u64], d: usize, src: &[u64], s: usize)
     requires { (IsMatrix dst.old) × (IsMatrix src.now) × (d < ROWS) × (s < ROWS) }
     ensures { United dst.old dst.new d src.now s }
 {
     let a = d * ROW_WORDS;
     let b = s * ROW_WORDS;
-    for i in 0..ROW_WORDS {
-        dst[a + i] |= src[b + i];
+    for pair in 0..ROW_WORDS / 2 {
+        let i = 2 * pair;
+        let j = i + 1;
+        let x = dst[a + i] | src[b + i];
+        let y = dst[a + j] | src[b + j];
+        dst[a + i] = x;
+        dst[a + j] = y;
     }
 }
 
