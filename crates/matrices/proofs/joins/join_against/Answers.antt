@@ -1,17 +1,11 @@
 use mathlib.Core.Path.{◌≡◌, subst}
 use Prim.Native.Nat.{ℕ, ◌+◌, ◌-◌, ◌<◌}
 use native.Mathlib.Omega.{arith}
-use Rattle.matrices.proofs.Flows.{Sent, against-none, against-more, against-all, irreflexive}
+use Rattle.matrices.proofs.Flows.{Sent, against-none, against-more, against-all}
 use Rattle.matrices.proofs.joins.join_against.Goals as goal
 
 pub loop-i-init : goal.loop-i-init
 loop-i-init c = λ R. against-none _ _ _ _ R
-
-pub push-requires : goal.push-requires
-push-requires c =
-    let h = c.from-h in
-    let r : h.result < c.args.n = omega (arith, h.ensures, (c.requires.3.row (c.loop-i.i - 1) (omega arith)).0) in
-    (c.requires.0, omega arith, omega (arith, r, c.requires.2), irreflexive _ _ _ c.requires.3 c.requires.2 _ r)
 
 pub loop-i-preserved : goal.loop-i-preserved
 loop-i-preserved c =

@@ -1,16 +1,6 @@
-use Prim.Native.Nat.{◌<◌}
 use native.Mathlib.Omega.{arith}
-use Rattle.matrices.proofs.Flows.{along-none, along-more, along-all, irreflexive}
+use Rattle.matrices.proofs.Flows.{along-more, along-all}
 use Rattle.matrices.proofs.joins.join_along.Goals as goal
-
-pub loop-i-init : goal.loop-i-init
-loop-i-init c = λ R. along-none _ _ R.at _
-
-pub pull-requires : goal.pull-requires
-pull-requires c =
-    let h = c.from-h in
-    let r : h.result < c.args.n = omega (arith, h.ensures, (c.requires.3.row c.loop-i.i (omega arith)).0) in
-    (c.requires.0, omega arith, omega (arith, r, c.requires.2), irreflexive _ _ _ c.requires.3 c.requires.2 _ r)
 
 pub loop-i-preserved : goal.loop-i-preserved
 loop-i-preserved c =
