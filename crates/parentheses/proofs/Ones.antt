@@ -131,9 +131,6 @@ module _ (l : List ℕ) (from to : ℕ) (order : from ≤ to) (room : to ≤ len
   abbrev run : List ℕ
   run = take (to - from) (drop from l)
 
-  run-length : length run ≡ to - from
-  run-length = length-take-le (to - from) (drop from l) (omega (arith, length-drop from l))
-
   pub counted : rank (bits l) (8 * from) + (sum_by (ones_in 8) (drop (length run / 8 * 8) run) + sum_by word_ones (first_chunks 8 (length run / 8) run)) ≡ rank (bits l) (8 * to)
   counted =
       let whole = bytes-take (to - from) (drop from l) (bytes-drop from l h) in
