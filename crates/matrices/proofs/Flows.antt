@@ -49,9 +49,6 @@ module _ (e m m' : List ℕ) (h from p : ℕ) (hl : h < 2048) (free : bit_of e h
       pick (yes a) = ap (λ (t : Bool). t && bit_of e h q) (lt-ltb q from a)
       pick (no a) = ap (λ (t : Bool). t && bit_of e h q) (le-ltb q from (omega arith)) ∙ sym (S.before q (omega arith) (q-below c))
 
-  pub push-done : 2048 ≤ p → Pushed e m m' h
-  push-done g = record { bits = λ q y l k. P.bits q y l k ∙ ap (λ (t : Bool). bit_of m q y || (t && bit_of m h y)) (passed q l (inr (omega (arith, S.upto)))) }
-
   row_kept : (y : ℕ) → y < 2048 → bit_of m' h y ≡ bit_of m h y
   row_kept y l = P.bits h y hl l ∙ ap (λ (t : Bool). bit_of m h y || (t && bit_of m h y)) (off (ltb h from)) ∙ or-false (bit_of m h y)
     where
@@ -73,9 +70,6 @@ module _ (e m m' : List ℕ) (h from p : ℕ) (hl : h < 2048) (free : bit_of e h
           side : Dec (q < p) → (ltb q from && bit_of e h q) ≡ (ltb q (p + 1) && bit_of e h q)
           side (yes a) = passed q l (inl a) ∙ sym (ap (λ (t : Bool). t && bit_of e h q) (lt-ltb q (p + 1) (omega arith)))
           side (no a) = ap (λ (t : Bool). t && bit_of e h q) (le-ltb q from (omega (arith, S.from)) ∙ sym (le-ltb q (p + 1) (omega arith)))
-
-pub push-all : (e m m' : List ℕ) (h from : ℕ) → from ≡ 2048 → PushedTo e m m' h from → Pushed e m m' h
-push-all e m m' h from g P = record { bits = λ q y l k. P.bits q y l k ∙ ap (λ (t : Bool). bit_of m q y || ((t && bit_of e h q) && bit_of m h y)) (lt-ltb q from (omega arith)) }
 
 -- ---- all rows
 
@@ -123,9 +117,6 @@ pub record DoneTo (e : List ℕ) (n : ℕ) (at : ℕ → ℕ) (m m' : List ℕ) 
   pub row : (r : ℕ → ℕ → Bool) → Reached (along e) n r → (h y : ℕ) → at h < k → h < n → y < 2048 → bit_of m' h y ≡ any_below (λ x. r h x && bit_of m x y) 2048
   pub after : (h y : ℕ) → h < n → k ≤ at h → y < 2048 → bit_of m' h y ≡ bit_of m h y
   pub beyond : (h y : ℕ) → n ≤ h → h < 2048 → y < 2048 → bit_of m' h y ≡ bit_of m h y
-
-pub along-none : (e : List ℕ) (n : ℕ) (at : ℕ → ℕ) (m : List ℕ) → DoneTo e n at m m 0
-along-none e n at m = record { row = λ r R h y a. absurd (omega arith); after = λ h y a b c. refl; beyond = λ h y a b c. refl }
 
 -- only the row at place k is at place k
 apart-at : (e : List ℕ) (n : ℕ) (order : List ℕ) (R : Sorted e n order) (g h : ℕ) → g < n → h < n → R.at g ≡ R.at h → g ≡ h
@@ -250,6 +241,3 @@ against-all e n at m m' k small q S r Q = record {
       ∙ sym (all-step (against e) n r Q m small h y a);
   other = S.other;
 }
-
-pub irreflexive : (e : List ℕ) (n : ℕ) (order : List ℕ) → Sorted e n order → n ≤ 2048 → (h : ℕ) → h < n → bit_of e h h ≡ false
-irreflexive e n order R small h l = not-true (bit_of e h h) (λ t. omega (arith, (R.earlier h h l (omega arith) t).0))

@@ -75,21 +75,8 @@ module _ (lead m m' : List ℕ) (i : ℕ) (P : Pooled i lead m m') where
             U.other k y b e
             ∙ same k y a b (ap (λ (t : Bool). bit_of m k y || (t && bit_of m i y)) (ne_eqb (get_or lead i 0) k (λ z. e (sym z ∙ sym eh))) ∙ or-false (bit_of m k y))
 
-pub pool-all : (lead m m' : List ℕ) (i n : ℕ) → i ≡ n → Pooled i lead m m' → Pooled n lead m m'
-pool-all lead m m' i n e P = rw e at P
-
 -- ---- and back
-pub share-none : (lead m : List ℕ) → Shared 0 lead m m
-share-none lead m = record { row = λ h y a. absurd (omega arith); other = λ h y a b c. refl }
-
 module _ (lead m m' : List ℕ) (i : ℕ) (S : Shared i lead m m') where
-  pub share-skip : i < 2048 → get_or lead i 0 ≡ i → Shared (i + 1) lead m m'
-  share-skip l q = record { row = λ h y a b. pick h y a b (ℕ_discrete h i); other = λ h y a. S.other h y (omega arith) }
-    where
-      pick : (h y : ℕ) → h < i + 1 → y < 2048 → Dec (h ≡ i) → bit_of m' h y ≡ (bit_of m h y || bit_of m (get_or lead h 0) y)
-      pick h y a b (yes e) = rw e (S.other i y (omega arith) l b ∙ sym (ap (λ (k : ℕ). bit_of m i y || bit_of m k y) q ∙ twice (bit_of m i y)))
-      pick h y a b (no e) = S.row h y (omega arith) b
-
   module _ (n h : ℕ) (m'' : List ℕ) (L : Led n lead) (small : n ≤ 2048) (l : i < n) (eh : h ≡ get_or lead i 0) (U : United m' m'' i m' h) where
     -- a leader's row still is as at the start
     unchanged : (y : ℕ) → y < 2048 → bit_of m' h y ≡ bit_of m h y
@@ -101,19 +88,3 @@ module _ (lead m m' : List ℕ) (i : ℕ) (S : Shared i lead m m') where
         pick : Dec (h < i) → bit_of m' h y ≡ bit_of m h y
         pick (yes a) = S.row h y a b ∙ ap (λ (k : ℕ). bit_of m h y || bit_of m k y) own ∙ twice (bit_of m h y)
         pick (no a) = S.other h y (omega arith) (omega (arith, L.below i l)) b
-
-    pub share-more : Shared (i + 1) lead m m''
-    share-more = record {
-      row = λ k y a b. pick k y a b (ℕ_discrete k i);
-      other = λ k y a b c. U.other k y c (λ e. omega arith) ∙ S.other k y (omega arith) b c;
-    }
-      where
-        pick : (k y : ℕ) → k < i + 1 → y < 2048 → Dec (k ≡ i) → bit_of m'' k y ≡ (bit_of m k y || bit_of m (get_or lead k 0) y)
-        pick k y a b (yes e) =
-            rw e
-            (U.row y b ∙ ap (λ (t : Bool). t || bit_of m' h y) (S.other i y (omega arith) (omega arith) b) ∙ ap (λ (t : Bool). bit_of m i y || t) (unchanged y b)
-            ∙ ap (λ (g : ℕ). bit_of m i y || bit_of m g y) eh)
-        pick k y a b (no e) = U.other k y b e ∙ S.row k y (omega arith) b
-
-pub share-all : (lead m m' : List ℕ) (i n : ℕ) → i ≡ n → Shared i lead m m' → Shared n lead m m'
-share-all lead m m' i n e S = rw e at S

@@ -4,12 +4,11 @@ use mathlib.Core.List.{List}
 use mathlib.Core.Bool.{Bool, ◌||◌, ◌&&◌, or-false, or_assoc, or_comm}
 use Prim.Native.Nat.{ℕ, ◌+◌, ◌<◌, ◌≤◌}
 use native.Mathlib.Numerals.{add-one}
-use native.Mathlib.Decide.{ℕ_discrete}
 use native.Mathlib.Omega.{arith}
 use Rattle.lists.specs.Any.{any_below}
 use Rattle.lists.proofs.Anys.{below-pass}
 use Rattle.lists.proofs.Searches.{Sought}
-use Rattle.matrices.specs.Matrix.{bit_of, through, Joins, United, Gathered, Multiplied}
+use Rattle.matrices.specs.Matrix.{bit_of, through, Joins, United, Gathered}
 
 -- bit y of row r of the product, by the x below k alone
 abbrev pub part : List ℕ → List ℕ → ℕ → ℕ → ℕ → Bool
@@ -47,17 +46,3 @@ module _ (a b : List ℕ) (r from x : ℕ) (S : Sought (bit_of a r) from 2048 x)
           ∙ ap (λ (t : Bool). bit_of b x j || t) (passed j)
 
 -- ---- row after row
-pub product-none : (m a b : List ℕ) → Multiplied m m a b 0
-product-none m a b = record { row = λ r y h. absurd (omega arith); other = λ r y h l. refl }
-
-pub product-more : (m m' m'' a b : List ℕ) (n : ℕ) → Multiplied m m' a b n → Gathered m' m'' a n b → Multiplied m m'' a b (n + 1)
-product-more m m' m'' a b n M G =
-    record {
-      row = λ r y h l. one r y l h (ℕ_discrete r n);
-      other = λ r y h l. G.other r y l (λ e. omega arith) ∙ M.other r y (omega arith) l;
-    }
-  where
-    one : (r y : ℕ) → y < 2048 → r < n + 1 → Dec (r ≡ n) → bit_of m'' r y ≡ (bit_of m r y || through a b r y)
-    one r y l h (yes e) =
-        rw e (G.row y l ∙ ap (λ (t : Bool). t || through a b n y) (M.other n y (omega arith) l))
-    one r y l h (no e) = G.other r y l e ∙ M.row r y (omega arith) l

@@ -1,5 +1,5 @@
 -- Rows of words: what a loop over the 32 words of a row has done after i turns, and what that says of bits. Assumes nothing.
-use mathlib.Core.Path.{◌≡◌, refl, sym, ap, ap₂, subst, ◌∙◌}
+use mathlib.Core.Path.{◌≡◌, sym, ap, subst, ◌∙◌}
 use mathlib.Core.List.{List}
 use mathlib.Core.Bool.{Bool, true, false, ◌||◌, ◌&&◌, or-true, or-false, true≢false}
 use Prim.Native.Nat.{ℕ, ◌+◌, ◌*◌, ◌/◌, ◌%◌, ◌^◌, ◌<◌, ◌≤◌}
@@ -8,9 +8,8 @@ use native.Mathlib.Decide.{dec_lt, ℕ_discrete}
 use native.Mathlib.Omega.{arith}
 use lib.Bits.{bit_and, bit_or, and_le_l}
 use lib.Count.{count_trailing_zeros}
-use lib.ListN.{length, length-set, get_or, set}
+use lib.ListN.{length, get_or, set}
 use lib.Seq.{get_or-set_same, get_or-set_other}
-use borrow.Author.Count.{below_more}
 use Rattle.lists.proofs.Bools.{not-true}
 use Rattle.lists.proofs.Anys.{below-find, below-hit}
 use Rattle.matrices.specs.Matrix.{bit, bit_of, common, Inserted, United}
@@ -21,30 +20,6 @@ pub record Joined (m m' n : List ℕ) (a b i : ℕ) : Type 0 where
   pub inside : (k : ℕ) → k < i → get_or m' (a + k) 0 ≡ bit_or (get_or m (a + k) 0) (get_or n (b + k) 0)
   pub below : (w : ℕ) → w < a → get_or m' w 0 ≡ get_or m w 0
   pub above : (w : ℕ) → a + i ≤ w → get_or m' w 0 ≡ get_or m w 0
-
-pub joined-none : (m n : List ℕ) (a b : ℕ) → Joined m m n a b 0
-joined-none m n a b = record { inside = λ k h. absurd (omega arith); below = λ w h. refl; above = λ w h. refl }
-
-pub joined-more :
-    (m m' n : List ℕ) (a b i x y : ℕ) → a + i < length m' → x ≡ get_or m (a + i) 0 → y ≡ get_or n (b + i) 0 → Joined m m' n a b i
-    → Joined m (set m' (a + i) (bit_or x y)) n a b (i + 1)
-joined-more m m' n a b i x y h ex ey J =
-    record {
-      inside =
-          below_more (λ k. get_or (set m' (a + i) (bit_or x y)) (a + k) 0 ≡ bit_or (get_or m (a + k) 0) (get_or n (b + k) 0)) i
-          (λ k l. get_or-set_other m' (a + i) (a + k) (bit_or x y) 0 (λ e. omega arith) ∙ J.inside k l)
-          (get_or-set_same m' (a + i) (bit_or x y) 0 h ∙ ap₂ bit_or ex ey);
-      below = λ w l. get_or-set_other m' (a + i) w (bit_or x y) 0 (λ e. omega arith) ∙ J.below w l;
-      above = λ w l. get_or-set_other m' (a + i) w (bit_or x y) 0 (λ e. omega arith) ∙ J.above w (omega arith);
-    }
-
--- two words, both read before either is written
-pub joined-pair :
-    (m m' n : List ℕ) (a b i x y x' y' : ℕ) → a + (i + 1) < length m' → x ≡ get_or m (a + i) 0 → y ≡ get_or n (b + i) 0 → x' ≡ get_or m (a + (i + 1)) 0
-    → y' ≡ get_or n (b + (i + 1)) 0 → Joined m m' n a b i → Joined m (set (set m' (a + i) (bit_or x y)) (a + (i + 1)) (bit_or x' y')) n a b (i + 2)
-joined-pair m m' n a b i x y x' y' h ex ey ex' ey' J =
-    let e : i + 1 + 1 ≡ i + 2 = omega arith in
-    rw e at (joined-more _ _ _ _ _ _ _ _ (simp length-set (omega arith)) ex' ey' (joined-more _ _ _ _ _ _ _ _ (omega arith) ex ey J))
 
 -- a whole row
 pub united : (m m' n : List ℕ) (d s : ℕ) → Joined m m' n (d * 32) (s * 32) 32 → United m m' d n s

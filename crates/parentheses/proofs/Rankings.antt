@@ -5,16 +5,15 @@ use mathlib.Core.Bool.{Bool, false}
 use mathlib.Core.List.{List}
 use native.Mathlib.Nat.{add-zero}
 use native.Mathlib.Omega.{arith}
-use native.Mathlib.Decide.{ℕ_discrete}
 use lib.ListN.{length, get_or, set}
-use lib.Seq.{get_or-set_same, get_or-set_other}
+use lib.Seq.{get_or-set_same}
 use Rattle.parentheses.specs.Bits.{bits}
 use Rattle.parentheses.specs.Rank.{rank}
 use Rattle.parentheses.specs.Ranked.{Ranked}
 use Rattle.parentheses.proofs.Ranks.{num-le, rank-zero, rank-suc, rank_mono}
 
 -- d bits have at most d ones
-rank-near : (bs : List Bool) (i d : ℕ) → rank bs (i + d) ≤ rank bs i + d
+pub rank-near : (bs : List Bool) (i d : ℕ) → rank bs (i + d) ≤ rank bs i + d
 rank-near bs i zero = omega (arith, ap (rank bs) (add-zero i))
 rank-near bs i (suc d) =
     let e : i + suc d ≡ i + d + 1 = omega arith in
@@ -29,16 +28,6 @@ module _ (bytes ranks : List ℕ) where
   counted_none l j h =
       let z : j ≡ 0 = omega arith in
       rw z (get_or-set_same ranks 0 0 0 l ∙ sym (rank-zero (bits bytes)))
-
-  pub counted-more : (i v : ℕ) → i + 1 < length ranks → v ≡ rank (bits bytes) (8 * (i + 1)) → Counted bytes ranks i → Counted bytes (set ranks (i + 1) v) (i + 1)
-  counted-more i v l e C j h = pick (ℕ_discrete j (i + 1))
-    where
-      pick : Dec (j ≡ i + 1) → get_or (set ranks (i + 1) v) j 0 ≡ rank (bits bytes) (8 * j)
-      pick (yes s) = rw s (get_or-set_same ranks (i + 1) v 0 l ∙ e)
-      pick (no s) = get_or-set_other ranks (i + 1) j v 0 s ∙ C j (omega (arith, s))
-
-  pub counted-all : Counted bytes ranks (length bytes) → Ranked bytes ranks
-  counted-all C = record { are = λ i l h. C i h }
 
   -- the ones between two bytes by the table
   module _ (R : Ranked bytes ranks) (from to : ℕ) (f : from ≤ to) (t : to ≤ length bytes) (l : to < length ranks) (x y : ℕ) (low : x ≡ get_or ranks from 0) (high : y ≡ get_or ranks to 0) where

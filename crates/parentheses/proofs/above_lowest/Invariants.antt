@@ -1,7 +1,6 @@
 -- `parentheses::above_lowest` meets its contract.
 -- Assumes nothing.
-use Prim.Native.Nat.{◌+◌, ◌-◌, ◌*◌, ◌≤◌, ◌<◌}
-use lib.ListN.{length}
+use Prim.Native.Nat.{◌+◌, ◌*◌, ◌≤◌, ◌<◌}
 use Rattle.parentheses.specs.Bits.{bits}
 use Rattle.parentheses.specs.Rank.{rank}
 use Rattle.parentheses.specs.Search.{Stays}
@@ -9,8 +8,5 @@ use Rattle.parentheses.proofs.above_lowest.Given as goal
 
 abbrev pub invariant-loop-m : goal.invariant-loop-m
 invariant-loop-m l =
-    (l.i + l.m ≤ length l.bytes) × (0 < l.floor) × (l.floor ≤ 64 + l.m) × (l.floor + 8 * l.m + 2 * rank (bits l.bytes) (8 * l.i) ≤ l.depth + 2 * rank (bits l.bytes) (8 * l.i + 8 * l.m))
+    (0 < l.floor) × (l.floor ≤ 64 + l.m) × (l.floor + 8 * l.m + 2 * rank (bits l.bytes) (8 * l.i) ≤ l.depth + 2 * rank (bits l.bytes) (8 * l.i + 8 * l.m))
     × Stays (bits l.bytes) (8 * l.i) (8 * l.m) l.depth
-
-abbrev pub decreases-loop-m : goal.decreases-loop-m
-decreases-loop-m l = length l.bytes - (l.i + l.m)

@@ -1,7 +1,6 @@
 -- `parentheses::rank_bytes` meets its contract: as many entries are right as bytes were counted. Assumes nothing.
 use mathlib.Core.Path.{◌≡◌}
-use Prim.Native.Nat.{◌-◌, ◌*◌, ◌≤◌}
-use lib.ListN.{length}
+use Prim.Native.Nat.{◌*◌}
 use Rattle.parentheses.specs.Bits.{bits}
 use Rattle.parentheses.specs.Rank.{rank}
 use Rattle.parentheses.proofs.Rankings.{Counted}
@@ -9,7 +8,4 @@ use Rattle.parentheses.proofs.rank_bytes.Given as goal
 
 abbrev pub invariant-loop-i : goal.invariant-loop-i
 invariant-loop-i l =
-    (l.i ≤ length l.bytes) × (length l.ranks ≡ length l.initial.ranks) × (l.ones ≡ rank (bits l.bytes) (8 * l.i)) × Counted l.bytes l.ranks l.i
-
-abbrev pub decreases-loop-i : goal.decreases-loop-i
-decreases-loop-i l = length l.bytes - l.i
+    (l.ones ≡ rank (bits l.bytes) (8 * l.i)) × Counted l.bytes l.ranks l.i

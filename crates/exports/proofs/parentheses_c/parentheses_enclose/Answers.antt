@@ -11,4 +11,4 @@ returns-in_default c =
     (λ d. mul_comm _ 8 ∙ ap (position_of _) (sym c.in_default.is ∙ c.enclose.ensures), λ n. absurd (n (search rules, search rules)))
 
 pub returns : goal.returns
-returns c = (λ d. ap (position_of _) (sym c.in-At.is ∙ c.enclose.ensures), λ n. absurd (n (search rules, search rules)))
+returns c = (λ d. ap (position_of _) (sym c.in-Some.is ∙ c.enclose.ensures), λ n. absurd (n (search rules, search rules)))

@@ -21,6 +21,6 @@ returns-in_default c = (
 
 pub returns : goal.returns
 returns c = (
-  λ d. ap (position_of _) (sym c.in-At.is ∙ c.find_close_by.ensures),
+  λ d. ap (position_of _) (sym c.in-Some.is ∙ c.find_close_by.ensures),
   λ n. absurd (n (search rules, search rules, sym c.get.ensures ∙ c.if-not-get.false)),
 )
