@@ -8,6 +8,3 @@ use Rattle.index.proofs.mark_held.Given as goal
 
 abbrev pub invariant-loop-c : goal.invariant-loop-c
 invariant-loop-c l = (l.c ≤ l.n) × (length l.held ≡ length l.initial.held) × Held l.c l.edges l.held
-
-abbrev pub decreases-loop-c : goal.decreases-loop-c
-decreases-loop-c l = l.n - l.c

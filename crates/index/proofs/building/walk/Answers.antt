@@ -34,12 +34,12 @@ offset_bounds-parent-p c = fits-twice _ (part_small _ _ c.if-p-n.true c.loop-fro
 pub bounds-parent-p : goal.bounds-parent-p
 bounds-parent-p c = inside _ _ _ c.if-p-n.true c.loop-from.invariant.0.small
 
-pub narrow-requires : goal.narrow-requires
-narrow-requires c =
+pub overflow_cast-places : goal.overflow_cast-places
+overflow_cast-places c =
     let L = c.loop-from in
     let R = given L.invariant.0 in
     let N = stepping L.invariant.0 L.invariant.1 c.next_bit-p.ensures in
-    (walk-room R L.invariant.1 N c.if-p-n.true).2
+    omega (arith, (walk-room R L.invariant.1 N c.if-p-n.true).2)
 
 pub offset_bounds-places-p : goal.offset_bounds-places-p
 offset_bounds-places-p c = fits-twice _ (part_small _ _ c.if-p-n.true c.loop-from.invariant.0.small)
@@ -65,53 +65,50 @@ overflow_add-k c =
     let N = stepping L.invariant.0 L.invariant.1 c.next_bit-p.ensures in
     fits_one _ (count_small _ (walk-room R L.invariant.1 N c.if-p-n.true).2)
 
-pub loop-from-smaller-then-wide-c : goal.loop-from-smaller-then-wide-c
-loop-from-smaller-then-wide-c c =
+pub loop-from-smaller-then-from-c : goal.loop-from-smaller-then-from-c
+loop-from-smaller-then-from-c c =
     let L = c.loop-from in
     let R = given L.invariant.0 in
     let N = stepping L.invariant.0 L.invariant.1 c.next_bit-p.ensures in
-    walk-less R L.invariant.1 N c.if-p-n.true (sym c.wide.ensures.0 ∙ c.if-wide-c.true)
+    walk-less R L.invariant.1 N c.if-p-n.true (sym c.from.ensures ∙ c.if-from-c.true)
 
-pub loop-from-preserved-then-wide-c : goal.loop-from-preserved-then-wide-c
-loop-from-preserved-then-wide-c c =
+pub loop-from-preserved-then-from-c : goal.loop-from-preserved-then-from-c
+loop-from-preserved-then-from-c c =
     let L = c.loop-from in
     let R = given L.invariant.0 in
     let N = stepping L.invariant.0 L.invariant.1 c.next_bit-p.ensures in
-    (L.invariant.0, rw c.narrow.ensures (walk-node R L.invariant.1 N c.if-p-n.true (sym c.wide.ensures.0 ∙ c.if-wide-c.true) (record { same = c.put-then-p-n.auto.bytes; bit = c.put-then-p-n.ensures })))
+    (L.invariant.0, (walk-node R L.invariant.1 N c.if-p-n.true (sym c.from.ensures ∙ c.if-from-c.true) (record { same = c.put-then-p-n.auto.bytes; bit = c.put-then-p-n.ensures })))
 
-pub put-requires-else-wide-c : goal.put-requires-else-wide-c
-put-requires-else-wide-c c =
+pub put-requires-else-from-c : goal.put-requires-else-from-c
+put-requires-else-from-c c =
     let L = c.loop-from in
     let R = given L.invariant.0 in
     let N = stepping L.invariant.0 L.invariant.1 c.next_bit-p.ensures in
-    (mark-room R L.invariant.1 N c.if-p-n.true (λ x. c.if-wide-c.false (c.wide.ensures.0 ∙ x))).0
-
-pub narrow-requires-else-wide-c : goal.narrow-requires-else-wide-c
-narrow-requires-else-wide-c c = inside _ _ 65536 c.if-p-n.true (small_count _ c.loop-from.invariant.0.small)
+    (mark-room R L.invariant.1 N c.if-p-n.true (λ x. c.if-from-c.false (c.from.ensures ∙ x))).0
 
 pub offset_bounds-shadows-m : goal.offset_bounds-shadows-m
 offset_bounds-shadows-m c =
     let L = c.loop-from in
     let R = given L.invariant.0 in
     let N = stepping L.invariant.0 L.invariant.1 c.next_bit-p.ensures in
-    fits-twice _ (count_small _ (mark-room R L.invariant.1 N c.if-p-n.true (λ x. c.if-wide-c.false (c.wide.ensures.0 ∙ x))).2)
+    fits-twice _ (count_small _ (mark-room R L.invariant.1 N c.if-p-n.true (λ x. c.if-from-c.false (c.from.ensures ∙ x))).2)
 
 pub bounds-shadows-m : goal.bounds-shadows-m
 bounds-shadows-m c =
     let L = c.loop-from in
     let R = given L.invariant.0 in
     let N = stepping L.invariant.0 L.invariant.1 c.next_bit-p.ensures in
-    (mark-room R L.invariant.1 N c.if-p-n.true (λ x. c.if-wide-c.false (c.wide.ensures.0 ∙ x))).1
+    (mark-room R L.invariant.1 N c.if-p-n.true (λ x. c.if-from-c.false (c.from.ensures ∙ x))).1
 
-pub overflow_add-at-else-wide-c : goal.overflow_add-at-else-wide-c
-overflow_add-at-else-wide-c c =
+pub overflow_add-at-else-from-c : goal.overflow_add-at-else-from-c
+overflow_add-at-else-from-c c =
     let L = c.loop-from in
     let R = given L.invariant.0 in
     let N = stepping L.invariant.0 L.invariant.1 c.next_bit-p.ensures in
     omega (arith, (walk-room R L.invariant.1 N c.if-p-n.true).0)
 
-pub overflow_add-k-else-wide-c : goal.overflow_add-k-else-wide-c
-overflow_add-k-else-wide-c c =
+pub overflow_add-k-else-from-c : goal.overflow_add-k-else-from-c
+overflow_add-k-else-from-c c =
     let L = c.loop-from in
     let R = given L.invariant.0 in
     let N = stepping L.invariant.0 L.invariant.1 c.next_bit-p.ensures in
@@ -122,24 +119,24 @@ overflow_add-m c =
     let L = c.loop-from in
     let R = given L.invariant.0 in
     let N = stepping L.invariant.0 L.invariant.1 c.next_bit-p.ensures in
-    fits_one _ (count_small _ (mark-room R L.invariant.1 N c.if-p-n.true (λ x. c.if-wide-c.false (c.wide.ensures.0 ∙ x))).2)
+    fits_one _ (count_small _ (mark-room R L.invariant.1 N c.if-p-n.true (λ x. c.if-from-c.false (c.from.ensures ∙ x))).2)
 
 pub overflow_add-from : goal.overflow_add-from
 overflow_add-from c = fits_one _ (part_small _ _ c.if-p-n.true c.loop-from.invariant.0.small)
 
-pub loop-from-smaller-else-wide-c : goal.loop-from-smaller-else-wide-c
-loop-from-smaller-else-wide-c c =
+pub loop-from-smaller-else-from-c : goal.loop-from-smaller-else-from-c
+loop-from-smaller-else-from-c c =
     let L = c.loop-from in
     let R = given L.invariant.0 in
     let N = stepping L.invariant.0 L.invariant.1 c.next_bit-p.ensures in
-    shadow-less R L.invariant.1 N c.if-p-n.true (λ x. c.if-wide-c.false (c.wide.ensures.0 ∙ x))
+    shadow-less R L.invariant.1 N c.if-p-n.true (λ x. c.if-from-c.false (c.from.ensures ∙ x))
 
-pub loop-from-preserved-else-wide-c : goal.loop-from-preserved-else-wide-c
-loop-from-preserved-else-wide-c c =
+pub loop-from-preserved-else-from-c : goal.loop-from-preserved-else-from-c
+loop-from-preserved-else-from-c c =
     let L = c.loop-from in
     let R = given L.invariant.0 in
     let N = stepping L.invariant.0 L.invariant.1 c.next_bit-p.ensures in
-    (L.invariant.0, rw c.narrow-else-wide-c.ensures (walk-shadow R L.invariant.1 N c.if-p-n.true (λ x. c.if-wide-c.false (c.wide.ensures.0 ∙ x)) (record { same = c.put-then-p-n.auto.bytes; bit = c.put-then-p-n.ensures }) (record { same = c.put-else-wide-c.auto.bytes; bit = c.put-else-wide-c.ensures })))
+    (L.invariant.0, (walk-shadow R L.invariant.1 N c.if-p-n.true (λ x. c.if-from-c.false (c.from.ensures ∙ x)) (record { same = c.put-then-p-n.auto.bytes; bit = c.put-then-p-n.ensures }) (record { same = c.put-else-from-c.auto.bytes; bit = c.put-else-from-c.ensures })))
 
 pub shape_of-parens-then-c-eq0 : goal.shape_of-parens-then-c-eq0
 shape_of-parens-then-c-eq0 c = c.loop-from.invariant.1.len_parens ∙ c.put.auto.bytes
@@ -181,11 +178,11 @@ loop-from-smaller c =
     let L = c.loop-from in
     let R = given L.invariant.0 in
     let N = stepping L.invariant.0 L.invariant.1 c.next_bit-p.ensures in
-    rw c.wide-else-p-n.ensures.0 (leave-less R L.invariant.1 N c.if-p-n.false c.if-c-eq0.false)
+    rw c.from-else-p-n.ensures (leave-less R L.invariant.1 N c.if-p-n.false c.if-c-eq0.false)
 
 pub loop-from-preserved : goal.loop-from-preserved
 loop-from-preserved c =
     let L = c.loop-from in
     let R = given L.invariant.0 in
     let N = stepping L.invariant.0 L.invariant.1 c.next_bit-p.ensures in
-    (L.invariant.0, rw c.wide-else-p-n.ensures.0 (walk-leave R L.invariant.1 N c.if-p-n.false c.if-c-eq0.false))
+    (L.invariant.0, rw c.from-else-p-n.ensures (walk-leave R L.invariant.1 N c.if-p-n.false c.if-c-eq0.false))
