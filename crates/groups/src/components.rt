@@ -21,14 +21,12 @@ fn cut(bounds: &RowNumbers, top: usize, p: usize) -> usize
     requires { top ≤ ROWS }
     ensures { Cut bounds.now top p result }
 {
-    let mut t = top;
-    while 0 < t {
-        if shorts::wide(bounds[t - 1]) <= p {
-            return t;
+    for t in (0..top).rev() {
+        if usize::from(bounds[t]) <= p {
+            return t + 1;
         }
-        t -= 1;
     }
-    t
+    0
 }
 
 // Gives the pieces of the path from `at` on the number `count`.
@@ -36,11 +34,8 @@ fn close(path: &RowNumbers, done: &mut RowNumbers, at: usize, len: usize, count:
     requires { (len ≤ ROWS) × (at ≤ len) × (count < SHORT-VALUES) × (length done.old ≡ ROWS) × Inside path.now at len ROWS }
     ensures { Numbered path.now done.old done.new at len count }
 {
-    let mut i = at;
-    while i < len {
-        let g = shorts::wide(path[i]);
-        done[g] = shorts::narrow(count);
-        i += 1;
+    for i in at..len {
+        done[usize::from(path[i])] = count as u16;
     }
 }
 
@@ -56,9 +51,9 @@ fn push(
     requires { (v < ROWS) × (len < ROWS) × (top < ROWS) }
     ensures { (pos.new ≡ set pos.old v len) × (path.new ≡ set path.old len v) × (bounds.new ≡ set bounds.old top len) }
 {
-    pos[v] = shorts::narrow(len);
-    path[len] = shorts::narrow(v);
-    bounds[top] = shorts::narrow(len);
+    pos[v] = len as u16;
+    path[len] = v as u16;
+    bounds[top] = len as u16;
 }
 
 // All that v leads to and that is new is put on the path and looked at; a part on the path makes one group of all from its own on; and the group

@@ -1,7 +1,7 @@
 -- `index::mark_held` meets its contract: the parts of the pieces below `c` are marked.
 -- Assumes nothing.
 use mathlib.Core.Path.{◌≡◌}
-use Prim.Native.Nat.{◌-◌, ◌≤◌}
+use Prim.Native.Nat.{◌≤◌}
 use lib.ListN.{length}
 use Rattle.index.specs.Steps.{Held}
 use Rattle.index.proofs.mark_held.Given as goal

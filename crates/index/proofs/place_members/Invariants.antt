@@ -1,6 +1,6 @@
 -- `index::place_members` meets its contract: the pieces below g have their places, and the rest is 0. Assumes nothing.
 use mathlib.Core.Path.{◌≡◌}
-use Prim.Native.Nat.{ℕ, ◌-◌, ◌<◌, ◌≤◌}
+use Prim.Native.Nat.{ℕ, ◌<◌, ◌≤◌}
 use lib.ListN.{length, get_or}
 use Rattle.index.proofs.place_members.Given as goal
 

@@ -1,6 +1,6 @@
 -- `index::resolve` meets its contract: the shadows before `j` have their places.
 -- Assumes nothing.
-use Prim.Native.Nat.{◌-◌, ◌≤◌}
+use Prim.Native.Nat.{◌≤◌}
 use Rattle.index.specs.Steps.{Resolvable, Resolved}
 use Rattle.index.proofs.resolve.Given as goal
 

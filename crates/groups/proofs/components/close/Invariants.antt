@@ -4,6 +4,3 @@ use Rattle.groups.proofs.components.close.Given as goal
 
 abbrev pub invariant-loop-i : goal.invariant-loop-i
 invariant-loop-i l = (l.at ≤ l.i) × (l.i ≤ l.len) × Numbered l.path l.initial.done l.done l.at l.i l.count
-
-abbrev pub decreases-loop-i : goal.decreases-loop-i
-decreases-loop-i l = l.len - l.i

@@ -1,7 +1,7 @@
 -- `building::join` meets its contract: the joins of the pieces below `p` are made.
 -- Assumes nothing.
 use mathlib.Core.Path.{◌≡◌}
-use Prim.Native.Nat.{◌-◌, ◌≤◌}
+use Prim.Native.Nat.{◌≤◌}
 use lib.ListN.{length}
 use Rattle.index.proofs.Joins.{Joining}
 use Rattle.index.proofs.building.join.Given as goal
