@@ -5,3 +5,4 @@ pub mod Bounded
 pub mod Counted
 pub mod Stepped
 pub mod Apart
+pub mod Tells

@@ -18,12 +18,10 @@ fn part_marked(n: usize, voids: &[u64], m: &mut [u64])
     requires { (length voids.now ≡ ROW-WORDS) × (IsMatrix m.old) × (n ≤ PIECES) }
     ensures { Grown m.old m.new (marked_apart (void_of voids.now) n) }
 {
-    let mut i: usize = 0;
-    while i < n {
+    for i in 0..n {
         let on = matrices::has(voids, i);
         storing::insert_where(on, m, 0, i);
         storing::insert_where(on, m, i, 0);
-        i += 1;
     }
 }
 

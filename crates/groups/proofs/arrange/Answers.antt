@@ -1,9 +1,7 @@
 -- `groups::arrange` meets its contract. Assumes nothing.
-use mathlib.Core.Path.{◌≡◌, sym, ◌∙◌}
-use Prim.Native.Nat.{◌+◌, ◌-◌, ◌<◌}
+use mathlib.Core.Path.{sym, ◌∙◌}
 use native.Mathlib.Omega.{arith}
-use lib.ListN.{get_or, length-set}
-use Rattle.groups.proofs.Arranging.{Arranging, arrange-none, arrange-leader, arrange-follower}
+use Rattle.groups.proofs.Arranging.{arrange-none, arrange-leader, arrange-follower}
 use Rattle.groups.proofs.arrange.Goals as goal
 use Rattle.groups.proofs.arrange.Goals.{then-from-g, else-from-g}
 

@@ -1,6 +1,6 @@
 -- `groups::arrange` meets its contract. Assumes nothing.
 use mathlib.Core.Path.{◌≡◌}
-use Prim.Native.Nat.{◌-◌, ◌≤◌}
+use Prim.Native.Nat.{◌≤◌}
 use lib.ListN.{length}
 use Rattle.groups.proofs.Arranging.{Arranging}
 use Rattle.groups.proofs.arrange.Given as goal

@@ -1,9 +1,9 @@
 -- `groups::number_groups` meets its contract. Assumes nothing.
 use mathlib.Core.Path.{◌≡◌, sym, ap, ◌∙◌}
-use Prim.Native.Nat.{ℕ, ◌<◌}
+use Prim.Native.Nat.{ℕ}
 use native.Mathlib.Omega.{arith}
-use lib.ListN.{length, get_or, length-set}
-use Rattle.groups.proofs.Ranking.{rank-none, rank-new, rank-old, rank-all, old-head}
+use lib.ListN.{length, get_or}
+use Rattle.groups.proofs.Ranking.{rank-none, rank-new, rank-old, old-head}
 use Rattle.groups.proofs.number_groups.Goals as goal
 use Rattle.groups.proofs.number_groups.Goals.{then-t-eq-NONE, else-t-eq-NONE}
 

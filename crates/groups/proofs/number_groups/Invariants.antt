@@ -1,6 +1,6 @@
 -- `groups::number_groups` meets its contract. Assumes nothing.
 use mathlib.Core.Path.{◌≡◌}
-use Prim.Native.Nat.{◌-◌, ◌≤◌}
+use Prim.Native.Nat.{◌≤◌}
 use lib.ListN.{length, get_or}
 use Rattle.groups.proofs.Ranking.{Ranking}
 use Rattle.groups.proofs.number_groups.Given as goal

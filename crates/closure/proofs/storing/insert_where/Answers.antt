@@ -2,10 +2,8 @@
 use Rattle.closure.proofs.Grows.{grown-off, grown-on, grown-insert}
 use Rattle.closure.proofs.storing.insert_where.Goals as goal
 
-pub returns-then-not-on : goal.returns-then-not-on
-returns-then-not-on c = grown-off _ _ _ (c.if-not-on.true)
+pub returns-then-on : goal.returns-then-on
+returns-then-on c = grown-on _ c.args.on c.if-on.true (grown-insert _ _ _ _ c.insert.ensures)
 
-pub returns : goal.returns
-returns c =
-    let A = c.args in
-    grown-on _ A.on (c.if-not-on.false) (grown-insert _ _ _ _ c.insert.ensures)
+pub returns-else-on : goal.returns-else-on
+returns-else-on c = grown-off _ _ _ c.if-on.false

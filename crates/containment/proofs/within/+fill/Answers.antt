@@ -1,42 +1,12 @@
 -- `within::fill` meets its contract: by how many rows are not filled. Assumes nothing.
 use native.Mathlib.Omega.{arith}
 use mathlib.Core.List.{List, ◌∷◌}
-use mathlib.Core.Path.{◌≡◌, refl, sym, ◌∙◌}
+use mathlib.Core.Path.{◌≡◌, sym, ◌∙◌}
 use Prim.Native.Nat.{ℕ, ◌<◌}
 use lib.ListN.{length}
 use Rattle.containment.specs.Filling.{Setting, From}
 use Rattle.containment.proofs.Rows.{Started, started, Walking, Part, place-small-at, begin, uncover, small, leading, from-it, more, done, fewer}
 use Rattle.containment.proofs.within.+fill.Goals as goal
-
-pub test-requires : goal.test-requires
-test-requires t c =
-    let setting : Setting c.args.places.now c.args.ends.now c.args.turned.now = c.requires.1.setting in
-    let in_rows : c.args.h.0 < 2048 = omega (arith, c.requires.1.below, setting.few) in
-    (c.requires.0, in_rows, in_rows)
-
-pub shape_of-rows-then-test : goal.shape_of-rows-then-test
-shape_of-rows-then-test t c = refl
-
-pub returns-then-test : goal.returns-then-test
-returns-then-test t c =
-    λ s F l d. record { own = sym c.test.ensures ∙ c.if-test.true; from = F; kept = λ r j a b. refl; grown = λ r b i. i }
-
-pub insert-requires : goal.insert-requires
-insert-requires t c =
-    let setting : Setting c.args.places.now c.args.ends.now c.args.turned.now = c.requires.1.setting in
-    let in_rows : c.args.h.0 < 2048 = omega (arith, c.requires.1.below, setting.few) in
-    (c.requires.0, in_rows, in_rows)
-
-pub place_of-place-requires : goal.place_of-place-requires
-place_of-place-requires t c =
-    let setting : Setting c.args.places.now c.args.ends.now c.args.turned.now = c.requires.1.setting in
-    omega (arith, c.requires.1.below, setting.room)
-
-pub overflow_add-q : goal.overflow_add-q
-overflow_add-q t c =
-    let setting : Setting c.args.places.now c.args.ends.now c.args.turned.now = c.requires.1.setting in
-    let in-ends : c.place_of-place.result.0 < length c.args.ends.now = place-small-at setting c.args.h.0 c.requires.1.below c.place_of-place.result.0 c.place_of-place.ensures in
-    omega (arith, in-ends, c.well_formed)
 
 pub bounds-ends-place : goal.bounds-ends-place
 bounds-ends-place t c =
@@ -105,9 +75,6 @@ loop-q-preserved t c =
           let w = c.loop-q.invariant.1 s k S in
           more s _ k w b is (c.fill.ensures s (from-it s _ k w b is) (small s _ k w b is) (leading s _ k w b is)) c.union_within.ensures _ c.from-in-loop-q-2.ensures,
     )
-
-pub shape_of-rows : goal.shape_of-rows
-shape_of-rows t c = c.loop-q.invariant.0 ∙ sym c.requires.0
 
 pub returns : goal.returns
 returns t c =

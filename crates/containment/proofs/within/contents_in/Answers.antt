@@ -33,9 +33,6 @@ fill_all-requires g c =
     let begun : All right.setting c.seed.new.rows = let R = right in seeded-rows R.setting _ _ _ R.count R.leads c.seed.ensures in
     (c.seed.auto.rows ∙ c.requires.3, record { setting = right.setting; count = right.count; leads = right.leads; from = begun })
 
-pub share_rows-requires : goal.share_rows-requires
-share_rows-requires g c = (search rules, c.requires.0, c.requires.4.led)
-
 pub returns : goal.returns
 returns g c =
     let ends-room : c.args.nodes ≤ length c.subtree_ends.new.ends = search rules in

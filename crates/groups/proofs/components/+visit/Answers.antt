@@ -21,12 +21,6 @@ push-requires t c =
     let tops : c.args.s.top ≤ c.args.s.len = tops_fit c.args.n few c.args.e.now S₀ c.requires.gray c.requires.good in
     (below _ _ c.requires.piece few, below _ _ room few, under _ _ _ tops room few)
 
-pub overflow_add-len : goal.overflow_add-len
-overflow_add-len t c =
-    let few : c.args.n ≤ 2048 = c.requires.few in
-    let room : c.args.s.len < c.args.n = len_below c.args.n few c.args.e.now _ _ _ _ _ _ _ c.args.v c.requires in
-    fits_more _ (below _ _ room few)
-
 pub overflow_add-top : goal.overflow_add-top
 overflow_add-top t c =
     let few : c.args.n ≤ 2048 = c.requires.few in
@@ -35,26 +29,11 @@ overflow_add-top t c =
     let tops : c.args.s.top ≤ c.args.s.len = tops_fit c.args.n few c.args.e.now S₀ c.requires.gray c.requires.good in
     fits_more _ (under _ _ _ tops room few)
 
-pub next_bit-w-requires : goal.next_bit-w-requires
-next_bit-w-requires t c =
-    let few : c.args.n ≤ 2048 = c.requires.few in
-    (c.requires.matrix, below _ _ c.requires.piece few, low)
-
 pub loop-w-init : goal.loop-w-init
 loop-w-init t c =
     let p = c.push.ensures in
     let T = sought-next (bit_of c.args.e.now c.args.v) 0 2048 c.next_bit-w.result low c.next_bit-w.ensures in
     ((set_room c.args.pos.now _ c.args.v c.args.s.len p.0 c.requires.pos-room, c.requires.done-room, set_room c.args.path.now _ c.args.s.len c.args.v p.1 c.requires.path_room, set_room c.args.bounds.now _ c.args.s.top c.args.s.len p.2 c.requires.bounds-room), (T.upto, T.hit), λ small S₀' gray E. begin c.args.n small c.args.e.now S₀' gray c.args.v _ E c.next_bit-w.result c.next_bit-w.ensures)
-
-pub offset_bounds-pos-w : goal.offset_bounds-pos-w
-offset_bounds-pos-w t c =
-    let few : c.args.n ≤ 2048 = c.requires.few in
-    let l = c.loop-w-test.true in fits-twice _ (below _ _ l few)
-
-pub bounds-pos-w : goal.bounds-pos-w
-bounds-pos-w t c =
-    let few : c.args.n ≤ 2048 = c.requires.few in
-    let l = c.loop-w-test.true in below _ _ l few
 
 pub visit-r-requires : goal.visit-r-requires
 visit-r-requires t c =
@@ -93,16 +72,6 @@ visit-r-requires t c =
       },
     )
 
-pub overflow_add-w : goal.overflow_add-w
-overflow_add-w t c =
-    let few : c.args.n ≤ 2048 = c.requires.few in
-    let l = c.loop-w-test.true in fits_more _ (below _ _ l few)
-
-pub next_bit-w-requires-then-wide-eq-ROWS : goal.next_bit-w-requires-then-wide-eq-ROWS
-next_bit-w-requires-then-wide-eq-ROWS t c =
-    let few : c.args.n ≤ 2048 = c.requires.few in
-    let l = c.loop-w-test.true in (c.requires.matrix, below _ _ c.requires.piece few, next-in _ _ _ l few)
-
 pub loop-w-smaller-then-wide-eq-ROWS : goal.loop-w-smaller-then-wide-eq-ROWS
 loop-w-smaller-then-wide-eq-ROWS t c =
     let few : c.args.n ≤ 2048 = c.requires.few in
@@ -123,26 +92,6 @@ loop-w-preserved-then-wide-eq-ROWS t c =
           call-more c.args.n small c.args.e.now S₀' gray c.args.v _ E S c.loop-w.w c.next_bit-w-then-wide-eq-ROWS.result W l g _ c.next_bit-w-then-wide-eq-ROWS.ensures z
           (c.visit-r.ensures.1 _ W.good (leads-on c.args.n small c.args.e.now S₀' gray c.args.v _ E S c.loop-w.w 0 W l g)),
     )
-
-pub offset_bounds-done-w : goal.offset_bounds-done-w
-offset_bounds-done-w t c =
-    let few : c.args.n ≤ 2048 = c.requires.few in
-    let l = c.loop-w-test.true in fits-twice _ (below _ _ l few)
-
-pub bounds-done-w : goal.bounds-done-w
-bounds-done-w t c =
-    let few : c.args.n ≤ 2048 = c.requires.few in
-    let l = c.loop-w-test.true in below _ _ l few
-
-pub offset_bounds-pos-w-then-wide-eq-ROWS-2 : goal.offset_bounds-pos-w-then-wide-eq-ROWS-2
-offset_bounds-pos-w-then-wide-eq-ROWS-2 t c =
-    let few : c.args.n ≤ 2048 = c.requires.few in
-    let l = c.loop-w-test.true in fits-twice _ (below _ _ l few)
-
-pub bounds-pos-w-then-wide-eq-ROWS-2 : goal.bounds-pos-w-then-wide-eq-ROWS-2
-bounds-pos-w-then-wide-eq-ROWS-2 t c =
-    let few : c.args.n ≤ 2048 = c.requires.few in
-    let l = c.loop-w-test.true in below _ _ l few
 
 pub cut-top-requires : goal.cut-top-requires
 cut-top-requires t c =
@@ -167,16 +116,6 @@ cut-top-requires t c =
     let top-fits : c.loop-w.top ≤ 2048 = let W = walk in upto _ _ _ (tops_fit c.args.n few c.args.e.now S _ W.good) (less _ _ _ len-fits) in
     top-fits
 
-pub overflow_add-w-then-wide-eq-ROWS-2 : goal.overflow_add-w-then-wide-eq-ROWS-2
-overflow_add-w-then-wide-eq-ROWS-2 t c =
-    let few : c.args.n ≤ 2048 = c.requires.few in
-    let l = c.loop-w-test.true in fits_more _ (below _ _ l few)
-
-pub next_bit-w-requires-then-wide-eq-ROWS-2 : goal.next_bit-w-requires-then-wide-eq-ROWS-2
-next_bit-w-requires-then-wide-eq-ROWS-2 t c =
-    let few : c.args.n ≤ 2048 = c.requires.few in
-    let l = c.loop-w-test.true in (c.requires.matrix, below _ _ c.requires.piece few, next-in _ _ _ l few)
-
 pub loop-w-smaller-then-wide-eq-ROWS-2 : goal.loop-w-smaller-then-wide-eq-ROWS-2
 loop-w-smaller-then-wide-eq-ROWS-2 t c =
     let few : c.args.n ≤ 2048 = c.requires.few in
@@ -197,16 +136,6 @@ loop-w-preserved-then-wide-eq-ROWS-2 t c =
           cut_on c.args.n small c.args.e.now S₀' gray c.args.v _ E c.loop-w.pos c.loop-w.done c.loop-w.path c.loop-w.bounds c.loop-w.len c.loop-w.top c.loop-w.count c.loop-w.w c.next_bit-w-then-wide-eq-ROWS-2.result c.cut-top.result W l g c.next_bit-w-then-wide-eq-ROWS-2.ensures a b
           (rw c.wide-then-wide-eq-ROWS-2.ensures.0 at c.cut-top.ensures),
     )
-
-pub overflow_add-w-in-loop-w : goal.overflow_add-w-in-loop-w
-overflow_add-w-in-loop-w t c =
-    let few : c.args.n ≤ 2048 = c.requires.few in
-    let l = c.loop-w-test.true in fits_more _ (below _ _ l few)
-
-pub next_bit-w-requires-in-loop-w : goal.next_bit-w-requires-in-loop-w
-next_bit-w-requires-in-loop-w t c =
-    let few : c.args.n ≤ 2048 = c.requires.few in
-    let l = c.loop-w-test.true in (c.requires.matrix, below _ _ c.requires.piece few, next-in _ _ _ l few)
 
 pub loop-w-smaller : goal.loop-w-smaller
 loop-w-smaller t c =

@@ -1,4 +1,4 @@
-use Prim.Native.Nat.{◌-◌, ◌≤◌}
+use Prim.Native.Nat.{◌≤◌}
 use Rattle.groups.specs.Search.{Numbered}
 use Rattle.groups.proofs.components.close.Given as goal
 
