@@ -34,7 +34,7 @@ fn answer_each(
             continue;
         }
         let answer = verdicts::answer_to(claim.kind, claim.a, claim.b, voids, d, u, p, t, q);
-        answers[i] = verdicts::byte_of(answer);
+        answers[i] = u8::from(answer);
         i += 1;
     }
 }

@@ -27,7 +27,7 @@ pub fn chained(reply: Reply, steps: usize) -> PiecebookChainResult
         Reply::Answered(answer) => PiecebookChainResult {
             number: 0,
             place: 0,
-            answer: numbers::wide(verdicts::byte_of(answer)),
+            answer: numbers::wide(u8::from(answer)),
             steps,
         },
         Reply::Refused(refusal, place) => PiecebookChainResult {

@@ -64,8 +64,8 @@ loop-i-preserved c =
     let L = c.loop-i in
     let l = c.loop-i-test.true in (
       next l,
-      length-set L.answers L.i c.byte_of.result ∙ L.invariant.1,
-      standing-read _ _ _ _ _ _ _ _ _ _ _ _ _ _ c.record_at-claim.ensures c.byte_of.ensures (roomy l L.invariant.1 c.requires.rooms) c.if-claim-origin.false L.invariant.2 c.answer_to-answer.ensures,
+      length-set L.answers L.i c.from.result ∙ L.invariant.1,
+      standing-read _ _ _ _ _ _ _ _ _ _ _ _ _ _ c.record_at-claim.ensures c.from.ensures (roomy l L.invariant.1 c.requires.rooms) c.if-claim-origin.false L.invariant.2 c.answer_to-answer.ensures,
     )
 
 pub shape_of-answers : goal.shape_of-answers

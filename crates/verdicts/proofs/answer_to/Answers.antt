@@ -18,9 +18,9 @@ returns-then-derived c =
 pub returns-then-derived-2 : goal.returns-then-derived-2
 returns-then-derived-2 c =
     let P = c.requires in
-    answered-denied _ _ _ _ _ _ _ _ _ _ c.if-either_marked.false c.either_marked.ensures P.0 P.1 _ _ c.if-derived.false c.derived.ensures c.derived-2.ensures c.if-derived-2.true
+    answered-denied _ _ _ _ _ _ _ _ _ _ c.if-either_marked.false c.either_marked.ensures P.0 P.1 _ _ c.if-derived.false c.derived.ensures c.derived-else-derived.ensures c.if-derived-2.true
 
-pub returns : goal.returns
-returns c =
+pub returns-else-derived-2 : goal.returns-else-derived-2
+returns-else-derived-2 c =
     let P = c.requires in
-    answered-open _ _ _ _ _ _ _ _ _ _ c.if-either_marked.false c.either_marked.ensures P.0 P.1 _ _ c.if-derived.false c.derived.ensures c.derived-2.ensures c.if-derived-2.false
+    answered-open _ _ _ _ _ _ _ _ _ _ c.if-either_marked.false c.either_marked.ensures P.0 P.1 _ _ c.if-derived.false c.derived.ensures c.derived-else-derived.ensures c.if-derived-2.false
