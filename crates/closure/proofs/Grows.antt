@@ -1,5 +1,5 @@
 -- Matrices that grow by the bits of a function. Assumes nothing.
-use Prim.Native.Nat.{ℕ, ◌+◌, ◌<◌, ◌≤◌}
+use Prim.Native.Nat.{ℕ, ◌+◌, ◌<◌}
 use mathlib.Core.Path.{◌≡◌, refl, sym, ap, ◌∙◌}
 use mathlib.Core.Bool.{Bool, true, false, not, ◌&&◌, ◌||◌, or-false, or-true, or_assoc, and-false, and-true, and_comm}
 use mathlib.Core.List.{List}
@@ -45,23 +45,6 @@ diagonal-more test k x y = pick (ℕ_discrete x y) (ℕ_discrete k x) (dec_lt x 
         simp (eq-eqb x y e, eq-eqb k x e', eq-eqb k y (e' ∙ e), le-ltb x k (omega arith), lt-ltb x (k + 1) (omega arith), and-true) (ap test e')
     pick (yes e) (no e') (yes h) = simp (eq-eqb x y e, ne_eqb k x e', lt-ltb x k h, lt-ltb x (k + 1) (omega arith), and-false, or-false)
     pick (yes e) (no e') (no h) = simp (eq-eqb x y e, ne_eqb k x e', le-ltb x k (omega arith), le-ltb x (k + 1) (omega arith), and-false)
-
--- piece 0's parts by one more, where a test holds
-pub crown-more : (test : ℕ → Bool) (k x y : ℕ) → 1 ≤ k
-    → ((eqb x 0 && (ltb 0 y && (ltb y k && test y))) || (test k && (eqb 0 x && eqb k y))) ≡ (eqb x 0 && (ltb 0 y && (ltb y (k + 1) && test y)))
-crown-more test k x y l = pick (ℕ_discrete x 0) (ℕ_discrete k y) (dec_lt y k)
-  where
-    pick : Dec (x ≡ 0) → Dec (k ≡ y) → Dec (y < k)
-        → ((eqb x 0 && (ltb 0 y && (ltb y k && test y))) || (test k && (eqb 0 x && eqb k y))) ≡ (eqb x 0 && (ltb 0 y && (ltb y (k + 1) && test y)))
-    pick (no e) d d' = simp (ne_eqb x 0 e, ne_eqb 0 x (λ q. e (sym q)), and-false)
-    pick (yes e) (yes f) d' =
-        simp (eq-eqb x 0 e, eq-eqb 0 x (sym e), eq-eqb k y f, lt-ltb 0 y (omega arith), le-ltb y k (omega arith), lt-ltb y (k + 1) (omega arith), and-true) (ap test f)
-    pick (yes e) (no f) (yes h) = simp (eq-eqb x 0 e, eq-eqb 0 x (sym e), ne_eqb k y f, lt-ltb y k h, lt-ltb y (k + 1) (omega arith), and-false, or-false)
-    pick (yes e) (no f) (no h) = simp (eq-eqb x 0 e, eq-eqb 0 x (sym e), ne_eqb k y f, le-ltb y k (omega arith), le-ltb y (k + 1) (omega arith), and-false)
-
--- bits that are asked only where a test holds
-pub grown-off : (m : List ℕ) (f : ℕ → ℕ → Bool) (on : Bool) → on ≡ false → Grown m m (λ x y. on && f x y)
-grown-off m f on e = grown-none m (λ x y. on && f x y) (λ x y. ap (λ (t : Bool). t && f x y) e)
 
 pub grown-on : {m m' : List ℕ} (f : ℕ → ℕ → Bool) (on : Bool) → on ≡ true → Grown m m' f → Grown m m' (λ x y. on && f x y)
 grown-on f on e G = grown-same (λ x y. sym (ap (λ (t : Bool). t && f x y) e)) G
