@@ -29,29 +29,6 @@ abbrev pub laid : List ℕ → List ℕ → List ℕ → List ℕ → ℕ → �
 laid pos done path bounds len top count =
     state_of (record { pos = pos; done = done; pieces = path; bounds = bounds; len = len; top = top; count = count })
 
-pub cut-more : (bounds : List ℕ) (top p t : ℕ) → ((k : ℕ) → t ≤ k → k < top → p < get_or bounds k 0) → p < get_or bounds (t - 1) 0 → (k : ℕ) → t - 1 ≤ k → k < top → p < get_or bounds k 0
-cut-more bounds top p t h e k a b = go (ℕ_discrete k (t - 1))
-  where
-    go : Dec (k ≡ t - 1) → p < get_or bounds k 0
-    go (yes q) = omega (arith, ap (λ (j : ℕ). get_or bounds j 0) q)
-    go (no q) = h k (omega arith) b
-
-pub numbered_more : (path done done' : List ℕ) (at i count : ℕ) → at ≤ i → get_or path i 0 < length done' → Numbered path done done' at i count
-    → Numbered path done (set done' (get_or path i 0) count) at (i + 1) count
-numbered_more path done done' at i count a l N = record {
-  sized = length-set done' (get_or path i 0) count ∙ N.sized;
-  hit = λ j b c. hit j b c (ℕ_discrete (get_or path j 0) (get_or path i 0));
-  miss = λ x h. get_or-set_other done' (get_or path i 0) x count 0 (λ q. h i a (omega arith) (sym q)) ∙ N.miss x (λ j b c q. h j b (omega arith) q);
-}
-  where
-    hit : (j : ℕ) → at ≤ j → j < i + 1 → Dec (get_or path j 0 ≡ get_or path i 0) → get_or (set done' (get_or path i 0) count) (get_or path j 0) 0 ≡ count
-    hit j b c (yes q) = rw q (get_or-set_same done' (get_or path i 0) count 0 l)
-    hit j b c (no q) = get_or-set_other done' (get_or path i 0) (get_or path j 0) count 0 q ∙ N.hit j b (older (ℕ_discrete j i))
-      where
-        older : Dec (j ≡ i) → j < i
-        older (yes z) = absurd (q (ap (λ (k : ℕ). get_or path k 0) z))
-        older (no z) = omega arith
-
 module _ (n : ℕ) (small : n ≤ 2048) (e : List ℕ) where
   pub pair-bit : (x y : ℕ) → y < n → bit_of e x y ≡ true → part_of n e y x ≡ true
   unfolding part_of
