@@ -6,3 +6,4 @@ pub mod Counted
 pub mod Stepped
 pub mod Apart
 pub mod Tells
+pub mod LeaderSteps

@@ -13,6 +13,7 @@ ghost use Rattle.closure.specs.Bounded.{Bounded};
 ghost use Rattle.contradiction.specs.Settled.{row, Settles, Steps, Indexes, Counts};
 
 use crate::first_matrices;
+use closure::LeaderSteps;
 use matrices::{Matrix, RowNumbers};
 
 // The place of the contradiction in a contradictory book: the last record of the shortest contradictory run from the start, found by halving, since
@@ -82,7 +83,7 @@ pub fn settle(
     );
     containment::contents(n, counts.nodes, parens, marks, shadows, places, lead, d);
     closure::steps(book, lead, n, e);
-    closure::meeting(book, n, voids, e, order, lead, t);
+    closure::meeting(book, n, voids, LeaderSteps { e, order, lead }, t);
     if verdicts::clashes(book, voids, d, t) {
         return Settled::Clash(contradiction(book, n, voids, e, d, t));
     }
