@@ -47,7 +47,7 @@ fn join_parts(n: usize, steps: LeaderSteps, m: &mut [u64])
     matrices::share_rows(steps.lead, n, m);
 }
 
-// Each row below n becomes the union of the rows of what it is part of.
+// Each row below n becomes the union of the rows of what it is part of. One function for both would take the join as a closure, and be longer.
 fn join_wholes(n: usize, steps: LeaderSteps, m: &mut [u64])
     requires { (IsMatrix m.old) × (n ≤ PIECES) × Ordered n steps }
     ensures { (fs : List Fact) → Bounded n fs → SteppedBy n fs steps.entry → Carried (whole_bit n fs) n m.old m.new }

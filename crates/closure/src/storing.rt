@@ -111,7 +111,8 @@ fn step_record(r: Record, lead: &[u16], e: &mut [u64])
     }
 }
 
-// The stored PARTs, container to part, between pieces that go by different names: their leaders, or the numbers of their groups.
+// The stored PARTs, container to part, between pieces that go by different names: their leaders, or the numbers of their groups. The loop is that of
+// `store`: to pass what a record sets as a closure is longer than the loop.
 pub fn step_stored(run: &[u8], lead: &[u16], n: usize, e: &mut [u64])
     requires { Bounded n (facts run.now) × (n ≤ length lead.now) × ((g : ℕ) → g < n → get_or lead.now g 0 < n) × (IsMatrix e.old) }
     ensures { Holds n e.new (λ x y. storing (facts run.now) PART (stepping lead.now x y)) }

@@ -20,7 +20,7 @@ pub mod within;
 // How many ranks the bytes of any tree's parentheses have: one before each byte and one past the last.
 const RANKS: usize = index::PARENTHESES_BYTES + 1;
 
-// How many those of a tree have that is cheaper with a short list.
+// How many those of a tree have that is cheaper with a short list: of 128 bytes.
 const SMALL_RANKS: usize = 129;
 
 // The piece that stands for all pieces at the place of g.

@@ -27,7 +27,7 @@ pub const PLACES: usize = 2048;
 // How many nodes and shadows an index has at most.
 pub const NODES: usize = 10240;
 
-// What stands for no piece in a list of pieces.
+// What stands for no piece in a list of pieces: an `Option<u16>` takes twice the memory.
 pub const NONE: u16 = 2048;
 
 // A piece's number.
@@ -42,7 +42,8 @@ pub struct GroupId(pub usize);
 #[derive(Clone, Copy)]
 pub struct TreeId(pub usize);
 
-// The place list converts a piece's number to its place, and nothing else does.
+// The place list converts a piece's number to its place, and nothing else does. Each kind of list has its own look-up: a common one would let any
+// list convert any number.
 pub fn place_of(places: &[u16], g: DatasetId) -> TreeId
     requires { g.0 < length places.now }
     ensures { result.0 ≡ get_or places.now g.0 0 }
