@@ -66,7 +66,7 @@ fn pass_answer(page: &[u8], claim: &[u8], answer: Answer) -> usize
 {
     let mut line = [0u8; LINE_BYTES];
     let r = records::record_at(claim, 0);
-    let n = crate::lines::put_answered(&mut line, 0, r, verdicts::byte_of(answer));
+    let n = crate::lines::put_answered(&mut line, 0, r, u8::from(answer));
     pass(page, 0, &line[..n])
 }
 

@@ -97,6 +97,6 @@ pub fn put_answered(page: &mut [u8], at: usize, claim: Record, answer: u8) -> us
 pub fn put_chain(page: &mut [u8], at: usize, claim: Record, answer: Answer, c: &[u8]) -> usize
     ensures { Put page.old at (chain_text claim answer c.now) page.new result }
 {
-    let at = put_answered(page, at, claim, verdicts::byte_of(answer));
+    let at = put_answered(page, at, claim, u8::from(answer));
     put_steps(page, at, c)
 }

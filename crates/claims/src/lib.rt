@@ -8,6 +8,7 @@ ghost use Rattle.closure.specs.Void.{void_of};
 ghost use Rattle.records.specs.Claimed.{answers_to};
 ghost use Rattle.claims.specs.Answered.{Closing, AnsweredFrom, Answers, restricted, Restrictable, Answerable};
 
+use closure::LeaderSteps;
 use matrices::{Matrix, RowNumbers};
 
 // Answers each claim of one origin from the marks and the closure that are lent.
@@ -32,7 +33,7 @@ fn answer_each(
             continue;
         }
         let answer = verdicts::answer_to(claim.kind, claim.a, claim.b, voids, d, u, p, t, q);
-        answers[i] = verdicts::byte_of(answer);
+        answers[i] = u8::from(answer);
     }
 }
 
@@ -74,7 +75,7 @@ fn answer_restricted(
     let run = &kept[..length];
     // free, since the whole book is
     let _ = contradiction::settle_alone(run, n, voids, e, order, lead, d, t);
-    closure::complete(run, n, voids, e, order, lead, u, p, q);
+    closure::complete(run, n, voids, LeaderSteps { e, order, lead }, u, p, q);
     answer_each(1, claims, voids, d, u, p, t, q, answers);
 }
 
@@ -101,7 +102,7 @@ pub fn answer_all(
     if claims.len() < records::RECORD_BYTES {
         return;
     }
-    closure::complete(book, n, voids, e, order, lead, u, p, q);
+    closure::complete(book, n, voids, LeaderSteps { e, order, lead }, u, p, q);
     answer_each(0, claims, voids, d, u, p, t, q, answers);
     if !some_restricted(claims) {
         return;

@@ -29,9 +29,6 @@ use Rattle.closure.proofs.Holding.{through-holds, stored-column}
 
 -- ---- the marks, piece by piece
 
-pub marked-none : (void : ℕ → Bool) (x y : ℕ) → marked_apart void 0 x y ≡ false
-marked-none void x y = rw (le-ltb x 0 (omega arith), le-ltb y 0 (omega arith), and-false (eqb x 0), and-false (eqb y 0))
-
 turned-about : (x y : ℕ) → eqb x y ≡ eqb y x
 turned-about x y = same_truth _ _ (λ e. eq-eqb y x (sym (eqb-true x y e))) (λ e. eq-eqb x y (sym (eqb-true y x e)))
 

@@ -1,5 +1,5 @@
 -- Matrices that grow by the bits of a function. Assumes nothing.
-use Prim.Native.Nat.{ℕ, ◌+◌, ◌<◌, ◌≤◌}
+use Prim.Native.Nat.{ℕ, ◌+◌, ◌<◌}
 use mathlib.Core.Path.{◌≡◌, refl, sym, ap, ◌∙◌}
 use mathlib.Core.Bool.{Bool, true, false, not, ◌&&◌, ◌||◌, or-false, or-true, or_assoc, and-false, and-true, and_comm}
 use mathlib.Core.List.{List}
@@ -32,74 +32,19 @@ grown-insert m m' r i I = record { bits = λ x y l k. one x y k (ℕ_discrete r 
     one x y k (no e) d =
         I.other x y k (λ q _. e (sym q)) ∙ sym (ap (λ (t : Bool). bit_of m x y || (t && eqb i y)) (ne_eqb r x e) ∙ or-false (bit_of m x y))
 
--- the diagonal by one bit more
-pub diagonal-more : (k x y : ℕ) → ((eqb x y && ltb x k) || (eqb k x && eqb k y)) ≡ (eqb x y && ltb x (k + 1))
-diagonal-more k x y = pick (ℕ_discrete x y) (ℕ_discrete k x) (dec_lt x k)
+-- the diagonal by one bit more, where a test holds
+pub diagonal-more :
+    (test : ℕ → Bool) (k x y : ℕ)
+    → ((eqb x y && (ltb x k && test x)) || (test k && (eqb k x && eqb k y))) ≡ (eqb x y && (ltb x (k + 1) && test x))
+diagonal-more test k x y = pick (ℕ_discrete x y) (ℕ_discrete k x) (dec_lt x k)
   where
-    pick : Dec (x ≡ y) → Dec (k ≡ x) → Dec (x < k) → ((eqb x y && ltb x k) || (eqb k x && eqb k y)) ≡ (eqb x y && ltb x (k + 1))
-    pick (no e) (yes e') d = simp (ne_eqb x y e, ne_eqb k y (λ q. e (sym e' ∙ q)), and-false)
-    pick (no e) (no e') d = simp (ne_eqb x y e, ne_eqb k x e')
-    pick (yes e) (yes e') d = simp (eq-eqb x y e, eq-eqb k x e', eq-eqb k y (e' ∙ e), lt-ltb x (k + 1) (omega arith), or-true)
-    pick (yes e) (no e') (yes h) = simp (eq-eqb x y e, ne_eqb k x e', lt-ltb x k h, lt-ltb x (k + 1) (omega arith))
-    pick (yes e) (no e') (no h) = simp (eq-eqb x y e, ne_eqb k x e', le-ltb x k (omega arith), le-ltb x (k + 1) (omega arith))
-
--- and where the pieces that are marked are left out
-pub unmarked-none : (void : ℕ → Bool) (x y : ℕ) → (eqb x y && (ltb x 0 && not (void x))) ≡ false
-unmarked-none void x y = rw (le-ltb x 0 (omega arith)) (and-false (eqb x y))
-
-pub unmarked-more :
-    (void : ℕ → Bool) (k x y : ℕ)
-    → ((eqb x y && (ltb x k && not (void x))) || (not (void k) && (eqb k x && eqb k y))) ≡ (eqb x y && (ltb x (k + 1) && not (void x)))
-unmarked-more void k x y = pick (ℕ_discrete x y) (ℕ_discrete k x) (dec_lt x k)
-  where
-    pick : Dec (x ≡ y) → Dec (k ≡ x) → Dec (x < k) → ((eqb x y && (ltb x k && not (void x))) || (not (void k) && (eqb k x && eqb k y))) ≡ (eqb x y && (ltb x (k + 1) && not (void x)))
+    pick : Dec (x ≡ y) → Dec (k ≡ x) → Dec (x < k) → ((eqb x y && (ltb x k && test x)) || (test k && (eqb k x && eqb k y))) ≡ (eqb x y && (ltb x (k + 1) && test x))
     pick (no e) (yes e') d = simp (ne_eqb x y e, ne_eqb k y (λ q. e (sym e' ∙ q)), and-false)
     pick (no e) (no e') d = simp (ne_eqb x y e, ne_eqb k x e', and-false)
     pick (yes e) (yes e') d =
-        simp (eq-eqb x y e, eq-eqb k x e', eq-eqb k y (e' ∙ e), le-ltb x k (omega arith), lt-ltb x (k + 1) (omega arith), and-true) (ap (λ (v : ℕ). not (void v)) e')
+        simp (eq-eqb x y e, eq-eqb k x e', eq-eqb k y (e' ∙ e), le-ltb x k (omega arith), lt-ltb x (k + 1) (omega arith), and-true) (ap test e')
     pick (yes e) (no e') (yes h) = simp (eq-eqb x y e, ne_eqb k x e', lt-ltb x k h, lt-ltb x (k + 1) (omega arith), and-false, or-false)
     pick (yes e) (no e') (no h) = simp (eq-eqb x y e, ne_eqb k x e', le-ltb x k (omega arith), le-ltb x (k + 1) (omega arith), and-false)
-
--- piece 0's parts by one more
-pub crown-none : (x y : ℕ) → (eqb x 0 && (ltb 0 y && ltb y 1)) ≡ false
-crown-none x y = ap (λ (t : Bool). eqb x 0 && t) (pick (dec_lt 0 y)) ∙ and-false (eqb x 0)
-  where
-    pick : Dec (0 < y) → (ltb 0 y && ltb y 1) ≡ false
-    pick (yes h) = ap (λ (t : Bool). ltb 0 y && t) (le-ltb y 1 (omega arith)) ∙ and-false (ltb 0 y)
-    pick (no h) = ap (λ (t : Bool). t && ltb y 1) (le-ltb 0 y (omega arith))
-
-pub crown-more : (k x y : ℕ) → 1 ≤ k → ((eqb x 0 && (ltb 0 y && ltb y k)) || (eqb 0 x && eqb k y)) ≡ (eqb x 0 && (ltb 0 y && ltb y (k + 1)))
-crown-more k x y l = pick (ℕ_discrete x 0) (ℕ_discrete k y) (dec_lt y k)
-  where
-    pick : Dec (x ≡ 0) → Dec (k ≡ y) → Dec (y < k) → ((eqb x 0 && (ltb 0 y && ltb y k)) || (eqb 0 x && eqb k y)) ≡ (eqb x 0 && (ltb 0 y && ltb y (k + 1)))
-    pick (no e) d d' = simp (ne_eqb x 0 e, ne_eqb 0 x (λ q. e (sym q)))
-    pick (yes e) (yes f) d' = simp (eq-eqb x 0 e, eq-eqb 0 x (sym e), eq-eqb k y f, lt-ltb 0 y (omega arith), lt-ltb y (k + 1) (omega arith), or-true)
-    pick (yes e) (no f) (yes h) = simp (eq-eqb x 0 e, eq-eqb 0 x (sym e), ne_eqb k y f, lt-ltb y k h, lt-ltb y (k + 1) (omega arith), or-false)
-    pick (yes e) (no f) (no h) = simp (eq-eqb x 0 e, eq-eqb 0 x (sym e), ne_eqb k y f, le-ltb y k (omega arith), le-ltb y (k + 1) (omega arith), or-false)
-
--- and by one that may not lead
-pub leaders-none : (lead : ℕ → Bool) (x y : ℕ) → (eqb x 0 && (ltb 0 y && (ltb y 1 && lead y))) ≡ false
-leaders-none lead x y = ap (λ (t : Bool). eqb x 0 && t) (pick (dec_lt 0 y)) ∙ and-false (eqb x 0)
-  where
-    pick : Dec (0 < y) → (ltb 0 y && (ltb y 1 && lead y)) ≡ false
-    pick (yes h) = ap (λ (t : Bool). ltb 0 y && (t && lead y)) (le-ltb y 1 (omega arith)) ∙ and-false (ltb 0 y)
-    pick (no h) = ap (λ (t : Bool). t && (ltb y 1 && lead y)) (le-ltb 0 y (omega arith))
-
-pub leaders-more : (lead : ℕ → Bool) (k x y : ℕ) → 1 ≤ k
-    → ((eqb x 0 && (ltb 0 y && (ltb y k && lead y))) || (lead k && (eqb 0 x && eqb k y))) ≡ (eqb x 0 && (ltb 0 y && (ltb y (k + 1) && lead y)))
-leaders-more lead k x y l = pick (ℕ_discrete x 0) (ℕ_discrete k y) (dec_lt y k)
-  where
-    pick : Dec (x ≡ 0) → Dec (k ≡ y) → Dec (y < k)
-        → ((eqb x 0 && (ltb 0 y && (ltb y k && lead y))) || (lead k && (eqb 0 x && eqb k y))) ≡ (eqb x 0 && (ltb 0 y && (ltb y (k + 1) && lead y)))
-    pick (no e) d d' = simp (ne_eqb x 0 e, ne_eqb 0 x (λ q. e (sym q)), and-false)
-    pick (yes e) (yes f) d' =
-        simp (eq-eqb x 0 e, eq-eqb 0 x (sym e), eq-eqb k y f, lt-ltb 0 y (omega arith), le-ltb y k (omega arith), lt-ltb y (k + 1) (omega arith), and-true) (ap lead f)
-    pick (yes e) (no f) (yes h) = simp (eq-eqb x 0 e, eq-eqb 0 x (sym e), ne_eqb k y f, lt-ltb y k h, lt-ltb y (k + 1) (omega arith), and-false, or-false)
-    pick (yes e) (no f) (no h) = simp (eq-eqb x 0 e, eq-eqb 0 x (sym e), ne_eqb k y f, le-ltb y k (omega arith), le-ltb y (k + 1) (omega arith), and-false)
-
--- bits that are asked only where a test holds
-pub grown-off : (m : List ℕ) (f : ℕ → ℕ → Bool) (on : Bool) → on ≡ false → Grown m m (λ x y. on && f x y)
-grown-off m f on e = grown-none m (λ x y. on && f x y) (λ x y. ap (λ (t : Bool). t && f x y) e)
 
 pub grown-on : {m m' : List ℕ} (f : ℕ → ℕ → Bool) (on : Bool) → on ≡ true → Grown m m' f → Grown m m' (λ x y. on && f x y)
 grown-on f on e G = grown-same (λ x y. sym (ap (λ (t : Bool). t && f x y) e)) G

@@ -5,3 +5,5 @@ pub mod Bounded
 pub mod Counted
 pub mod Stepped
 pub mod Apart
+pub mod Tells
+pub mod LeaderSteps

@@ -9,9 +9,8 @@ ghost use Rattle.closure.specs.Void.{void_of, Voids};
 ghost use Rattle.closure.specs.Stored.{meet_bit};
 ghost use Rattle.closure.specs.Closed.{Holds, part_bit, whole_bit, toward_bit, away_bit, out_bit};
 ghost use Rattle.closure.specs.Bounded.{Bounded};
-ghost use Rattle.matrices.specs.Flow.{Sorted, Carried};
-ghost use Rattle.matrices.specs.Led.{Led};
-ghost use Rattle.closure.specs.Stepped.{Stepped};
+ghost use Rattle.matrices.specs.Flow.{Carried};
+ghost use Rattle.closure.specs.LeaderSteps.{Ordered, SteppedBy};
 ghost use Rattle.matrices.specs.Matrix.{IsMatrix};
 ghost use Rattle.records.specs.Sizes.{PIECES};
 
@@ -20,6 +19,14 @@ pub use storing::{edges, step_stored, steps};
 pub mod apart;
 pub mod marking;
 pub mod storing;
+
+// The steps between leaders, an order of the pieces in which the part comes first of two leaders, and the leader of each piece.
+#[derive(Clone, Copy)]
+pub struct LeaderSteps<'a> {
+    pub e: &'a [u64],
+    pub order: &'a [u16],
+    pub lead: &'a [u16],
+}
 
 // M: the stored MEETS, and each piece that is not marked with itself.
 fn meets(run: &[u8], n: usize, voids: &[u64], m: &mut [u64])
@@ -31,59 +38,51 @@ fn meets(run: &[u8], n: usize, voids: &[u64], m: &mut [u64])
 }
 
 // Each row below n becomes the union of the rows of its parts: followers' rows are joined at their leaders.
-fn join_parts(n: usize, e: &[u64], order: &[u16], lead: &[u16], m: &mut [u64])
-    requires { (IsMatrix m.old) × (IsMatrix e.now) × (n ≤ PIECES) × Sorted e.now n order.now × Led n lead.now }
-    ensures { (fs : List Fact) → Bounded n fs → Stepped n fs e.now order.now lead.now → Carried (part_bit n fs) n m.old m.new }
+fn join_parts(n: usize, steps: LeaderSteps, m: &mut [u64])
+    requires { (IsMatrix m.old) × (n ≤ PIECES) × Ordered n steps }
+    ensures { (fs : List Fact) → Bounded n fs → SteppedBy n fs steps.entry → Carried (part_bit n fs) n m.old m.new }
 {
-    matrices::pool_rows(lead, n, m);
-    matrices::join_along(e, order, n, m);
-    matrices::share_rows(lead, n, m);
+    matrices::pool_rows(steps.lead, n, m);
+    matrices::join_along(steps.e, steps.order, n, m);
+    matrices::share_rows(steps.lead, n, m);
 }
 
-// Each row below n becomes the union of the rows of what it is part of.
-fn join_wholes(n: usize, e: &[u64], order: &[u16], lead: &[u16], m: &mut [u64])
-    requires { (IsMatrix m.old) × (IsMatrix e.now) × (n ≤ PIECES) × Sorted e.now n order.now × Led n lead.now }
-    ensures { (fs : List Fact) → Bounded n fs → Stepped n fs e.now order.now lead.now → Carried (whole_bit n fs) n m.old m.new }
+// Each row below n becomes the union of the rows of what it is part of. One function for both would take the join as a closure, and be longer.
+fn join_wholes(n: usize, steps: LeaderSteps, m: &mut [u64])
+    requires { (IsMatrix m.old) × (n ≤ PIECES) × Ordered n steps }
+    ensures { (fs : List Fact) → Bounded n fs → SteppedBy n fs steps.entry → Carried (whole_bit n fs) n m.old m.new }
 {
-    matrices::pool_rows(lead, n, m);
-    matrices::join_against(e, order, n, m);
-    matrices::share_rows(lead, n, m);
+    matrices::pool_rows(steps.lead, n, m);
+    matrices::join_against(steps.e, steps.order, n, m);
+    matrices::share_rows(steps.lead, n, m);
 }
 
 // D: the parts of each piece below n, from the steps alone.
-pub fn part_rows(n: usize, e: &[u64], order: &[u16], lead: &[u16], d: &mut [u64])
-    requires { (IsMatrix d.old) × (IsMatrix e.now) × (n ≤ PIECES) × Sorted e.now n order.now × Led n lead.now }
-    ensures { (fs : List Fact) → Bounded n fs → Stepped n fs e.now order.now lead.now → Holds n d.new (part_bit n fs) }
+pub fn part_rows(n: usize, steps: LeaderSteps, d: &mut [u64])
+    requires { (IsMatrix d.old) × (n ≤ PIECES) × Ordered n steps }
+    ensures { (fs : List Fact) → Bounded n fs → SteppedBy n fs steps.entry → Holds n d.new (part_bit n fs) }
 {
     matrices::clear_rows(d, n);
     storing::diagonal(n, d);
-    join_parts(n, e, order, lead, d);
+    join_parts(n, steps, d);
 }
 
 // T = D·M.
-pub fn meeting(
-    run: &[u8],
-    n: usize,
-    voids: &[u64],
-    e: &[u64],
-    order: &[u16],
-    lead: &[u16],
-    t: &mut [u64],
-)
-    requires { Bounded n (facts run.now) × Voids voids.now × Stepped n (facts run.now) e.now order.now lead.now × (IsMatrix t.old) }
+pub fn meeting(run: &[u8], n: usize, voids: &[u64], steps: LeaderSteps, t: &mut [u64])
+    requires { Bounded n (facts run.now) × Voids voids.now × SteppedBy n (facts run.now) steps × (IsMatrix t.old) }
     ensures { Holds n t.new (toward_bit (void_of voids.now) n (facts run.now)) }
 {
     meets(run, n, voids, t);
-    join_parts(n, e, order, lead, t);
+    join_parts(n, steps, t);
 }
 
 // P = U·A.
-fn parting(run: &[u8], n: usize, e: &[u64], order: &[u16], lead: &[u16], p: &mut [u64])
-    requires { Bounded n (facts run.now) × Stepped n (facts run.now) e.now order.now lead.now × (IsMatrix p.old) }
+fn parting(run: &[u8], n: usize, steps: LeaderSteps, p: &mut [u64])
+    requires { Bounded n (facts run.now) × SteppedBy n (facts run.now) steps × (IsMatrix p.old) }
     ensures { Holds n p.new (away_bit n (facts run.now)) }
 {
     storing::store(run, n, records::APART, true, true, p);
-    join_wholes(n, e, order, lead, p);
+    join_wholes(n, steps, p);
 }
 
 // Q = D·N ∪ T·P, as D·(N ∪ M·P): M has few bits. m is scratch.
@@ -91,20 +90,18 @@ fn outing(
     run: &[u8],
     n: usize,
     voids: &[u64],
-    e: &[u64],
-    order: &[u16],
-    lead: &[u16],
+    steps: LeaderSteps,
     p: &[u64],
     m: &mut [u64],
     q: &mut [u64],
 )
-    requires { Bounded n (facts run.now) × Voids voids.now × Stepped n (facts run.now) e.now order.now lead.now × Holds n p.now (away_bit n (facts run.now)) × (IsMatrix m.old) × (IsMatrix q.old) }
+    requires { Bounded n (facts run.now) × Voids voids.now × SteppedBy n (facts run.now) steps × Holds n p.now (away_bit n (facts run.now)) × (IsMatrix m.old) × (IsMatrix q.old) }
     ensures { Holds n q.new (out_bit (void_of voids.now) n (facts run.now)) }
 {
     meets(run, n, voids, m);
     storing::store(run, n, records::NOTPART, true, false, q);
     matrices::product(q, m, p, n);
-    join_parts(n, e, order, lead, q);
+    join_parts(n, steps, q);
 }
 
 // U, P and Q.
@@ -112,19 +109,17 @@ pub fn complete(
     run: &[u8],
     n: usize,
     voids: &[u64],
-    e: &[u64],
-    order: &[u16],
-    lead: &[u16],
+    steps: LeaderSteps,
     u: &mut [u64],
     p: &mut [u64],
     q: &mut [u64],
 )
-    requires { Bounded n (facts run.now) × Voids voids.now × Stepped n (facts run.now) e.now order.now lead.now × (IsMatrix u.old) × (IsMatrix p.old) × (IsMatrix q.old) }
+    requires { Bounded n (facts run.now) × Voids voids.now × SteppedBy n (facts run.now) steps × (IsMatrix u.old) × (IsMatrix p.old) × (IsMatrix q.old) }
     ensures { Holds n u.new (whole_bit n (facts run.now)) × Holds n p.new (away_bit n (facts run.now)) × Holds n q.new (out_bit (void_of voids.now) n (facts run.now)) }
 {
-    parting(run, n, e, order, lead, p);
-    outing(run, n, voids, e, order, lead, p, u, q);
+    parting(run, n, steps, p);
+    outing(run, n, voids, steps, p, u, q);
     matrices::clear_rows(u, n);
     storing::diagonal(n, u);
-    join_wholes(n, e, order, lead, u);
+    join_wholes(n, steps, u);
 }

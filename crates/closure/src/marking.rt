@@ -12,10 +12,9 @@ fn mark_record(r: Record, voids: &mut [u64])
     requires { (length voids.old ≡ ROW-WORDS) × (r.kind ≡ VOID → r.a < PIECES) }
     ensures { (g : ℕ) → g < PIECES → void_of voids.new g ≡ (marks g r || void_of voids.old g) }
 {
-    if r.kind != records::VOID {
-        return;
+    if r.kind == records::VOID {
+        matrices::put(voids, r.a);
     }
-    matrices::put(voids, r.a);
 }
 
 // The pieces that the whole book marks, of either origin and wherever the record stands.
@@ -23,11 +22,8 @@ pub fn mark_voids(book: &[u8], voids: &mut [u64])
     requires { Markable book.now × (length voids.old ≡ ROW-WORDS) }
     ensures { Voids voids.new × (void_of voids.new ≡ marked book.now) }
 {
-    matrices::clear(voids);
-    let n = book.len() / records::RECORD_BYTES;
-    let mut i: usize = 0;
-    while i < n {
+    voids.fill(0);
+    for i in 0..book.len() / records::RECORD_BYTES {
         mark_record(records::record_at(book, i), voids);
-        i += 1;
     }
 }

@@ -3,6 +3,5 @@ pub mod Ends
 pub mod Contains
 pub mod Lent
 pub mod Siblings
-pub mod Seeds
 pub mod Rows
 pub mod Table

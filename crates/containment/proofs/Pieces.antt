@@ -1,9 +1,9 @@
 -- The table of the leader at each place: the place list turned round, and then the shadows. Assumes nothing.
-use mathlib.Core.Path.{◌≡◌, refl, sym, ap, subst, ◌∙◌}
+use mathlib.Core.Path.{◌≡◌, refl, sym, ap, ◌∙◌}
 use mathlib.Core.Bool.{Bool, true, false}
 use mathlib.Core.List.{List}
 use Prim.Native.Nat.{ℕ, ◌+◌, ◌≤◌, ◌<◌}
-use native.Mathlib.Decide.{dec_lt, ℕ_discrete}
+use native.Mathlib.Decide.{dec_lt}
 use native.Mathlib.Omega.{arith}
 use borrow.Author.Count.{below_more}
 use lib.ListN.{length, get_or, set}
@@ -11,23 +11,12 @@ use lib.Seq.{get_or-set_same, get_or-set_other}
 use Rattle.lists.specs.Tally.{num}
 use Rattle.parentheses.specs.Rank.{rank}
 use Rattle.parentheses.proofs.Ranks.{rank-suc, rank-zero}
-use Rattle.containment.specs.Contents.{leads, Turnable, StandsFor}
+use Rattle.containment.specs.Contents.{leads, StandsFor}
 
 -- ---- nodes
 -- the leaders of the pieces below g stand at the pieces' places
 abbrev pub Turned : List ℕ → List ℕ → List ℕ → ℕ → Type 0
 Turned places lead turned g = (k : ℕ) → k < g → get_or turned (get_or places k 0) 0 ≡ get_or lead k 0
-
-pub turned_more : (n wide : ℕ) (places lead turned : List ℕ) (g q x : ℕ) → Turnable n places lead wide → g < n → q < length turned → q ≡ get_or places g 0 → x ≡ get_or lead g 0 → Turned places lead turned g
-    → Turned places lead (set turned q x) (g + 1)
-turned_more n wide places lead turned g q x A l h e f T =
-    below_more (λ k. get_or (set turned q x) (get_or places k 0) 0 ≡ get_or lead k 0) g
-    (λ k a. pick k a (ℕ_discrete (get_or places k 0) q))
-    (subst (λ (p : ℕ). get_or (set turned q x) p 0 ≡ get_or lead g 0) e (get_or-set_same turned q x 0 h ∙ f))
-  where
-    pick : (k : ℕ) → k < g → Dec (get_or places k 0 ≡ q) → get_or (set turned q x) (get_or places k 0) 0 ≡ get_or lead k 0
-    pick k a (yes z) = rw z (get_or-set_same turned q x 0 h ∙ f ∙ sym (A.alike k g (omega arith) l (z ∙ e)))
-    pick k a (no z) = get_or-set_other turned q (get_or places k 0) x 0 z ∙ T k a
 
 -- ---- shadows
 pub leads-node : (marks : List Bool) (shadows : List ℕ) (s : ℕ) → get_or marks s false ≡ false → leads marks shadows s ≡ s

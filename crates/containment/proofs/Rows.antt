@@ -319,9 +319,6 @@ module _ {places ends turned : List ℕ} (s : Setting places ends turned) where
       let k = s.leads (s.number g) (s.below g l) in
       (rw is k.0, ap (λ (x : ℕ). s.leader (s.number x)) is ∙ ap s.leader k.1 ∙ sym is)
 
-  pub filled_none : (rows : List ℕ) → All s rows → FilledTo s rows 0
-  filled_none rows F = record { own = λ h l. absurd (omega arith); from = F }
-
   pub filled_more : (rows rows' : List ℕ) (g h : ℕ) → h ≡ s.leader (s.number g) → g < s.n → FilledTo s rows g → Filled s rows rows' h → FilledTo s rows' (g + 1)
   filled_more rows rows' g h is l T F =
       record {

@@ -12,29 +12,22 @@ ghost use Rattle.matrices.specs.Sizes.{ROWS};
 ghost use Rattle.numbers.specs.Sizes.{SHORT-VALUES};
 
 use index::{DatasetId, TreeId};
-use numbers::shorts;
 pub use within::contents;
 
 pub mod within;
 
-// How many bytes of parentheses a tree has that is cheaper with a short table.
-const SMALL_BYTES: usize = 128;
+// How many ranks the bytes of any tree's parentheses have: one before each byte and one past the last.
+const RANKS: usize = index::PARENTHESES_BYTES + 1;
+
+// How many those of a tree have that is cheaper with a short list: of 128 bytes.
+const SMALL_RANKS: usize = 129;
 
 // The piece that stands for all pieces at the place of g.
 pub fn leader_of(lead: &[u16], g: DatasetId) -> DatasetId
     requires { g.0 < length lead.now }
     ensures { result.0 ≡ get_or lead.now g.0 0 }
 {
-    let k = g.0;
-    DatasetId(shorts::wide(lead[k]))
-}
-
-fn set_piece(turned: &mut [u16], q: TreeId, g: DatasetId)
-    requires { (q.0 < length turned.old) × (g.0 < SHORT-VALUES) }
-    ensures { turned.new ≡ set turned.old q.0 g.0 }
-{
-    let k = q.0;
-    turned[k] = shorts::narrow(g.0);
+    DatasetId(usize::from(lead[g.0]))
 }
 
 // Of the place of each piece below n, the leader there: the place list turned round.
@@ -42,12 +35,10 @@ pub fn number_nodes(n: usize, places: &[u16], lead: &[u16], turned: &mut [u16])
     requires { (n ≤ ROWS) × Turnable n places.now lead.now (length turned.old) }
     ensures { (g : ℕ) → g < n → get_or turned.new (get_or places.now g 0) 0 ≡ get_or lead.now g 0 }
 {
-    let mut g: usize = 0;
-    while g < n {
+    for g in 0..n {
         let place = index::place_of(places, DatasetId(g));
         let leader = leader_of(lead, DatasetId(g));
-        set_piece(turned, place, leader);
-        g += 1;
+        turned[place.0] = leader.0 as u16;
     }
 }
 
@@ -57,16 +48,11 @@ pub fn number_shadows(nodes: usize, marks: &[u8], shadows: &[u16], turned: &mut 
     ensures { (s : ℕ) → s < nodes → get_or turned.new s 0 ≡ get_or turned.old (leads (bits marks.now) shadows.now s) 0 }
 {
     let mut j: usize = 0;
-    let mut q: usize = 0;
-    while q < nodes {
-        if !parentheses::get(marks, q) {
-            q += 1;
-            continue;
+    for q in 0..nodes {
+        if parentheses::get(marks, q) {
+            turned[q] = turned[usize::from(shadows[j])];
+            j += 1;
         }
-        let t = shorts::wide(shadows[j]);
-        turned[q] = turned[t];
-        j += 1;
-        q += 1;
     }
 }
 
@@ -76,10 +62,7 @@ fn is_leaf(parens: &[u8], p: usize) -> bool
     ensures { result ≡ not (get_or (bits parens.now) (p + 1) false) }
 {
     let next = p + 1;
-    if next == parens.len() * parentheses::BYTE_BITS {
-        return true;
-    }
-    !parentheses::get(parens, next)
+    next == parens.len() * parentheses::BYTE_BITS || !parentheses::get(parens, next)
 }
 
 // The first place past the subtree of the node at place q, which opens at p. From there to where it closes, every second bit opens.
@@ -105,37 +88,32 @@ fn ends_by(nodes: usize, parens: &[u8], ranks: &[u16], ends: &mut [u16])
     let mut q: usize = 0;
     let mut p: usize = 0;
     while q < nodes {
-        if !parentheses::get(parens, p) {
-            p += 1;
-            continue;
+        if parentheses::get(parens, p) {
+            ends[q] = end_of(parens, ranks, TreeId(q), p).0 as u16;
+            q += 1;
         }
-        let end = end_of(parens, ranks, TreeId(q), p);
-        let k = end.0;
-        ends[q] = shorts::narrow(k);
-        q += 1;
         p += 1;
     }
 }
 
-// The same: the ranks are counted once, for the searches of all nodes. The list of ranks is scratch.
-fn ends_ranked(nodes: usize, parens: &[u8], ranks: &mut [u16], ends: &mut [u16])
-    requires { (nodes ≤ length ends.old) × (length parens.now ≤ PARENTHESES-BYTES) × (nodes ≤ rank (bits parens.now) (bit_count parens.now)) × (length parens.now < length ranks.old) }
+// The same with a list of N ranks, which are counted once for the searches of all nodes.
+fn ends_in<const N: usize>(nodes: usize, parens: &[u8], ends: &mut [u16])
+    requires { (nodes ≤ length ends.old) × (length parens.now < N) × (N ≤ RANKS) × (nodes ≤ rank (bits parens.now) (bit_count parens.now)) }
     ensures { (q : ℕ) → q < nodes → get_or ends.new q 0 ≡ after (bits parens.now) q }
 {
-    parentheses::rank_bytes(parens, ranks);
-    ends_by(nodes, parens, ranks, ends);
+    let mut ranks = [0u16; N];
+    parentheses::rank_bytes(parens, &mut ranks);
+    ends_by(nodes, parens, &ranks, ends);
 }
 
-// The same with a list of ranks of its own, a short one for few nodes.
+// The same with a short list of ranks for few nodes.
 pub fn subtree_ends(nodes: usize, parens: &[u8], ends: &mut [u16])
     requires { (nodes ≤ length ends.old) × (length parens.now ≤ PARENTHESES-BYTES) × (nodes ≤ rank (bits parens.now) (bit_count parens.now)) }
     ensures { (q : ℕ) → q < nodes → get_or ends.new q 0 ≡ after (bits parens.now) q }
 {
-    if parens.len() <= SMALL_BYTES {
-        let mut ranks = [0u16; SMALL_BYTES + 1];
-        ends_ranked(nodes, parens, &mut ranks, ends);
-        return;
+    if parens.len() < SMALL_RANKS {
+        ends_in::<SMALL_RANKS>(nodes, parens, ends);
+    } else {
+        ends_in::<RANKS>(nodes, parens, ends);
     }
-    let mut ranks = [0u16; index::PARENTHESES_BYTES + 1];
-    ends_ranked(nodes, parens, &mut ranks, ends);
 }

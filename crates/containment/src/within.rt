@@ -8,22 +8,12 @@ ghost use Rattle.index.specs.Sizes.{NODES};
 ghost use Rattle.matrices.specs.Sizes.{ROWS};
 
 use index::{DatasetId, TreeId};
-use numbers::shorts;
 
 // How many nodes a tree has that is cheaper with short tables.
 const SMALL_TREE: usize = 512;
 
-// The leader of the pieces at a place: `turned` is the place list turned round, with the shadows put in.
-fn piece_at(turned: &[u16], q: TreeId) -> DatasetId
-    requires { q.0 < length turned.now }
-    ensures { result.0 ≡ get_or turned.now q.0 0 }
-{
-    let k = q.0;
-    DatasetId(shorts::wide(turned[k]))
-}
-
-// Fills the row of a leader h, unless it is filled: h itself, and the row of the leader of each part that hangs from its node. The
-// pieces that follow h are there. A part that hangs as a shadow is the one that the shadow stands for, so containment calls itself
+// Fills the row of a leader h, unless it is filled: h itself, and the row of the leader of each part that hangs from its node. `ends` has the
+// first place past the subtree of each place, `turned` the leader of the pieces there. The pieces that follow h are there. A part that hangs as a shadow is the one that the shadow stands for, so containment calls itself
 // through shadow targets. Levels rise from container to part, and a row that is filled is filled for good.
 fn fill(places: &[u16], ends: &[u16], turned: &[u16], rows: &mut [u64], h: DatasetId)
     requires { (IsMatrix rows.old) × Fillable places.now ends.now turned.now rows.old h.0 }
@@ -36,22 +26,13 @@ fn fill(places: &[u16], ends: &[u16], turned: &[u16], rows: &mut [u64], h: Datas
     matrices::insert(rows, x, x);
     let place = index::place_of(places, h);
     let mut q = TreeId(place.0 + 1);
-    let end = end_at(ends, place);
+    let end = TreeId(usize::from(ends[place.0]));
     while q.0 < end.0 {
-        let t = piece_at(turned, TreeId(q.0));
-        fill(places, ends, turned, rows, DatasetId(t.0));
+        let t = DatasetId(usize::from(turned[q.0]));
+        fill(places, ends, turned, rows, t);
         matrices::union_within(rows, x, t.0);
-        q = end_at(ends, q);
+        q = TreeId(usize::from(ends[q.0]));
     }
-}
-
-// The first place past the subtree of a place, by the table of ends.
-fn end_at(ends: &[u16], q: TreeId) -> TreeId
-    requires { q.0 < length ends.now }
-    ensures { result.0 ≡ get_or ends.now q.0 0 }
-{
-    let k = q.0;
-    TreeId(shorts::wide(ends[k]))
 }
 
 // Puts each piece below n that follows another into that one's row, and clears every other bit of the rows below n.
@@ -60,15 +41,11 @@ fn seed(n: usize, lead: &[u16], rows: &mut [u64])
     ensures { Seeded n n lead.now rows.new }
 {
     matrices::clear_rows(rows, n);
-    let mut i: usize = 0;
-    while i < n {
-        let g = i;
-        i += 1;
+    for g in 0..n {
         let h = crate::leader_of(lead, DatasetId(g));
-        if h.0 == g {
-            continue;
+        if h.0 != g {
+            matrices::insert(rows, h.0, g);
         }
-        matrices::insert(rows, h.0, g);
     }
 }
 
@@ -77,17 +54,15 @@ fn fill_all(n: usize, places: &[u16], ends: &[u16], turned: &[u16], lead: &[u16]
     requires { (IsMatrix rows.old) × Ready n places.now ends.now turned.now lead.now rows.old }
     ensures { (s : Setting places.now ends.now turned.now) → n ≡ s.n → Leads s lead.now → All s rows.old → FilledTo s rows.new n }
 {
-    let mut g: usize = 0;
-    while g < n {
+    for g in 0..n {
         let h = crate::leader_of(lead, DatasetId(g));
         fill(places, ends, turned, rows, h);
-        g += 1;
     }
 }
 
 // Fills the row of each piece below n with the pieces inside it, and clears its other bits. Pieces at one place have one row, which
-// is filled once: that of their leader. So many paths to one piece cost no more than one. The two tables of the places are scratch.
-fn contents_by(
+// is filled once: that of their leader. So many paths to one piece cost no more than one. The two tables have N places each.
+fn contents_in<const N: usize>(
     n: usize,
     nodes: usize,
     parens: &[u8],
@@ -96,22 +71,22 @@ fn contents_by(
     places: &[u16],
     lead: &[u16],
     rows: &mut [u64],
-    ends: &mut [u16],
-    turned: &mut [u16],
 )
-    requires { (n ≤ ROWS) × (nodes ≤ NODES) × (IsMatrix rows.old) × Stored n nodes parens.now marks.now shadows.now places.now lead.now × (nodes ≤ length ends.old) × (nodes ≤ length turned.old) }
+    requires { (n ≤ ROWS) × (nodes ≤ N) × (N ≤ NODES) × (IsMatrix rows.old) × Stored n nodes parens.now marks.now shadows.now places.now lead.now }
     ensures { Contents n parens.now marks.now shadows.now places.now rows.new }
 {
+    let mut ends = [0u16; N];
+    let mut turned = [0u16; N];
     let bytes = (nodes + 3) / 4;
-    crate::subtree_ends(nodes, &parens[..bytes], ends);
-    crate::number_nodes(n, places, lead, turned);
-    crate::number_shadows(nodes, marks, shadows, turned);
+    crate::subtree_ends(nodes, &parens[..bytes], &mut ends);
+    crate::number_nodes(n, places, lead, &mut turned);
+    crate::number_shadows(nodes, marks, shadows, &mut turned);
     seed(n, lead, rows);
-    fill_all(n, places, ends, turned, lead, rows);
+    fill_all(n, places, &ends, &turned, lead, rows);
     matrices::share_rows(lead, n, rows);
 }
 
-// The same with tables of its own: short ones for a small tree, since to clear long ones takes longer than to fill its rows.
+// The same with short tables for a small tree, since to clear long ones takes longer than to fill its rows.
 pub fn contents(
     n: usize,
     nodes: usize,
@@ -126,34 +101,8 @@ pub fn contents(
     ensures { Contents n parens.now marks.now shadows.now places.now rows.new }
 {
     if nodes <= SMALL_TREE {
-        let mut ends = [0u16; SMALL_TREE];
-        let mut turned = [0u16; SMALL_TREE];
-        contents_by(
-            n,
-            nodes,
-            parens,
-            marks,
-            shadows,
-            places,
-            lead,
-            rows,
-            &mut ends,
-            &mut turned,
-        );
-        return;
+        contents_in::<SMALL_TREE>(n, nodes, parens, marks, shadows, places, lead, rows);
+    } else {
+        contents_in::<{ index::NODES }>(n, nodes, parens, marks, shadows, places, lead, rows);
     }
-    let mut ends = [0u16; index::NODES];
-    let mut turned = [0u16; index::NODES];
-    contents_by(
-        n,
-        nodes,
-        parens,
-        marks,
-        shadows,
-        places,
-        lead,
-        rows,
-        &mut ends,
-        &mut turned,
-    );
 }

@@ -13,6 +13,7 @@ ghost use Rattle.contradiction.specs.Numbered.{Numbered};
 ghost use Rattle.contradiction.specs.Opened.{Opened};
 ghost use Rattle.records.specs.Sizes.{RECORD-BYTES};
 
+use closure::LeaderSteps;
 use matrices::{Matrix, RowNumbers};
 
 // The groups of the run's pieces: the number of each piece's, its leader, and an order of the pieces. e is scratch.
@@ -70,8 +71,9 @@ pub fn begin_alone(
     let mut number = [0u16; matrices::ROWS];
     grouped(run, n, e, &mut number, lead, order);
     closure::steps(run, lead, n, e);
-    closure::part_rows(n, e, order, lead, d);
-    closure::meeting(run, n, voids, e, order, lead, t);
+    let steps = LeaderSteps { e, order, lead };
+    closure::part_rows(n, steps, d);
+    closure::meeting(run, n, voids, steps, t);
     verdicts::clashes(run, voids, d, t)
 }
 

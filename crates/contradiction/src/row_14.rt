@@ -13,6 +13,7 @@ ghost use Rattle.closure.specs.Bounded.{Bounded};
 ghost use Rattle.contradiction.specs.Settled.{row, Settles, Steps, Indexes, Counts};
 
 use crate::first_matrices;
+use closure::LeaderSteps;
 use matrices::{Matrix, RowNumbers};
 use records::{Refusal, Refused};
 
@@ -83,7 +84,7 @@ pub fn settle(
     );
     containment::contents(n, counts.nodes, parens, marks, shadows, places, lead, d);
     closure::steps(book, lead, n, e);
-    closure::meeting(book, n, voids, e, order, lead, t);
+    closure::meeting(book, n, voids, LeaderSteps { e, order, lead }, t);
     if verdicts::clashes(book, voids, d, t) {
         return Err(Clash {
             place: contradiction(book, n, voids, e, d, t),

@@ -11,7 +11,7 @@ use lib.ListN.{length, get_or, set}
 use lib.Seq.{get_or-set_same, get_or-set_other}
 use Rattle.lists.specs.Tally.{tally}
 use Rattle.lists.proofs.Tallies.{tally-upto}
-use Rattle.groups.specs.Ranks.{follower, Arrangeable, Arranged}
+use Rattle.groups.specs.Ranks.{follower, Arrangeable}
 
 module _ (n m : ℕ) (done lead : List ℕ) where
   pub leading : (g : ℕ) → get_or lead g 0 ≡ g → follower lead g ≡ false
@@ -79,6 +79,3 @@ module _ (n m : ℕ) (done lead : List ℕ) where
           at h a f (no q) =
               let k = before h a q in
               get_or-set_other order j (tally (follower lead) h) g 0 (λ z. omega (arith, S.counted, tally-upto (follower lead) h h g (omega arith) k (following h f))) ∙ S.followers h k f
-
-  pub arrange-all : (order : List ℕ) (j g : ℕ) → g ≡ n → Arranging order j g → Arranged n m done lead order
-  arrange-all order j g e S = record { followers = λ h l. S.followers h (omega arith); leaders = λ h l. S.leaders h (omega arith) }

@@ -14,7 +14,7 @@ use lib.Seq.{get_or-set_same, get_or-set_other}
 use Rattle.lists.specs.First.{first}
 use Rattle.lists.specs.Tally.{tally}
 use Rattle.lists.proofs.Firsts.{Hit, hits, first-is}
-use Rattle.groups.specs.Ranks.{lowest_by, first_by, number_by, Ranked}
+use Rattle.groups.specs.Ranks.{lowest_by, first_by, number_by}
 
 -- one entry more of a list that f says
 pub set_more : (f : ℕ → ℕ) (l : List ℕ) (g x : ℕ) → g < length l → x ≡ f g → ((h : ℕ) → h < g → get_or l h 0 ≡ f h) → (h : ℕ) → h < g + 1 → get_or (set l g x) h 0 ≡ f h
@@ -146,10 +146,3 @@ module _ (n : ℕ) (done : ℕ → ℕ) where
             later : (x : ℕ) → x < g + 1 → done x ≡ f → Dec (x ≡ g) → ⊥
             later x b c (yes z) = q (sym c ∙ ap done z)
             later x b c (no z) = w.1 x (omega arith) c
-
-  pub rank-all : (number lead heads : List ℕ) (k g : ℕ) → g ≡ n → Ranking number lead heads k g → Ranked n done number lead k
-  rank-all number lead heads k g e R = record {
-    counted = R.counted ∙ ap (tally (first_by n done)) e;
-    numbers = λ h l. R.numbers h (omega arith);
-    leads = λ h l. R.leads h (omega arith);
-  }

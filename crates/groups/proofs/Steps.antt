@@ -18,33 +18,16 @@ use Rattle.matrices.specs.Matrix.{bit_of}
 use Rattle.lists.proofs.Searches.{Sought, sought-next}
 use Rattle.index.specs.Pairs.{self, step}
 use Rattle.index.proofs.Below.{within-trans}
-use Rattle.groups.specs.Search.{State, state_of, part_of, WayOf, GoodOf, VisitedOf, Leading, Callable, Cut, Numbered, Pushed, Settled, Searchable, Searched}
+use Rattle.groups.specs.Search.{State, state_of, pushed, part_of, WayOf, GoodOf, VisitedOf, Leading, Callable, Cut, Numbered, Room, Pushed, Settled, Searchable, Searched}
+use Rattle.groups.specs.declared.components.Path.{Path}
 use Rattle.groups.proofs.Gray.{with}
 use Rattle.groups.proofs.Walking.{Walk, walk-looked, walk-begin, reaches, walk-skip, walk-cut, walk_call, walk-stay, walk-close}
 use Rattle.groups.proofs.Searching.{empty-good, search-done}
 
-pub cut-more : (bounds : List ℕ) (top p t : ℕ) → ((k : ℕ) → t ≤ k → k < top → p < get_or bounds k 0) → p < get_or bounds (t - 1) 0 → (k : ℕ) → t - 1 ≤ k → k < top → p < get_or bounds k 0
-cut-more bounds top p t h e k a b = go (ℕ_discrete k (t - 1))
-  where
-    go : Dec (k ≡ t - 1) → p < get_or bounds k 0
-    go (yes q) = omega (arith, ap (λ (j : ℕ). get_or bounds j 0) q)
-    go (no q) = h k (omega arith) b
-
-pub numbered_more : (path done done' : List ℕ) (at i count : ℕ) → at ≤ i → get_or path i 0 < length done' → Numbered path done done' at i count
-    → Numbered path done (set done' (get_or path i 0) count) at (i + 1) count
-numbered_more path done done' at i count a l N = record {
-  sized = length-set done' (get_or path i 0) count ∙ N.sized;
-  hit = λ j b c. hit j b c (ℕ_discrete (get_or path j 0) (get_or path i 0));
-  miss = λ x h. get_or-set_other done' (get_or path i 0) x count 0 (λ q. h i a (omega arith) (sym q)) ∙ N.miss x (λ j b c q. h j b (omega arith) q);
-}
-  where
-    hit : (j : ℕ) → at ≤ j → j < i + 1 → Dec (get_or path j 0 ≡ get_or path i 0) → get_or (set done' (get_or path i 0) count) (get_or path j 0) 0 ≡ count
-    hit j b c (yes q) = rw q (get_or-set_same done' (get_or path i 0) count 0 l)
-    hit j b c (no q) = get_or-set_other done' (get_or path i 0) (get_or path j 0) count 0 q ∙ N.hit j b (older (ℕ_discrete j i))
-      where
-        older : Dec (j ≡ i) → j < i
-        older (yes z) = absurd (q (ap (λ (k : ℕ). get_or path k 0) z))
-        older (no z) = omega arith
+-- the state that arrays hold
+abbrev pub laid : List ℕ → List ℕ → List ℕ → List ℕ → ℕ → ℕ → ℕ → State
+laid pos done path bounds len top count =
+    state_of (record { pos = pos; done = done; pieces = path; bounds = bounds; len = len; top = top; count = count })
 
 module _ (n : ℕ) (small : n ≤ 2048) (e : List ℕ) where
   pub pair-bit : (x y : ℕ) → y < n → bit_of e x y ≡ true → part_of n e y x ≡ true
@@ -72,7 +55,7 @@ module _ (n : ℕ) (small : n ≤ 2048) (e : List ℕ) where
     pub pushed : Pushed n 2048 (bit_of e) (WayOf n e) S₀ S v
 
   pub pushed-is : (pos done path bounds : List ℕ) (len top count v : ℕ) → v < length pos → len < length path → top < length bounds
-      → Pushed n 2048 (bit_of e) (WayOf n e) (state_of pos done path bounds len top count) (state_of (set pos v len) done (set path len v) (set bounds top len) (len + 1) (top + 1) count) v
+      → Pushed n 2048 (bit_of e) (WayOf n e) (laid pos done path bounds len top count) (laid (set pos v len) done (set path len v) (set bounds top len) (len + 1) (top + 1) count) v
   pushed-is pos done path bounds len top count v a b c = record {
     len_is = add-one len;
     top-is = add-one top;
@@ -85,11 +68,6 @@ module _ (n : ℕ) (small : n ≤ 2048) (e : List ℕ) where
     bound_at = get_or-set_same bounds top len 0 c;
     bound-other = λ k l. get_or-set_other bounds top k len 0 (λ q. omega arith);
   }
-
-  pub pushed-from : (pos done path bounds pos' path' bounds' : List ℕ) (len top count v : ℕ) → v < length pos → len < length path → top < length bounds
-      → pos' ≡ set pos v len → path' ≡ set path len v → bounds' ≡ set bounds top len
-      → Pushed n 2048 (bit_of e) (WayOf n e) (state_of pos done path bounds len top count) (state_of pos' done path' bounds' (len + 1) (top + 1) count) v
-  pushed-from pos done path bounds pos' path' bounds' len top count v a b c p q r = rw (p, q, r) (pushed-is pos done path bounds len top count v a b c)
 
   module _ (S₀ : State) (gray : ℕ → Bool) (v : ℕ) (S₁ : State) (E : Entered S₀ gray v S₁) where
     -- on to the next edge
@@ -122,11 +100,11 @@ module _ (n : ℕ) (small : n ≤ 2048) (e : List ℕ) where
           (walk_call n 2048 small (bit_of e) (WayOf n e) ws wj we S₀ gray E.good v E.piece S w w W (omega arith) idle wn edge S' a Y)
 
     -- the bounds after the place of w go
-    pub cut_on : (pos done path bounds : List ℕ) (len top count w w' t : ℕ) (W : WalkOf S₀ (state_of pos done path bounds len top count) v w gray) → w < n → bit_of e v w ≡ true
-        → w' ≡ first (bit_of e v) (w + 1) (2048 - (w + 1)) → get_or pos w 0 < 2048 → get_or done w 0 ≡ 2048 → Cut bounds top (get_or pos w 0) t → WalkOf S₀ (state_of pos done path bounds len t count) v w' gray
+    pub cut_on : (pos done path bounds : List ℕ) (len top count w w' t : ℕ) (W : WalkOf S₀ (laid pos done path bounds len top count) v w gray) → w < n → bit_of e v w ≡ true
+        → w' ≡ first (bit_of e v) (w + 1) (2048 - (w + 1)) → get_or pos w 0 < 2048 → get_or done w 0 ≡ 2048 → Cut bounds top (get_or pos w 0) t → WalkOf S₀ (laid pos done path bounds len t count) v w' gray
     cut_on pos done path bounds len top count w w' t W wn edge f a b C =
-        on-to (state_of pos done path bounds len t count) (suc w) (w + 1) w' (sym (add-one w)) (omega arith) f
-        (walk-cut n 2048 small (bit_of e) (WayOf n e) ws wj we S₀ gray E.good v E.piece (state_of pos done path bounds len top count) w w W (omega arith) (λ y p q. absurd (omega arith)) wn edge a b t C.fewer
+        on-to (laid pos done path bounds len t count) (suc w) (w + 1) w' (sym (add-one w)) (omega arith) f
+        (walk-cut n 2048 small (bit_of e) (WayOf n e) ws wj we S₀ gray E.good v E.piece (laid pos done path bounds len top count) w w W (omega arith) (λ y p q. absurd (omega arith)) wn edge a b t C.fewer
         (λ k l. low k l (ℕ_discrete k (t - 1))) C.high)
       where
         low : (k : ℕ) → k < t → Dec (k ≡ t - 1) → get_or bounds k 0 ≤ get_or pos w 0
@@ -138,10 +116,10 @@ module _ (n : ℕ) (small : n ≤ 2048) (e : List ℕ) where
     stay S w W o t z ne = walk-stay n 2048 small (bit_of e) (WayOf n e) ws wj we S₀ gray E.good v E.piece S w W (λ y l g. W.looked y l (omega arith) g) t z ne
 
     -- or ends
-    pub shut : (pos done path bounds done' : List ℕ) (len top count w at : ℕ) → WalkOf S₀ (state_of pos done path bounds len top count) v w gray → n ≤ w → 0 < top → at ≡ S₀.len
-        → get_or bounds (top - 1) 0 ≡ at → Numbered path done done' at len count → VisitedOf n e S₀ (state_of pos done' path bounds at (top - 1) (count + 1)) v gray
+    pub shut : (pos done path bounds done' : List ℕ) (len top count w at : ℕ) → WalkOf S₀ (laid pos done path bounds len top count) v w gray → n ≤ w → 0 < top → at ≡ S₀.len
+        → get_or bounds (top - 1) 0 ≡ at → Numbered path done done' at len count → VisitedOf n e S₀ (laid pos done' path bounds at (top - 1) (count + 1)) v gray
     shut pos done path bounds done' len top count w at W o pos-top ae be N =
-        walk-close n 2048 small (bit_of e) (WayOf n e) ws wj we S₀ gray E.good v E.piece (state_of pos done path bounds len top count) (state_of pos done' path bounds at (top - 1) (count + 1)) w W
+        walk-close n 2048 small (bit_of e) (WayOf n e) ws wj we S₀ gray E.good v E.piece (laid pos done path bounds len top count) (laid pos done' path bounds at (top - 1) (count + 1)) w W
         (λ y l g. W.looked y l (omega arith) g) (top - 1)
         (record {
           top-was = omega arith;
@@ -165,9 +143,37 @@ module _ (n : ℕ) (small : n ≤ 2048) (e : List ℕ) where
       go zero q = omega arith
       go (suc t) q = omega (arith, G.steps t (omega arith))
 
-  pub len_below : (pos done path bounds : List ℕ) (len top count v : ℕ) → Callable n e pos done path bounds len top count v → len < n
-  len_below pos done path bounds len top count v C =
-      omega (arith, C.good.room, tally-some (λ x. eqb (get_or pos x 0) 2048) n v C.piece (eq-eqb (get_or pos v 0) 2048 C.new))
+  pub len_below : (s : Path) (v : ℕ) → Callable n e s v → s.len < n
+  len_below s v C =
+      omega (arith, C.good.room, tally-some (λ x. eqb (get_or s.pos x 0) 2048) n v C.piece (eq-eqb (get_or s.pos v 0) 2048 C.new))
+
+  pub top-below : (s : Path) (v : ℕ) → Callable n e s v → s.top < n
+  top-below s v C = omega (arith, len_below s v C, tops_fit (state_of s) C.gray C.good)
+
+  -- the call for v puts it on the path
+  pub entered : (s s' : Path) (v : ℕ) (gray : ℕ → Bool) → Callable n e s v → s' ≡ pushed s v → GoodOf n e (state_of s) gray → Leading n e (state_of s) v → Entered (state_of s) gray v (state_of s')
+  entered s s' v gray C p G L =
+      let l = len_below s v C in
+      let t = top-below s v C in
+      rw p (record {
+        good = G;
+        piece = C.piece;
+        new = C.new;
+        leading = L;
+        pushed = pushed-is s.pos s.done s.pieces s.bounds s.len s.top s.count v (omega (arith, C.room.pos-is, C.piece, C.few)) (omega (arith, C.room.pieces-are, l, C.few)) (omega (arith, C.room.bounds-are, t, C.few));
+      })
+
+  pub push-room : (s s' : Path) (v : ℕ) → s' ≡ pushed s v → Room s → Room s'
+  push-room s s' v p R = rw p (record {
+    pos-is = length-set s.pos v s.len ∙ R.pos-is;
+    done-is = R.done-is;
+    pieces-are = length-set s.pieces s.len v ∙ R.pieces-are;
+    bounds-are = length-set s.bounds s.top s.len ∙ R.bounds-are;
+  })
+
+  -- what the path has at most
+  pub fits : (s : Path) (gray : ℕ → Bool) → GoodOf n e (state_of s) gray → (s.count + s.len ≤ 2048) × (s.top ≤ s.len)
+  fits s gray G = (omega (arith, G.room), tops_fit (state_of s) gray G)
 
   pub met-small : (S : State) (gray : ℕ → Bool) → GoodOf n e S gray → (w : ℕ) → w < n → (S.pos w ≡ 2048 → ⊥) → S.pos w < 2048
   met-small S gray G w l ne = go (G.spot w l)
@@ -185,23 +191,26 @@ module _ (n : ℕ) (small : n ≤ 2048) (e : List ℕ) where
 
 -- ## The whole
 
-module _ (n : ℕ) (e : List ℕ) (room : ℕ) (R : Searchable n e room) (done path bounds : List ℕ) (blank : done ≡ replicate room 2048) where
-  abbrev pub first-state : State
-  first-state = state_of (replicate 2048 2048) done path bounds 0 0 0
+-- where the search begins
+abbrev pub blank : Path
+blank = record { pos = replicate 2048 2048; done = replicate 2048 2048; pieces = replicate 2048 0; bounds = replicate 2048 0; len = 0; top = 0; count = 0 }
 
-  pub first_good : (gray : ℕ → Bool) → GoodOf n e first-state gray
-  first_good gray = empty-good n 2048 R.few (bit_of e) (WayOf n e) first-state gray refl refl refl
+module _ (n : ℕ) (e : List ℕ) (room : ℕ) (R : Searchable n e room) where
+  pub first_good : (gray : ℕ → Bool) → GoodOf n e (state_of blank) gray
+  first_good gray = empty-good n 2048 R.few (bit_of e) (WayOf n e) (state_of blank) gray refl refl refl
       (λ x l. get_or-replicate 2048 x 2048 0 (omega (arith, R.few)))
-      (λ x l. ap (λ (d : List ℕ). get_or d x 0) blank ∙ get_or-replicate room x 2048 0 (omega (arith, R.few, R.sized)))
+      (λ x l. get_or-replicate 2048 x 2048 0 (omega (arith, R.few)))
 
-  pub first-call : length path ≡ 2048 → length bounds ≡ 2048 → Callable n e (replicate 2048 2048) done path bounds 0 0 0 0
-  first-call p b = record {
+  pub first-call : Callable n e blank 0
+  first-call = record {
     few = R.few;
     matrix = R.matrix;
-    pos-room = length-replicate {A = ℕ} 2048 2048;
-    done-room = ap length blank ∙ length-replicate {A = ℕ} room 2048 ∙ R.sized;
-    path_room = p;
-    bounds-room = b;
+    room = record {
+      pos-is = length-replicate {A = ℕ} 2048 2048;
+      done-is = length-replicate {A = ℕ} 2048 2048;
+      pieces-are = length-replicate {A = ℕ} 2048 0;
+      bounds-are = length-replicate {A = ℕ} 2048 0;
+    };
     piece = R.some;
     new = get_or-replicate 2048 0 2048 0 (omega arith);
     gray = λ x. false;
@@ -209,5 +218,5 @@ module _ (n : ℕ) (e : List ℕ) (room : ℕ) (R : Searchable n e room) (done p
     leading = λ i l. absurd (omega arith);
   }
 
-  pub all_done : (S : State) → VisitedOf n e first-state S 0 (λ x. false) → Searched n 2048 (bit_of e) (WayOf n e) S.done
-  all_done S Y = search-done n 2048 R.few (bit_of e) (WayOf n e) first-state S R.some refl refl Y R.crowned
+  pub all_done : (S : State) → VisitedOf n e (state_of blank) S 0 (λ x. false) → Searched n 2048 (bit_of e) (WayOf n e) S.done
+  all_done S Y = search-done n 2048 R.few (bit_of e) (WayOf n e) (state_of blank) S R.some refl refl Y R.crowned

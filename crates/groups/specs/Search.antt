@@ -1,10 +1,11 @@
 -- The path-based search for groups: what holds of its arrays, and what a call for one piece promises. Assumes nothing.
 -- A path of pieces, each of which leads to the next ones; it falls into groups of pieces that lead to each other, and `bounds` has the places where
 -- they begin. A piece has a place on the path once it is met, and the number of its group, in the order in which groups end, once that ended.
-use Rattle.std.specs.Prelude.{◌≡◌, ◌⊎◌, Bool, true, false, ◌&&◌, List, ℕ, suc, ◌+◌, ◌-◌, ◌<◌, ◌≤◌, eqb, ltb, length, get_or}
+use Rattle.std.specs.Prelude.{◌≡◌, ◌⊎◌, Bool, true, false, ◌&&◌, List, ℕ, suc, ◌+◌, ◌-◌, ◌<◌, ◌≤◌, eqb, ltb, length, get_or, set}
 use Rattle.matrices.specs.Matrix.{bit_of}
 use Rattle.index.specs.Pairs.{Within}
 use Rattle.lists.specs.Tally.{tally}
+use Rattle.groups.specs.declared.components.Path.{Path}
 
 pub record State : Type 0 where
   pub pos : ℕ → ℕ
@@ -87,16 +88,28 @@ module _ (n none : ℕ) (edge : ℕ → ℕ → Bool) (Way : ℕ → ℕ → Typ
     pub order : (x y : ℕ) → x < n → y < n → edge x y ≡ true → done y ≤ done x
     pub full : (x f : ℕ) → x < n → f < done x → (y : ℕ) × (y < n) × (done y ≡ f)
 
--- the state in lent arrays
-abbrev pub state_of : List ℕ → List ℕ → List ℕ → List ℕ → ℕ → ℕ → ℕ → State
-state_of pos done path bounds len top count = record {
-  pos = λ x. get_or pos x 0;
-  done = λ x. get_or done x 0;
-  path = λ i. get_or path i 0;
-  bound = λ k. get_or bounds k 0;
-  len = len;
-  top = top;
-  count = count;
+-- the state that the arrays of a path hold
+abbrev pub state_of : Path → State
+state_of s = record {
+  pos = λ x. get_or s.pos x 0;
+  done = λ x. get_or s.done x 0;
+  path = λ i. get_or s.pieces i 0;
+  bound = λ k. get_or s.bounds k 0;
+  len = s.len;
+  top = s.top;
+  count = s.count;
+}
+
+-- v at the end of the path, as a group of its own
+abbrev pub pushed : Path → ℕ → Path
+pushed s v = record {
+  pos = set s.pos v s.len;
+  done = s.done;
+  pieces = set s.pieces s.len v;
+  bounds = set s.bounds s.top s.len;
+  len = s.len + 1;
+  top = s.top + 1;
+  count = s.count;
 }
 
 -- the pairs of the matrix e whose part is one of the n pieces
@@ -117,26 +130,23 @@ VisitedOf n e S S' v gray = Visited n 2048 (bit_of e) (WayOf n e) S S' v gray
 abbrev pub Leading : ℕ → List ℕ → State → ℕ → Type 0
 Leading n e S v = (i : ℕ) → i < S.len → WayOf n e (S.path i) v
 
+-- the arrays have an entry for each row
+pub record Room (s : Path) : Type 0 where
+  pub pos-is : length s.pos ≡ 2048
+  pub done-is : length s.done ≡ 2048
+  pub pieces-are : length s.pieces ≡ 2048
+  pub bounds-are : length s.bounds ≡ 2048
+
 -- what the call for v asks
-pub record Callable (n : ℕ) (e pos done path bounds : List ℕ) (len top count v : ℕ) : Type 0 where
+pub record Callable (n : ℕ) (e : List ℕ) (s : Path) (v : ℕ) : Type 0 where
   pub few : n ≤ 2048
   pub matrix : length e ≡ 65536
-  pub pos-room : length pos ≡ 2048
-  pub done-room : length done ≡ 2048
-  pub path_room : length path ≡ 2048
-  pub bounds-room : length bounds ≡ 2048
+  pub room : Room s
   pub piece : v < n
-  pub new : get_or pos v 0 ≡ 2048
+  pub new : get_or s.pos v 0 ≡ 2048
   pub gray : ℕ → Bool
-  pub good : GoodOf n e (state_of pos done path bounds len top count) gray
-  pub leading : Leading n e (state_of pos done path bounds len top count) v
-
--- what the call leaves is as long as it was
-pub record Room (pos done path bounds : List ℕ) : Type 0 where
-  pub pos-is : length pos ≡ 2048
-  pub done-is : length done ≡ 2048
-  pub path-is : length path ≡ 2048
-  pub bounds-is : length bounds ≡ 2048
+  pub good : GoodOf n e (state_of s) gray
+  pub leading : Leading n e (state_of s) v
 
 -- the bounds up to p are kept
 pub record Cut (bounds : List ℕ) (top p t : ℕ) : Type 0 where

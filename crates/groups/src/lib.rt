@@ -8,7 +8,6 @@ ghost use Rattle.groups.specs.Search.{Searchable};
 ghost use Rattle.matrices.specs.Sizes.{ROWS};
 
 use matrices::RowNumbers;
-use numbers::shorts;
 
 pub mod components;
 
@@ -24,23 +23,20 @@ fn number_groups(
     requires { Numerable n done.now (length number.old) (length lead.old) (length heads.old) }
     ensures { Ranked n (λ x. get_or done.now x 0) number.new lead.new result }
 {
-    shorts::fill(heads, index::NONE);
+    heads.fill(index::NONE);
     let mut k: usize = 0;
-    let mut g: usize = 0;
-    while g < n {
-        let f = shorts::wide(done[g]);
-        let t = shorts::wide(heads[f]);
-        if t == matrices::ROWS {
-            heads[f] = shorts::narrow(g);
-            number[g] = shorts::narrow(k);
-            lead[g] = shorts::narrow(g);
+    for g in 0..n {
+        let f = usize::from(done[g]);
+        let t = heads[f];
+        if t == index::NONE {
+            heads[f] = g as u16;
+            number[g] = k as u16;
+            lead[g] = g as u16;
             k += 1;
-            g += 1;
-            continue;
+        } else {
+            number[g] = number[usize::from(t)];
+            lead[g] = t;
         }
-        number[g] = number[t];
-        lead[g] = shorts::narrow(t);
-        g += 1;
     }
     k
 }
@@ -52,16 +48,13 @@ fn arrange(n: usize, m: usize, done: &RowNumbers, lead: &[u16], order: &mut [u16
 {
     let from = n - m;
     let mut j: usize = 0;
-    let mut g: usize = 0;
-    while g < n {
-        if shorts::wide(lead[g]) == g {
-            order[from + shorts::wide(done[g])] = shorts::narrow(g);
-            g += 1;
-            continue;
+    for g in 0..n {
+        if usize::from(lead[g]) == g {
+            order[from + usize::from(done[g])] = g as u16;
+        } else {
+            order[j] = g as u16;
+            j += 1;
         }
-        order[j] = shorts::narrow(g);
-        j += 1;
-        g += 1;
     }
 }
 

@@ -7,21 +7,8 @@ use lib.ListN.{length}
 use Rattle.index.specs.Pairs.{joined, Book}
 use Rattle.index.specs.Index.{visits_of, Room, Indexed}
 use Rattle.index.specs.Matrix.{pair_of, Buildable, Completed}
-use Rattle.index.specs.Steps.{Joinable, Sized, Parented, Walkable}
+use Rattle.index.specs.Steps.{Parented, Walkable}
 use Rattle.index.proofs.Joins.{completed}
-
-pub joinable : {n : ℕ} {m : List ℕ} {lb lm ls lp : ℕ} → Buildable n m lb lm ls lp → Joinable n m
-joinable R = record { some = R.some; small = R.small; matrix = R.matrix; book = R.book }
-
-module _ {n : ℕ} {m m' : List ℕ} (J : Joinable n m) (C : Completed n m m') (e : length m' ≡ length m) where
-  pub sized : Sized n m' 2048 2048
-  sized = record {
-    book = subst (λ (edge : ℕ → ℕ → Bool). Book n edge) (sym (completed n m m' C)) J.book;
-    small = J.small;
-    matrix = e ∙ J.matrix;
-    par_room = J.small;
-    ord_room = J.small;
-  }
 
 module _ {n : ℕ} {m m' : List ℕ} {lb lm ls lp : ℕ} (R : Buildable n m lb lm ls lp) (C : Completed n m m') (e : length m' ≡ length m) where
   same : joined n (pair_of n m) ≡ pair_of n m'

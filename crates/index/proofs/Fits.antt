@@ -1,5 +1,5 @@
 -- Sums and bounds of small numbers, stated apart so that a need that asks one reads no more than it hands over. Assumes nothing.
-use Prim.Native.Nat.{ℕ, ◌+◌, ◌*◌, ◌≤◌, ◌<◌}
+use Prim.Native.Nat.{ℕ, ◌+◌, ◌*◌, ◌<◌}
 use native.Mathlib.Omega.{arith}
 use mir.Syntax.{w8, w64}
 use mir.Val.{Fits}
@@ -10,17 +10,11 @@ fits_one x h = omega arith
 pub fits-twice : (x : ℕ) → x < 131072 → Fits w64 (x * 2)
 fits-twice x h = omega arith
 
-pub part_small : (x y : ℕ) → x < y → y ≤ 2048 → x < 131072
-part_small x y h l = omega arith
-
 pub low_small : (x : ℕ) → x < 2048 → x < 131072
 low_small x h = omega arith
 
 pub count_small : (x : ℕ) → x < 65536 → x < 131072
 count_small x h = omega arith
-
-pub small_count : (x : ℕ) → x ≤ 2048 → x ≤ 65536
-small_count x h = omega arith
 
 pub byte : (x : ℕ) → Fits w8 x → x < 256
 byte x h = omega arith

@@ -1,6 +1,6 @@
 -- The joins to 0: which pieces are nobody's part, and the matrix with the joins put into row 0. Assumes nothing.
 use mathlib.Core.Path.{◌≡◌, refl, sym, ap, ap₂, ◌∙◌, fun_ext}
-use mathlib.Core.Bool.{Bool, true, false, not, ◌&&◌, ◌||◌, true≢false, and-false, or-false}
+use mathlib.Core.Bool.{Bool, true, false, not, ◌&&◌, ◌||◌, true≢false, and-false}
 use mathlib.Core.List.{List}
 use Prim.Native.Nat.{ℕ, zero, suc, ◌+◌, ◌-◌, ◌≤◌, ◌<◌}
 use native.Mathlib.Decide.{ℕ_discrete, dec_lt}
@@ -12,9 +12,9 @@ use lib.Seq.{get_or-set_same, get_or-set_other}
 use borrow.Author.Tests.{lt-ltb, le-ltb, ne_eqb}
 use Rattle.lists.specs.Any.{any_below}
 use Rattle.lists.specs.First.{first}
-use Rattle.lists.proofs.Bools.{Known, is_true, is_false, known, right_or}
+use Rattle.lists.proofs.Bools.{Known, is_true, is_false, known}
 use Rattle.lists.specs.Tally.{num}
-use Rattle.matrices.specs.Matrix.{bit_of, Inserted}
+use Rattle.matrices.specs.Matrix.{bit_of}
 use Rattle.lists.proofs.Searches.{Sought, sought-next}
 use Rattle.index.specs.Pairs.{joined, Book}
 use Rattle.index.specs.Matrix.{pair_of, Completed}
@@ -66,9 +66,6 @@ module _ (m : List ℕ) (c : ℕ) (held₀ : List ℕ) where
     later = λ q b. get_or-set_other held p q 1 0 (λ x. omega arith) ∙ M.later q (omega arith);
   }
 
-  pub mark-done : (held : List ℕ) (p : ℕ) → Marking m c held₀ held p → 2048 ≤ p → length held ≡ length held₀ → Marked m c held₀ held
-  mark-done held p M l e = record { same = e; hit = λ q b. M.hit q (omega arith); miss = λ q b. M.miss q (omega arith) }
-
 -- ## The parts of all pieces
 
 pub held_start : (m held : List ℕ) → ((q : ℕ) → get_or held q 0 ≡ 0) → Held 0 m held
@@ -115,9 +112,6 @@ module _ (n : ℕ) (m : List ℕ) where
   join-none c zero = and-false (eqb c 0)
   join-none c (suc q) = rw (le-ltb (suc q) 1 (omega arith), and-false (ltb 0 (suc q))) (and-false (eqb c 0))
 
-  pub join-start : Joining m 1
-  join-start = record { each = λ c q l. rw (join-none c q) (sym (or-false (bit_of m c q))) }
-
   join-at : (p c : ℕ) → join p c p ≡ false
   join-at p c = rw (le-ltb p p (omega arith), and-false (ltb 0 p)) (and-false (eqb c 0))
 
@@ -138,29 +132,6 @@ module _ (n : ℕ) (m : List ℕ) where
         go : Known (any_below (λ c. bit_of m c p) n) → any_below (λ c. bit_of m c p) n ≡ false
         go (is_true e) = absurd (omega (arith, f, H.each p l, ap num e))
         go (is_false e) = e
-
-    -- p is somebody's part
-    pub join-pass : (get_or held p 0 ≡ 0 → ⊥) → Joining m' (p + 1)
-    join-pass f = record { each = λ c q b. J.each c q b ∙ ap (λ (x : Bool). bit_of m c q || x) (sym (at c q (ℕ_discrete q p))) }
-      where
-        at : (c q : ℕ) → Dec (q ≡ p) → join (p + 1) c q ≡ join p c q
-        at c q (no x) = join-other p c q x
-        at c q (yes x) = rw x (passed ∙ sym (join-at p c))
-          where
-            passed : join (p + 1) c p ≡ false
-            passed = rw (some f, and-false (ltb p (p + 1)), and-false (ltb 0 p)) (and-false (eqb c 0))
-
-    -- p is nobody's part, and is joined to 0
-    pub join_more : 0 < p → (m'' : List ℕ) → get_or held p 0 ≡ 0 → Inserted m' m'' 0 p → Joining m'' (p + 1)
-    join_more pos m'' f I = record { each = λ c q b. at c q b (ℕ_discrete q p) (ℕ_discrete c 0) }
-      where
-        at : (c q : ℕ) → q < 2048 → Dec (q ≡ p) → Dec (c ≡ 0) → bit_of m'' c q ≡ (bit_of m c q || join (p + 1) c q)
-        at c q b (no x) y = I.other c q b (λ _ e. x e) ∙ J.each c q b ∙ ap (λ (v : Bool). bit_of m c q || v) (sym (join-other p c q x))
-        at c q b (yes x) (yes y) = rw (x, y) (I.hit ∙ sym (right_or (bit_of m 0 p) made))
-          where
-            made : join (p + 1) 0 p ≡ true
-            made = rw (lt-ltb 0 p pos, lt-ltb p (p + 1) (omega arith), none f)
-        at c q b (yes x) (no y) = I.other c q b (λ e _. y e) ∙ J.each c q b ∙ ap (λ (v : Bool). bit_of m c q || v) (rw (ne_eqb c 0 y))
 
   -- ## All joins are made
 

@@ -4,11 +4,10 @@ use mathlib.Core.Bool.{Bool}
 use mathlib.Core.List.Memᴰ.{head as here}
 use mathlib.Core.List.Memᴰ.{tail as there}
 use mathlib.Core.List.{List, [], ◌∷◌, map}
-use Prim.Native.Nat.{ℕ, zero, suc, ◌+◌, ◌≤◌, ◌<◌}
+use Prim.Native.Nat.{ℕ, zero, suc, ◌≤◌, ◌<◌}
 use native.Mathlib.Omega.{arith}
-use native.Mathlib.Decide.{ℕ_discrete, dec_lt}
-use lib.ListN.{length, get_or, set, length-set, length-map, get_or-eq_default}
-use lib.Seq.{get_or-set_same, get_or-set_other}
+use native.Mathlib.Decide.{dec_lt}
+use lib.ListN.{length, get_or, length-map, get_or-eq_default}
 use Rattle.lists.proofs.Tabs.{tab-at, tab-length}
 use Rattle.index.specs.Pairs.{Book}
 use Rattle.index.specs.Tree.{Visit, node, shadow, whole, visits}
@@ -21,20 +20,6 @@ use Rattle.index.proofs.Sizes.{pieces}
 use Rattle.index.proofs.Packing.{by-places, by_bits}
 
 -- ## The loop
-
-pub resolve-start : (sh pl : List ℕ) → Resolved sh pl 0 sh
-resolve-start sh pl = record { same = refl; changed = λ j l. absurd (omega arith); kept = λ j l. refl }
-
-pub resolve-more : (sh pl : List ℕ) (j : ℕ) (sh' : List ℕ) → Resolved sh pl j sh' → j < length sh → Resolved sh pl (j + 1) (set sh' j (get_or pl (get_or sh' j 0) 0))
-resolve-more sh pl j sh' S l =
-    record { same = length-set sh' j v ∙ S.same; changed = λ i b. go i b (ℕ_discrete i j); kept = λ i b. get_or-set_other sh' j i v 0 (λ x. omega arith) ∙ S.kept i (omega arith) }
-  where
-    v : ℕ
-    v = get_or pl (get_or sh' j 0) 0
-
-    go : (i : ℕ) → i < j + 1 → Dec (i ≡ j) → get_or (set sh' j v) i 0 ≡ get_or pl (get_or sh i 0) 0
-    go i b (yes x) = rw x (get_or-set_same sh' j v 0 (omega (arith, S.same)) ∙ ap (λ (q : ℕ). get_or pl q 0) (S.kept j (omega arith)))
-    go i b (no x) = get_or-set_other sh' j i v 0 x ∙ S.changed i (omega arith)
 
 -- ## The index
 

@@ -70,20 +70,6 @@ module _ (n : ℕ) (edge : ℕ → ℕ → Bool) (k : ℕ) where
     pub hung : (q : ℕ) → q < n → (q ≡ k → ⊥) → fresh par q ≡ false → Hung n edge k level par q
 
   module _ (par ord : List ℕ) (head tail : ℕ) (R : Round par ord head tail) where
-    -- the search is over
-    pub round-end : tail ≤ head → Searched n edge k par
-    round-end l =
-        record {
-          start = R.start;
-          parts = λ p c lp lc e m. not-true (fresh par p) (λ f. true≢false (sym e ∙ R.unknown p lp f c (rw same at (R.listed c lc m))));
-          level = R.level;
-          fits = λ p lp m. omega (arith, R.fits p lp m, R.count);
-          hung = R.hung;
-        }
-      where
-        same : tail ≡ head
-        same = omega (arith, R.within)
-
     -- one round
     module _ (l : head < tail) where
       abbrev c : ℕ

@@ -9,7 +9,6 @@ ghost use Rattle.matrices.specs.Sizes.{ROWS};
 
 use crate::{GroupId, TreeId};
 use matrices::RowNumbers;
-use numbers::shorts;
 
 #[derive(Clone, Copy)]
 pub struct Counts {
@@ -22,14 +21,10 @@ fn join(n: usize, edges: &mut [u64], held: &RowNumbers)
     requires { (n ≤ ROWS) × (0 < n) × (IsMatrix edges.old) × Held n edges.old held.now }
     ensures { Completed n edges.old edges.new }
 {
-    let mut p: usize = 1;
-    while p < n {
+    for p in 1..n {
         if held[p] == 0 {
             matrices::insert(edges, 0, p);
-            p += 1;
-            continue;
         }
-        p += 1;
     }
 }
 
@@ -57,15 +52,15 @@ fn walk(
         let p = matrices::next_bit(edges, c.0, from);
         if p < n {
             parentheses::put(parens, at);
-            if shorts::wide(parent[p]) == c.0 {
-                places[p] = shorts::narrow(k.0);
+            if usize::from(parent[p]) == c.0 {
+                places[p] = k.0 as u16;
                 at += 1;
                 k = TreeId(k.0 + 1);
                 c = GroupId(p);
                 from = 1;
             } else {
                 parentheses::put(marks, k.0);
-                shadows[m] = shorts::narrow(p);
+                shadows[m] = p as u16;
                 at += 2;
                 k = TreeId(k.0 + 1);
                 m += 1;
@@ -81,7 +76,7 @@ fn walk(
             at += 1;
             let done = c.0;
             from = done + 1;
-            c = GroupId(shorts::wide(parent[done]));
+            c = GroupId(usize::from(parent[done]));
         }
     }
 }
@@ -111,10 +106,10 @@ pub fn build(
     ensures joins { Completed n edges.old edges.new }
 {
     let parent = complete(n, edges);
-    numbers::clear(parens);
-    numbers::clear(marks);
-    shorts::fill(shadows, 0);
-    shorts::fill(places, 0);
+    parens.fill(0);
+    marks.fill(0);
+    shadows.fill(0);
+    places.fill(0);
     let counts = walk(n, edges, &parent, parens, marks, shadows, places);
     let m = counts.shadows;
     crate::resolve(shadows, places, m);

@@ -12,7 +12,6 @@ ghost use Rattle.numbers.specs.Sizes.{SHORT-VALUES};
 
 pub use building::{Counts, build};
 use matrices::RowNumbers;
-use numbers::shorts;
 
 pub mod building;
 
@@ -28,7 +27,7 @@ pub const PLACES: usize = 2048;
 // How many nodes and shadows an index has at most.
 pub const NODES: usize = 10240;
 
-// What stands for no piece in a list of pieces.
+// What stands for no piece in a list of pieces: an `Option<u16>` takes twice the memory.
 pub const NONE: u16 = 2048;
 
 // A piece's number.
@@ -43,13 +42,13 @@ pub struct GroupId(pub usize);
 #[derive(Clone, Copy)]
 pub struct TreeId(pub usize);
 
-// The place list converts a piece's number to its place, and nothing else does.
+// The place list converts a piece's number to its place, and nothing else does. Each kind of list has its own look-up: a common one would let any
+// list convert any number.
 pub fn place_of(places: &[u16], g: DatasetId) -> TreeId
     requires { g.0 < length places.now }
     ensures { result.0 ≡ get_or places.now g.0 0 }
 {
-    let i = g.0;
-    TreeId(shorts::wide(places[i]))
+    TreeId(usize::from(places[g.0]))
 }
 
 // The numbering of groups converts a piece's number to that of its group, and nothing else does.
@@ -57,8 +56,7 @@ fn group_of(number: &[u16], g: DatasetId) -> GroupId
     requires { g.0 < length number.now }
     ensures { result.0 ≡ get_or number.now g.0 0 }
 {
-    let i = g.0;
-    GroupId(shorts::wide(number[i]))
+    GroupId(usize::from(number[g.0]))
 }
 
 // The place of a group, by the list that the walk writes.
@@ -66,8 +64,7 @@ fn place_of_group(groups: &[u16], k: GroupId) -> TreeId
     requires { k.0 < length groups.now }
     ensures { (result.0 ≡ get_or groups.now k.0 0) × (result.0 < SHORT-VALUES) }
 {
-    let i = k.0;
-    TreeId(shorts::wide(groups[i]))
+    TreeId(usize::from(groups[k.0]))
 }
 
 // Marks the parts of c.
@@ -87,10 +84,8 @@ pub fn mark_held(n: usize, edges: &[u64], held: &mut RowNumbers)
     requires { (n ≤ ROWS) × (IsMatrix edges.now) × (length held.old ≡ ROWS) × Zero held.old }
     ensures { Held n edges.now held.new }
 {
-    let mut c: usize = 0;
-    while c < n {
+    for c in 0..n {
         mark_parts(edges, c, held);
-        c += 1;
     }
 }
 
@@ -109,12 +104,10 @@ fn spread(
     let mut end = tail;
     let mut p = matrices::next_bit(edges, c, 0);
     while p < n {
-        if parent[p] == crate::NONE {
-            parent[p] = shorts::narrow(c);
-            order[end] = shorts::narrow(p);
+        if parent[p] == NONE {
+            parent[p] = c as u16;
+            order[end] = p as u16;
             end += 1;
-            p = matrices::next_bit(edges, c, p + 1);
-            continue;
         }
         p = matrices::next_bit(edges, c, p + 1);
     }
@@ -126,12 +119,12 @@ pub fn search_from(k: usize, n: usize, edges: &[u64], parent: &mut [u16], order:
     requires { (IsMatrix edges.now) × (n ≤ ROWS) × (k < n) × (length parent.old ≡ ROWS) × (length order.old ≡ ROWS) × ((q : ℕ) → q < n → fresh parent.old q ≡ true) }
     ensures { Searched n (pair_of n edges.now) k parent.new }
 {
-    parent[k] = shorts::narrow(k);
-    order[0] = shorts::narrow(k);
+    parent[k] = k as u16;
+    order[0] = k as u16;
     let mut head: usize = 0;
     let mut tail: usize = 1;
     while head < tail {
-        let c = shorts::wide(order[head]);
+        let c = usize::from(order[head]);
         tail = spread(n, c, edges, parent, order, tail);
         head += 1;
     }
@@ -142,7 +135,7 @@ pub fn find_parents(n: usize, edges: &[u64]) -> RowNumbers
     requires { Sized n edges.now ROWS ROWS }
     ensures { Parented n (pair_of n edges.now) result }
 {
-    let mut parent = [crate::NONE; matrices::ROWS];
+    let mut parent = [NONE; matrices::ROWS];
     let mut order = [0u16; matrices::ROWS];
     search_from(0, n, edges, &mut parent, &mut order);
     parent
@@ -153,12 +146,10 @@ pub fn resolve(shadows: &mut [u16], groups: &[u16], m: usize)
     requires { Resolvable shadows.old groups.now m }
     ensures { Resolved shadows.old groups.now m shadows.new }
 {
-    let mut j: usize = 0;
-    while j < m {
-        let k = GroupId(shorts::wide(shadows[j]));
+    for j in 0..m {
+        let k = GroupId(usize::from(shadows[j]));
         let t = place_of_group(groups, k);
-        shadows[j] = shorts::narrow(t.0);
-        j += 1;
+        shadows[j] = t.0 as u16;
     }
 }
 
@@ -167,12 +158,10 @@ pub fn place_members(n: usize, number: &[u16], groups: &[u16], places: &mut [u16
     requires { (n ≤ length number.now) × (n ≤ length places.old) × ((g : ℕ) → g < n → get_or number.now g 0 < length groups.now) }
     ensures { places.new ≡ padded 0 (length places.old) (tab (λ g. get_or groups.now (get_or number.now g 0) 0) 0 n) }
 {
-    shorts::fill(places, 0);
-    let mut g: usize = 0;
-    while g < n {
+    places.fill(0);
+    for g in 0..n {
         let k = group_of(number, DatasetId(g));
         let t = place_of_group(groups, k);
-        places[g] = shorts::narrow(t.0);
-        g += 1;
+        places[g] = t.0 as u16;
     }
 }

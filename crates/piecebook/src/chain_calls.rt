@@ -28,7 +28,7 @@ pub fn chained(reply: Result<Answer, Refused>, steps: usize) -> PiecebookChainRe
         Ok(answer) => PiecebookChainResult {
             number: 0,
             place: 0,
-            answer: usize::from(verdicts::byte_of(answer)),
+            answer: usize::from(u8::from(answer)),
             steps,
         },
         Err(refused) => PiecebookChainResult {

@@ -18,6 +18,7 @@ ghost use Rattle.closure.specs.Apart.{Aparts};
 ghost use Rattle.replicates.specs.Writing.{Free, Writable, Begun, Followed, Judged};
 ghost use Rattle.replicates.specs.Sizes.{SEQUENCE, WINDOW};
 
+use closure::LeaderSteps;
 use matrices::{Matrix, RowNumbers};
 use outcomes::Counts;
 use records::{Refusal, Refused};
@@ -155,7 +156,7 @@ fn find_aparts(
     requires { Free book.now n voids.now e.now order.now lead.now d.now }
     ensures { Aparts (marked book.now) n (facts book.now) a.new }
 {
-    closure::apart::apart_rows(book, n, voids, e, order, lead, d, t, a);
+    closure::apart::apart_rows(book, n, voids, LeaderSteps { e, order, lead }, d, t, a);
 }
 
 // The bytes of a part that fits, and the window behind it, from these rows.

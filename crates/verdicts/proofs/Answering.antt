@@ -1,7 +1,7 @@
 -- What tests and meetings of the closure's rows say of a claim, and of a run of records. Assumes nothing.
 use Prim.Native.Nat.{ℕ, zero, suc, ◌+◌, ◌-◌, ◌<◌, ◌≤◌}
 use mathlib.Core.Path.{◌≡◌, refl, sym, ap, ap₂, ◌∙◌}
-use mathlib.Core.Bool.{Bool, true, false, not, ◌&&◌, ◌||◌, or-false, or_assoc, or_comm, false≢true}
+use mathlib.Core.Bool.{Bool, true, false, not, ◌&&◌, ◌||◌, or_assoc, or_comm, false≢true}
 use mathlib.Core.List.{List}
 use native.Mathlib.Decide.{ℕ_discrete}
 use native.Mathlib.Numerals.{add-one}
@@ -71,30 +71,7 @@ module _ (x a b : Bool) (e : x ≡ a) where
   pub first-passed : (y : Bool) → x ≡ false → y ≡ b → y ≡ (a || b)
   first-passed y t f = f ∙ sym (ap (λ (v : Bool). v || b) (sym e ∙ t))
 
-  pub first-barred : x ≡ true → false ≡ (not a && b)
-  first-barred t = sym (ap (λ (v : Bool). not v && b) (sym e ∙ t))
-
-  pub first-free : (y : Bool) → x ≡ false → y ≡ b → y ≡ (not a && b)
-  first-free y t f = f ∙ sym (ap (λ (v : Bool). not v && b) (sym e ∙ t))
-
 -- ---- what the marks tell
-
-module _ (void : ℕ → Bool) (k a b : ℕ) (r : Bool) where
-  pub tells-part : k ≡ 1 → r ≡ void a → r ≡ by_marks void (fact_of k a b)
-  unfolding by_marks
-  tells-part e is = is ∙ sym (ap (by_marks void) (part_of k a b e))
-
-  pub tells-apart : k ≡ 2 → r ≡ (void a || void b) → r ≡ by_marks void (fact_of k a b)
-  unfolding by_marks
-  tells-apart e is = is ∙ sym (ap (by_marks void) (apart_of k a b e))
-
-  pub tells-meets : k ≡ 3 → r ≡ false → r ≡ by_marks void (fact_of k a b)
-  unfolding by_marks
-  tells-meets e is = is ∙ sym (ap (by_marks void) (meets-of k a b e))
-
-  pub tells-notpart : (k ≡ 1 → ⊥) → (k ≡ 2 → ⊥) → (k ≡ 3 → ⊥) → r ≡ (not (void a) && void b) → r ≡ by_marks void (fact_of k a b)
-  unfolding by_marks
-  tells-notpart x y z is = is ∙ sym (ap (by_marks void) (notpart-of k a b x y z))
 
 -- of two pieces not marked the marks tell nothing; of others, a fact or its opposite
 marks-silent : (void : ℕ → Bool) (f : Fact) → (void (left f) || void (right f)) ≡ false → by_marks void f ≡ false
@@ -232,27 +209,6 @@ module _ (void : ℕ → Bool) (d u p t q : List ℕ) (k a b : ℕ) (v : Bool) (
     answered-open g = record { is = λ n fs B C la lb. sym (told n fs B C la lb ∙ ap (judge false) g) }
 
 -- ---- contradiction, record by record
-
-module _ (void : ℕ → Bool) (d t : List ℕ) (r : Record) (v : Bool) where
-  pub opposed-part : r.kind ≡ 1 → v ≡ (not (void r.a) && void r.b) → v ≡ opposed void d t r
-  unfolding opposed
-  opposed-part e is = is ∙ sym (rw e (or-false _ ∙ or-false _))
-
-  pub opposed-apart : r.kind ≡ 2 → v ≡ common t r.a d r.b → v ≡ opposed void d t r
-  unfolding opposed
-  opposed-apart e is = is ∙ sym (rw e (or-false _))
-
-  pub opposed-meets : r.kind ≡ 3 → v ≡ (void r.a || void r.b) → v ≡ opposed void d t r
-  unfolding opposed
-  opposed-meets e is = is ∙ sym (rw e (or-false _))
-
-  pub opposed-notpart : r.kind ≡ 4 → v ≡ (void r.a || bit_of d r.b r.a) → v ≡ opposed void d t r
-  unfolding opposed
-  opposed-notpart e is = is ∙ sym (rw e)
-
-  pub opposed-never : (r.kind ≡ 1 → ⊥) → (r.kind ≡ 2 → ⊥) → (r.kind ≡ 3 → ⊥) → (r.kind ≡ 4 → ⊥) → v ≡ false → v ≡ opposed void d t r
-  unfolding opposed
-  opposed-never x y z w is = is ∙ sym (rw (ne_eqb r.kind 1 x, ne_eqb r.kind 2 y, ne_eqb r.kind 3 z, ne_eqb r.kind 4 w))
 
 any-or : (p q : ℕ → Bool) (n : ℕ) → (any_below p n || any_below q n) ≡ any_below (λ x. p x || q x) n
 unfolding any_below

@@ -16,75 +16,68 @@ ghost use Rattle.records.specs.Sizes.{NOTPART, PART, PIECES};
 use records::Record;
 
 // What a book says of a claim.
-#[derive(Clone, Copy)]
+#[derive(Clone, Copy, Debug, PartialEq, Eq)]
 pub enum Answer {
     Follows,
     Denied,
     Open,
 }
 
-// Document 01's byte of an answer.
-pub fn byte_of(answer: Answer) -> u8
-    ensures { result ≡ answer_byte answer }
-{
-    match answer {
-        Answer::Follows => 1,
-        Answer::Denied => 2,
-        Answer::Open => 3,
+// The byte of an answer in lists and on pages.
+impl From<Answer> for u8 {
+    ghost use Rattle.verdicts.specs.Answers.{answer_byte};
+
+    ghost from_gives = { λ answer byte. byte ≡ answer_byte answer };
+
+    fn from(answer: Answer) -> u8 {
+        match answer {
+            Answer::Follows => 1,
+            Answer::Denied => 2,
+            Answer::Open => 3,
+        }
     }
 }
 
 // Whether one of two pieces is marked.
+#[tactic(auto, unfolding(closure::specs::Void::void_of))]
 fn either_marked(voids: &[u64], a: usize, b: usize) -> bool
     requires { (length voids.now ≡ ROW-WORDS) × (a < PIECES) × (b < PIECES) }
     ensures { result ≡ (void_of voids.now a || void_of voids.now b) }
 {
-    if matrices::has(voids, a) {
-        return true;
-    }
-    matrices::has(voids, b)
+    matrices::has(voids, a) || matrices::has(voids, b)
 }
 
 // Whether of two pieces the second alone is marked.
+#[tactic(auto, unfolding(closure::specs::Void::void_of))]
 fn second_marked(voids: &[u64], a: usize, b: usize) -> bool
     requires { (length voids.now ≡ ROW-WORDS) × (a < PIECES) × (b < PIECES) }
     ensures { result ≡ (not (void_of voids.now a) && void_of voids.now b) }
 {
-    if matrices::has(voids, a) {
-        return false;
-    }
-    matrices::has(voids, b)
+    !matrices::has(voids, a) && matrices::has(voids, b)
 }
 
 // Whether a is marked, or part of b by the stored facts.
+#[tactic(auto, unfolding(closure::specs::Void::void_of))]
 fn part_or_marked(voids: &[u64], d: &[u64], a: usize, b: usize) -> bool
     requires { (length voids.now ≡ ROW-WORDS) × (IsMatrix d.now) × (a < PIECES) × (b < PIECES) }
     ensures { result ≡ (void_of voids.now a || bit_of d.now b a) }
 {
-    if matrices::has(voids, a) {
-        return true;
-    }
-    matrices::test(d, b, a)
+    matrices::has(voids, a) || matrices::test(d, b, a)
 }
 
 // Whether the marks and the closure contradict a record.
+#[tactic(auto, unfolding(crate::specs::Opposed::opposed, closure::specs::Void::void_of))]
 fn opposes(r: Record, voids: &[u64], d: &[u64], t: &[u64]) -> bool
     requires { (length voids.now ≡ ROW-WORDS) × (IsMatrix d.now) × (IsMatrix t.now) × (PART ≤ r.kind → r.kind ≤ NOTPART → (r.a < PIECES) × (r.b < PIECES)) }
     ensures { result ≡ opposed (void_of voids.now) d.now t.now r }
 {
-    if r.kind == records::PART {
-        return second_marked(voids, r.a, r.b);
+    match r.kind {
+        records::PART => second_marked(voids, r.a, r.b),
+        records::APART => matrices::meet(t, r.a, d, r.b),
+        records::MEETS => either_marked(voids, r.a, r.b),
+        records::NOTPART => part_or_marked(voids, d, r.a, r.b),
+        _ => false,
     }
-    if r.kind == records::APART {
-        return matrices::meet(t, r.a, d, r.b);
-    }
-    if r.kind == records::MEETS {
-        return either_marked(voids, r.a, r.b);
-    }
-    if r.kind == records::NOTPART {
-        return part_or_marked(voids, d, r.a, r.b);
-    }
-    false
 }
 
 // Whether the run is contradictory, where d and t are those of its facts: only stored facts are looked at.
@@ -92,33 +85,26 @@ pub fn clashes(run: &[u8], voids: &[u64], d: &[u64], t: &[u64]) -> bool
     requires { (length voids.now ≡ ROW-WORDS) × (IsMatrix d.now) × (IsMatrix t.now) × AllWithin PIECES (facts run.now) }
     ensures { Clashing (void_of voids.now) (facts run.now) d.now t.now result }
 {
-    let n = run.len() / records::RECORD_BYTES;
-    let mut i: usize = 0;
-    while i < n {
-        let r = records::record_at(run, i);
-        if opposes(r, voids, d, t) {
+    for i in 0..run.len() / records::RECORD_BYTES {
+        if opposes(records::record_at(run, i), voids, d, t) {
             return true;
         }
-        i += 1;
     }
     false
 }
 
 // Whether the marks alone tell the fact of a kind about a and b.
+#[tactic(auto, unfolding(crate::specs::ByMarks::by_marks, closure::specs::Void::void_of, rules::specs::Fact::fact_of))]
 pub fn marks_tell(kind: u8, a: usize, b: usize, voids: &[u64]) -> bool
     requires { (length voids.now ≡ ROW-WORDS) × (a < PIECES) × (b < PIECES) }
     ensures { result ≡ by_marks (void_of voids.now) (fact_of kind a b) }
 {
-    if kind == records::PART {
-        return matrices::has(voids, a);
+    match kind {
+        records::PART => matrices::has(voids, a),
+        records::APART => either_marked(voids, a, b),
+        records::MEETS => false,
+        _ => second_marked(voids, a, b),
     }
-    if kind == records::APART {
-        return either_marked(voids, a, b);
-    }
-    if kind == records::MEETS {
-        return false;
-    }
-    second_marked(voids, a, b)
 }
 
 // Whether the fact of a kind about two pieces that are not marked has a derivation from the facts whose closure is lent.
@@ -135,16 +121,12 @@ fn derived(
     requires { (a < PIECES) × (b < PIECES) × (IsMatrix d.now) × (IsMatrix u.now) × (IsMatrix p.now) × (IsMatrix t.now) × (IsMatrix q.now) }
     ensures { Derived d.now u.now p.now t.now q.now kind a b result }
 {
-    if kind == records::PART {
-        return matrices::test(d, b, a);
+    match kind {
+        records::PART => matrices::test(d, b, a),
+        records::APART => matrices::meet(p, a, u, b),
+        records::MEETS => matrices::meet(t, a, d, b),
+        _ => matrices::meet(q, a, u, b),
     }
-    if kind == records::APART {
-        return matrices::meet(p, a, u, b);
-    }
-    if kind == records::MEETS {
-        return matrices::meet(t, a, d, b);
-    }
-    matrices::meet(q, a, u, b)
 }
 
 // The answer to a claim of a kind 1 to 4 about two pieces of which one is marked: the marks decide it.
@@ -153,9 +135,10 @@ fn answer_marked(kind: u8, a: usize, b: usize, voids: &[u64]) -> Answer
     ensures { (d u p t q : List ℕ) → Answered (void_of voids.now) d u p t q kind a b (answer_byte result) }
 {
     if marks_tell(kind, a, b, voids) {
-        return Answer::Follows;
+        Answer::Follows
+    } else {
+        Answer::Denied
     }
-    Answer::Denied
 }
 
 // The answer to a claim of a kind 1 to 4. The kinds of opposite claims add up to 5.
@@ -174,13 +157,12 @@ pub fn answer_to(
     ensures { Answered (void_of voids.now) d.now u.now p.now t.now q.now kind a b (answer_byte result) }
 {
     if either_marked(voids, a, b) {
-        return answer_marked(kind, a, b, voids);
+        answer_marked(kind, a, b, voids)
+    } else if derived(kind, a, b, d, u, p, t, q) {
+        Answer::Follows
+    } else if derived(records::OPPOSITES - kind, a, b, d, u, p, t, q) {
+        Answer::Denied
+    } else {
+        Answer::Open
     }
-    if derived(kind, a, b, d, u, p, t, q) {
-        return Answer::Follows;
-    }
-    if derived(records::OPPOSITES - kind, a, b, d, u, p, t, q) {
-        return Answer::Denied;
-    }
-    Answer::Open
 }

@@ -21,7 +21,7 @@ answer_to-answer-requires c =
 
 pub loop-i-preserved : goal.loop-i-preserved
 loop-i-preserved c =
-    standing-read _ _ _ _ _ _ _ _ _ _ _ _ _ _ c.record_at-claim.ensures c.byte_of.ensures (omega (arith, c.requires.rooms)) c.if-claim-origin.false c.loop-i.invariant c.answer_to-answer.ensures
+    standing-read _ _ _ _ _ _ _ _ _ _ _ _ _ _ c.record_at-claim.ensures c.from.ensures (omega (arith, c.requires.rooms)) c.if-claim-origin.false c.loop-i.invariant c.answer_to-answer.ensures
 
 pub returns : goal.returns
 returns c = standing-all _ _ _ _ _ _ _ _ _ _ c.loop-i.i (omega arith) c.loop-i.invariant

@@ -3,9 +3,6 @@ use borrow.Author.Rules.{rules}
 use Rattle.closure.proofs.Holding.{whole-holds}
 use Rattle.closure.proofs.complete.Goals as goal
 
-pub join_wholes-requires : goal.join_wholes-requires
-join_wholes-requires c = let P = c.requires in let S = P.2 in (search rules, S.sized, P.0.fits, S.sorted, S.led)
-
 pub returns : goal.returns
 returns c =
     let P = c.requires in (

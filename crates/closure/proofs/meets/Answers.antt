@@ -3,11 +3,5 @@ use borrow.Author.Rules.{rules}
 use Rattle.closure.proofs.Holding.{meet-holds}
 use Rattle.closure.proofs.meets.Goals as goal
 
-pub store-requires : goal.store-requires
-store-requires c = (search rules, search rules, search rules, c.requires.0)
-
-pub diagonal_unmarked-requires : goal.diagonal_unmarked-requires
-diagonal_unmarked-requires c = (c.requires.1.sized, search rules, search rules)
-
 pub returns : goal.returns
 returns c = meet-holds _ _ (search rules) _ (search rules) c.store.ensures c.diagonal_unmarked.ensures

@@ -3,9 +3,6 @@ use borrow.Author.Rules.{rules}
 use Rattle.closure.proofs.Holding.{away-holds}
 use Rattle.closure.proofs.parting.Goals as goal
 
-pub store-requires : goal.store-requires
-store-requires c = (search rules, search rules, search rules, c.requires.0)
-
 pub returns : goal.returns
 returns c =
     let P = c.requires in

@@ -5,28 +5,10 @@ use Rattle.groups.proofs.Fits.{fit}
 use Rattle.groups.proofs.Making.{arrangeable, grouped}
 use Rattle.groups.proofs.group.Goals as goal
 
-pub search-done-requires : goal.search-done-requires
-search-done-requires c =
-    let asked : Searchable c.args.n c.args.e.now 2048 = record { some = c.requires.0.some; few = c.requires.0.few; matrix = c.requires.0.matrix; sized = refl; crowned = c.requires.0.crowned } in
-    asked
-
-pub number_groups-m-requires : goal.number_groups-m-requires
-number_groups-m-requires c =
-    record { few = c.requires.0.few; numbers = c.requires.0.sized; leads = c.requires.1; heads = c.requires.2; small = c.search-done.ensures.ended }
-
 pub arrange-requires : goal.arrange-requires
 arrange-requires c =
     let asked : Searchable c.args.n c.args.e.now 2048 = record { some = c.requires.0.some; few = c.requires.0.few; matrix = c.requires.0.matrix; sized = refl; crowned = c.requires.0.crowned } in
     arrangeable c.args.n c.args.e.now 2048 asked _ c.search-done.ensures _ _ _ c.number_groups-m.ensures (fit _ _ _ c.requires.0.few c.number_groups-m.auto.lead c.requires.1) _ (c.number_groups-m.auto.heads ∙ c.requires.2)
-
-pub shape_of-number : goal.shape_of-number
-shape_of-number c = c.number_groups-m.auto.number
-
-pub shape_of-lead : goal.shape_of-lead
-shape_of-lead c = c.number_groups-m.auto.lead
-
-pub shape_of-order : goal.shape_of-order
-shape_of-order c = c.arrange.auto.order ∙ c.number_groups-m.auto.heads
 
 pub returns : goal.returns
 returns c =

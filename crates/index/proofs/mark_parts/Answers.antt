@@ -4,17 +4,13 @@ use mathlib.Core.Path.{refl, ◌∙◌}
 use Prim.Native.Nat.{◌+◌}
 use native.Mathlib.Omega.{arith}
 use lib.ListN.{set, length-set}
-use Rattle.index.proofs.Joins.{mark-start, mark-next, mark-more, mark-done}
-use borrow.Author.Rules.{rules}
+use Rattle.index.proofs.Joins.{mark-start, mark-next, mark-more}
 use Rattle.index.proofs.mark_parts.Goals as goal
 
 pub loop-p-init : goal.loop-p-init
 loop-p-init c =
     let M = mark-next _ _ _ _ 0 _ (mark-start _ _ _) c.next_bit-p.ensures in
     (refl, M.0, M.1)
-
-pub next_bit-p-requires-in-loop-p : goal.next_bit-p-requires-in-loop-p
-next_bit-p-requires-in-loop-p c = (search rules, search rules, omega arith)
 
 pub loop-p-smaller : goal.loop-p-smaller
 loop-p-smaller c =
@@ -26,6 +22,3 @@ loop-p-preserved c =
     let L = c.loop-p in
     let N = mark-next _ _ _ (set L.held L.p 1) (L.p + 1) _ (mark-more _ _ _ L.held L.p L.invariant.1 (L.invariant.2 (omega arith)) (omega arith) (omega arith)) c.next_bit-p-in-loop-p.ensures in
     (length-set L.held L.p 1 ∙ L.invariant.0, N.0, N.1)
-
-pub returns : goal.returns
-returns c = let L = c.loop-p in mark-done _ _ _ L.held L.p L.invariant.1 (omega arith) L.invariant.0

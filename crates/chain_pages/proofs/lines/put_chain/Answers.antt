@@ -7,4 +7,4 @@ use Rattle.chain_pages.proofs.lines.put_chain.Goals as goal
 
 pub returns : goal.returns
 unfolding chain_text
-returns c = chain (put_as (ap (answer_line _) c.byte_of.ensures) c.put_answered-at.ensures) c.put_steps.ensures
+returns c = chain (put_as (ap (answer_line _) c.from.ensures) c.put_answered-at.ensures) c.put_steps.ensures

@@ -3,8 +3,5 @@ use Rattle.closure.proofs.Aparts.{told-holds}
 use borrow.Author.Rules.{rules}
 use Rattle.closure.proofs.apart.apart_told.Goals as goal
 
-pub store-requires : goal.store-requires
-store-requires c = (search rules, search rules, search rules, c.requires.0)
-
 pub returns : goal.returns
 returns c = told-holds _ _ _ (search rules) (search rules) c.store.ensures c.part_marked.ensures

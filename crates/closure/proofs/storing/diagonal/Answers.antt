@@ -1,22 +1,10 @@
--- `storing::diagonal` meets its contract: the invariant is the part of the diagonal passed. Assumes nothing.
-use native.Mathlib.Omega.{arith}
+-- `storing::diagonal` meets its contract: the test is true of every piece. Assumes nothing.
 use borrow.Author.Rules.{rules}
-use mathlib.Core.Path.{◌≡◌, refl}
-use mathlib.Core.Bool.{and-false}
-use lib.Dec.{eqb}
-use borrow.Author.Tests.{le-ltb}
-use Rattle.closure.proofs.Grows.{grown-none, grown-same, grown-two, grown-insert, diagonal-more}
+use mathlib.Core.Path.{ap}
+use mathlib.Core.Bool.{Bool, true, ◌&&◌, and-true}
+use lib.Dec.{eqb, ltb}
+use Rattle.closure.proofs.Grows.{grown-same}
 use Rattle.closure.proofs.storing.diagonal.Goals as goal
 
-pub loop-i-init : goal.loop-i-init
-loop-i-init c = (search rules, refl, grown-none _ _ (λ x y. rw (le-ltb x 0 (omega arith)) (and-false (eqb x y))))
-
-pub loop-i-preserved : goal.loop-i-preserved
-loop-i-preserved c =
-    let L = c.loop-i in
-    (search rules, search rules, grown-same (diagonal-more L.i) (grown-two L.invariant.2 (grown-insert _ _ _ _ c.insert.ensures)))
-
 pub returns : goal.returns
-returns c =
-    let e : c.loop-i.i ≡ c.args.n = omega arith in
-    rw e at c.loop-i.invariant.2
+returns c = grown-same (λ x y. ap (λ (t : Bool). eqb x y && t) (and-true (ltb x c.args.n))) (c.diagonal_where.ensures (λ x. true) (record { at = λ i b l p. search rules }))

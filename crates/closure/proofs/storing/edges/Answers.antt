@@ -3,8 +3,5 @@ use borrow.Author.Rules.{rules}
 use Rattle.closure.proofs.Holding.{edge-holds}
 use Rattle.closure.proofs.storing.edges.Goals as goal
 
-pub store-requires : goal.store-requires
-store-requires c = (search rules, search rules, search rules, c.requires.0)
-
 pub returns : goal.returns
 returns c = edge-holds _ _ (search rules) (search rules) c.store.ensures c.crown.ensures

@@ -1,5 +1,4 @@
 -- `storing::step_stored` meets its contract: the invariant is that the matrix has the steps of the records passed. Assumes nothing.
-use Prim.Native.Nat.{◌≤◌, ◌-◌, ◌/◌}
 use mathlib.Core.Path.{◌≡◌}
 use lib.ListN.{length}
 use Rattle.closure.specs.Stored.{stepping}
@@ -8,7 +7,4 @@ use Rattle.closure.proofs.storing.step_stored.Given as goal
 
 abbrev pub invariant-loop-i : goal.invariant-loop-i
 invariant-loop-i l =
-    (l.count ≡ length l.run / 6) × (l.i ≤ l.count) × (length l.e ≡ 65536) × Storing l.n l.run 1 (stepping l.lead) l.e l.i
-
-abbrev pub decreases-loop-i : goal.decreases-loop-i
-decreases-loop-i l = l.count - l.i
+    (length l.e ≡ 65536) × Storing l.n l.run 1 (stepping l.lead) l.e l.i

@@ -3,8 +3,5 @@ use borrow.Author.Rules.{rules}
 use Rattle.closure.proofs.Holding.{step-holds}
 use Rattle.closure.proofs.storing.steps.Goals as goal
 
-pub step_stored-requires : goal.step_stored-requires
-step_stored-requires c = let P = c.requires in (P.0, P.1.room, P.1.below, search rules)
-
 pub returns : goal.returns
 returns c = step-holds _ _ (search rules) _ (search rules) c.step_stored.ensures c.crown_leaders.ensures

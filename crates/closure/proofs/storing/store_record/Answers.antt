@@ -1,23 +1,9 @@
 -- `storing::store_record` meets its contract: the bits of the record in one order and in the other. Assumes nothing.
-use borrow.Author.Rules.{rules}
-use borrow.Author.Tests.{eq-eqb, ne_eqb}
-use Rattle.closure.proofs.Grows.{grown-off, grown-record}
+use borrow.Author.Tests.{eq-eqb}
+use Rattle.closure.proofs.Grows.{grown-record}
 use Rattle.closure.proofs.storing.store_record.Goals as goal
 
 pub returns-then-r-kind : goal.returns-then-r-kind
-returns-then-r-kind c = grown-off _ _ _ (ne_eqb _ _ c.if-r-kind.true)
-
-pub insert_where-requires : goal.insert_where-requires
-insert_where-requires c =
-    let w = c.requires.1 c.if-r-kind.false in
-    (search rules, w.0, w.1)
-
-pub insert_where-requires-2 : goal.insert_where-requires-2
-insert_where-requires-2 c =
-    let w = c.requires.1 c.if-r-kind.false in
-    (search rules, w.1, w.0)
-
-pub returns : goal.returns
-returns c =
+returns-then-r-kind c =
     let A = c.args in
-    grown-record _ _ _ _ A.straight A.swapped A.r.a A.r.b (eq-eqb A.r.kind A.kind c.if-r-kind.false) c.insert_where.ensures c.insert_where-2.ensures
+    grown-record _ _ _ _ A.straight A.swapped A.r.a A.r.b (eq-eqb A.r.kind A.kind c.if-r-kind.true) c.insert_where.ensures c.insert_where-then-r-kind.ensures

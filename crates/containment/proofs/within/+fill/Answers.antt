@@ -1,58 +1,28 @@
 -- `within::fill` meets its contract: by how many rows are not filled. Assumes nothing.
 use native.Mathlib.Omega.{arith}
 use mathlib.Core.List.{List, ◌∷◌}
-use mathlib.Core.Path.{◌≡◌, refl, sym, ◌∙◌}
+use mathlib.Core.Path.{◌≡◌, sym, ◌∙◌}
 use Prim.Native.Nat.{ℕ, ◌<◌}
 use lib.ListN.{length}
 use Rattle.containment.specs.Filling.{Setting, From}
 use Rattle.containment.proofs.Rows.{Started, started, Walking, Part, place-small-at, begin, uncover, small, leading, from-it, more, done, fewer}
 use Rattle.containment.proofs.within.+fill.Goals as goal
 
-pub test-requires : goal.test-requires
-test-requires t c =
-    let setting : Setting c.args.places.now c.args.ends.now c.args.turned.now = c.requires.1.setting in
-    let in_rows : c.args.h.0 < 2048 = omega (arith, c.requires.1.below, setting.few) in
-    (c.requires.0, in_rows, in_rows)
-
-pub shape_of-rows-then-test : goal.shape_of-rows-then-test
-shape_of-rows-then-test t c = refl
-
-pub returns-then-test : goal.returns-then-test
-returns-then-test t c =
-    λ s F l d. record { own = sym c.test.ensures ∙ c.if-test.true; from = F; kept = λ r j a b. refl; grown = λ r b i. i }
-
-pub insert-requires : goal.insert-requires
-insert-requires t c =
-    let setting : Setting c.args.places.now c.args.ends.now c.args.turned.now = c.requires.1.setting in
-    let in_rows : c.args.h.0 < 2048 = omega (arith, c.requires.1.below, setting.few) in
-    (c.requires.0, in_rows, in_rows)
-
-pub place_of-place-requires : goal.place_of-place-requires
-place_of-place-requires t c =
-    let setting : Setting c.args.places.now c.args.ends.now c.args.turned.now = c.requires.1.setting in
-    omega (arith, c.requires.1.below, setting.room)
-
-pub overflow_add-q : goal.overflow_add-q
-overflow_add-q t c =
-    let setting : Setting c.args.places.now c.args.ends.now c.args.turned.now = c.requires.1.setting in
-    let in-ends : c.place_of-place.result.0 < length c.args.ends.now = place-small-at setting c.args.h.0 c.requires.1.below c.place_of-place.result.0 c.place_of-place.ensures in
-    omega (arith, in-ends, c.well_formed)
-
-pub end_at-end-requires : goal.end_at-end-requires
-end_at-end-requires t c =
+pub bounds-ends-place : goal.bounds-ends-place
+bounds-ends-place t c =
     let setting : Setting c.args.places.now c.args.ends.now c.args.turned.now = c.requires.1.setting in
     let in-ends : c.place_of-place.result.0 < length c.args.ends.now = place-small-at setting c.args.h.0 c.requires.1.below c.place_of-place.result.0 c.place_of-place.ensures in
     in-ends
 
 pub loop-q-init : goal.loop-q-init
-loop-q-init t c = (c.insert.auto.m ∙ c.requires.0, λ s l S. begin s _ l _ _ _ c.place_of-place.ensures c.end_at-end.ensures S)
+loop-q-init t c = (c.insert.auto.m ∙ c.requires.0, λ s l S. begin s _ l _ _ _ c.place_of-place.ensures c.from.ensures S)
 
-pub piece_at-t-requires : goal.piece_at-t-requires
-piece_at-t-requires t c =
+pub bounds-turned-q : goal.bounds-turned-q
+bounds-turned-q t c =
     let setting : Setting c.args.places.now c.args.ends.now c.args.turned.now = c.requires.1.setting in
     let begun : (s : Setting c.args.places.now c.args.ends.now c.args.turned.now) (l : c.args.h.0 < s.n)
     → From s c.args.rows.now c.args.h.0 → s.leader (s.number c.args.h.0) ≡ c.args.h.0 → Started s c.args.h.0 l c.insert.new.m = λ s. λ l. λ F. λ d. started s c.args.h.0 l c.args.rows.now c.insert.new.m F d c.insert.ensures in
-    let walk : Walking setting c.args.h.0 c.requires.1.below c.insert.new.m c.loop-q.rows c.end_at-end.result.0 c.loop-q.q.0 = c.loop-q.invariant.1 setting c.requires.1.below (begun _ _ c.requires.1.from c.requires.1.leads) in
+    let walk : Walking setting c.args.h.0 c.requires.1.below c.insert.new.m c.loop-q.rows c.from.result c.loop-q.q.0 = c.loop-q.invariant.1 setting c.requires.1.below (begun _ _ c.requires.1.from c.requires.1.leads) in
     let part_at : (x : ℕ) × (xs : List ℕ) × (walk.todo ≡ x ∷ xs) × Part setting c.args.h.0 c.requires.1.below c.loop-q.q.0 x xs walk.deep = uncover _ _ _ walk c.loop-q-test.true in
     part_at.3.in-turned
 
@@ -61,10 +31,10 @@ fill-requires t c =
     let setting : Setting c.args.places.now c.args.ends.now c.args.turned.now = c.requires.1.setting in
     let begun : (s : Setting c.args.places.now c.args.ends.now c.args.turned.now) (l : c.args.h.0 < s.n)
     → From s c.args.rows.now c.args.h.0 → s.leader (s.number c.args.h.0) ≡ c.args.h.0 → Started s c.args.h.0 l c.insert.new.m = λ s. λ l. λ F. λ d. started s c.args.h.0 l c.args.rows.now c.insert.new.m F d c.insert.ensures in
-    let walk : Walking setting c.args.h.0 c.requires.1.below c.insert.new.m c.loop-q.rows c.end_at-end.result.0 c.loop-q.q.0 = c.loop-q.invariant.1 setting c.requires.1.below (begun _ _ c.requires.1.from c.requires.1.leads) in
+    let walk : Walking setting c.args.h.0 c.requires.1.below c.insert.new.m c.loop-q.rows c.from.result c.loop-q.q.0 = c.loop-q.invariant.1 setting c.requires.1.below (begun _ _ c.requires.1.from c.requires.1.leads) in
     let w = walk in
     let b = c.loop-q-test.true in
-    let is = c.piece_at-t.ensures in (
+    let is = c.from-in-loop-q.ensures in (
       omega (arith, fewer _ _ _ w c.args.rows.now (sym c.test.ensures ∙ c.if-test.false) c.insert.ensures, c.decreases),
       (c.loop-q.invariant.0, record { setting = setting; below = small _ _ _ w b is; leads = leading _ _ _ w b is; from = from-it _ _ _ w b is }),
     )
@@ -75,15 +45,15 @@ union_within-requires t c =
     let in_rows : c.args.h.0 < 2048 = omega (arith, c.requires.1.below, setting.few) in
     let begun : (s : Setting c.args.places.now c.args.ends.now c.args.turned.now) (l : c.args.h.0 < s.n)
     → From s c.args.rows.now c.args.h.0 → s.leader (s.number c.args.h.0) ≡ c.args.h.0 → Started s c.args.h.0 l c.insert.new.m = λ s. λ l. λ F. λ d. started s c.args.h.0 l c.args.rows.now c.insert.new.m F d c.insert.ensures in
-    let walk : Walking setting c.args.h.0 c.requires.1.below c.insert.new.m c.loop-q.rows c.end_at-end.result.0 c.loop-q.q.0 = c.loop-q.invariant.1 setting c.requires.1.below (begun _ _ c.requires.1.from c.requires.1.leads) in
-    (c.fill.auto.rows ∙ c.loop-q.invariant.0, in_rows, omega (arith, small _ _ _ walk c.loop-q-test.true c.piece_at-t.ensures, setting.few))
+    let walk : Walking setting c.args.h.0 c.requires.1.below c.insert.new.m c.loop-q.rows c.from.result c.loop-q.q.0 = c.loop-q.invariant.1 setting c.requires.1.below (begun _ _ c.requires.1.from c.requires.1.leads) in
+    (c.fill.auto.rows ∙ c.loop-q.invariant.0, in_rows, omega (arith, small _ _ _ walk c.loop-q-test.true c.from-in-loop-q.ensures, setting.few))
 
-pub end_at-q-requires : goal.end_at-q-requires
-end_at-q-requires t c =
+pub bounds-ends-q : goal.bounds-ends-q
+bounds-ends-q t c =
     let setting : Setting c.args.places.now c.args.ends.now c.args.turned.now = c.requires.1.setting in
     let begun : (s : Setting c.args.places.now c.args.ends.now c.args.turned.now) (l : c.args.h.0 < s.n)
     → From s c.args.rows.now c.args.h.0 → s.leader (s.number c.args.h.0) ≡ c.args.h.0 → Started s c.args.h.0 l c.insert.new.m = λ s. λ l. λ F. λ d. started s c.args.h.0 l c.args.rows.now c.insert.new.m F d c.insert.ensures in
-    let walk : Walking setting c.args.h.0 c.requires.1.below c.insert.new.m c.loop-q.rows c.end_at-end.result.0 c.loop-q.q.0 = c.loop-q.invariant.1 setting c.requires.1.below (begun _ _ c.requires.1.from c.requires.1.leads) in
+    let walk : Walking setting c.args.h.0 c.requires.1.below c.insert.new.m c.loop-q.rows c.from.result c.loop-q.q.0 = c.loop-q.invariant.1 setting c.requires.1.below (begun _ _ c.requires.1.from c.requires.1.leads) in
     let part_at : (x : ℕ) × (xs : List ℕ) × (walk.todo ≡ x ∷ xs) × Part setting c.args.h.0 c.requires.1.below c.loop-q.q.0 x xs walk.deep = uncover _ _ _ walk c.loop-q-test.true in
     part_at.3.in-ends
 
@@ -92,22 +62,19 @@ loop-q-smaller t c =
     let setting : Setting c.args.places.now c.args.ends.now c.args.turned.now = c.requires.1.setting in
     let begun : (s : Setting c.args.places.now c.args.ends.now c.args.turned.now) (l : c.args.h.0 < s.n)
     → From s c.args.rows.now c.args.h.0 → s.leader (s.number c.args.h.0) ≡ c.args.h.0 → Started s c.args.h.0 l c.insert.new.m = λ s. λ l. λ F. λ d. started s c.args.h.0 l c.args.rows.now c.insert.new.m F d c.insert.ensures in
-    let walk : Walking setting c.args.h.0 c.requires.1.below c.insert.new.m c.loop-q.rows c.end_at-end.result.0 c.loop-q.q.0 = c.loop-q.invariant.1 setting c.requires.1.below (begun _ _ c.requires.1.from c.requires.1.leads) in
+    let walk : Walking setting c.args.h.0 c.requires.1.below c.insert.new.m c.loop-q.rows c.from.result c.loop-q.q.0 = c.loop-q.invariant.1 setting c.requires.1.below (begun _ _ c.requires.1.from c.requires.1.leads) in
     let part_at : (x : ℕ) × (xs : List ℕ) × (walk.todo ≡ x ∷ xs) × Part setting c.args.h.0 c.requires.1.below c.loop-q.q.0 x xs walk.deep = uncover _ _ _ walk c.loop-q-test.true in
-    omega (arith, c.loop-q-test.true, part_at.3.forth, c.end_at-q.ensures, part_at.3.end_is)
+    omega (arith, c.loop-q-test.true, part_at.3.forth, c.from-in-loop-q-2.ensures, part_at.3.end_is)
 
 pub loop-q-preserved : goal.loop-q-preserved
 loop-q-preserved t c =
     let b = c.loop-q-test.true in
-    let is = c.piece_at-t.ensures in (
+    let is = c.from-in-loop-q.ensures in (
       c.union_within.auto.m ∙ c.fill.auto.rows ∙ c.loop-q.invariant.0,
       λ s k S.
           let w = c.loop-q.invariant.1 s k S in
-          more s _ k w b is (c.fill.ensures s (from-it s _ k w b is) (small s _ k w b is) (leading s _ k w b is)) c.union_within.ensures _ c.end_at-q.ensures,
+          more s _ k w b is (c.fill.ensures s (from-it s _ k w b is) (small s _ k w b is) (leading s _ k w b is)) c.union_within.ensures _ c.from-in-loop-q-2.ensures,
     )
-
-pub shape_of-rows : goal.shape_of-rows
-shape_of-rows t c = c.loop-q.invariant.0 ∙ sym c.requires.0
 
 pub returns : goal.returns
 returns t c =

@@ -1,15 +1,9 @@
 use borrow.Author.Rules.{rules}
 use native.Mathlib.Omega.{arith}
-use mathlib.Core.Path.{◌≡◌, refl, ◌∙◌}
+use mathlib.Core.Path.{◌≡◌, ◌∙◌}
 use Prim.Native.Nat.{◌<◌}
-use Rattle.containment.proofs.Rows.{leader-leads, filled_none, filled_more}
+use Rattle.containment.proofs.Rows.{leader-leads, filled_more}
 use Rattle.containment.proofs.within.fill_all.Goals as goal
-
-pub loop-g-init : goal.loop-g-init
-loop-g-init c = (search rules, refl, λ s e L F. filled_none s _ F)
-
-pub leader_of-h-requires : goal.leader_of-h-requires
-leader_of-h-requires c = omega (arith, c.requires.1.leads.0, c.requires.1.count)
 
 pub fill-requires : goal.fill-requires
 fill-requires c =

@@ -12,7 +12,7 @@ pub part_rows-requires : goal.part_rows-requires
 part_rows-requires c =
     let B = c.requires.0 in
     let W = steps-hold _ _ B _ _ _ _ c.grouped.ensures (search rules) _ c.steps.ensures in
-    ((search rules), W.sized, B.fits, W.sorted, W.led)
+    ((search rules), B.fits, record { matrix = W.sized; sorted = W.sorted; led = W.led })
 
 pub meeting-requires : goal.meeting-requires
 meeting-requires c =

@@ -2,9 +2,8 @@
 -- Assumes nothing.
 use mathlib.Core.Path.{refl, sym, ◌∙◌}
 use native.Mathlib.Omega.{arith}
-use Rattle.lists.proofs.Bounds.{inside, upto}
-use Rattle.index.proofs.Fits.{part_small, count_small, small_count, fits_one, fits-twice}
-use Rattle.index.proofs.Walking.{given, resized, stepping, start-room, walk_start, walk-room, walk-less, place-room, walk-node, mark-room, shadow-less, walk-shadow, leave_room, leave-less, walk-leave, walk_end}
+use Rattle.index.proofs.Fits.{count_small, fits_one, fits-twice}
+use Rattle.index.proofs.Walking.{given, resized, stepping, start-room, walk_start, walk-room, walk-less, walk-node, mark-room, shadow-less, walk-shadow, leave_room, leave-less, walk-leave, walk_end}
 use Rattle.index.proofs.building.walk.Goals as goal
 
 pub put-requires : goal.put-requires
@@ -17,10 +16,6 @@ loop-from-init c =
     let W = resized s.0 d refl refl refl in
     (W, walk_start (given W) (sym d) refl refl refl s.1 s.2 s.3 s.4 (record { same = d; bit = c.put.ensures }))
 
-pub next_bit-p-requires : goal.next_bit-p-requires
-next_bit-p-requires c =
-    let L = c.loop-from in (L.invariant.0.matrix, inside _ _ _ L.invariant.1.inner L.invariant.0.small, upto _ _ _ L.invariant.1.upto L.invariant.0.small)
-
 pub put-requires-then-p-n : goal.put-requires-then-p-n
 put-requires-then-p-n c =
     let L = c.loop-from in
@@ -28,28 +23,12 @@ put-requires-then-p-n c =
     let N = stepping L.invariant.0 L.invariant.1 c.next_bit-p.ensures in
     (walk-room R L.invariant.1 N c.if-p-n.true).1
 
-pub offset_bounds-parent-p : goal.offset_bounds-parent-p
-offset_bounds-parent-p c = fits-twice _ (part_small _ _ c.if-p-n.true c.loop-from.invariant.0.small)
-
-pub bounds-parent-p : goal.bounds-parent-p
-bounds-parent-p c = inside _ _ _ c.if-p-n.true c.loop-from.invariant.0.small
-
-pub narrow-requires : goal.narrow-requires
-narrow-requires c =
+pub overflow_cast-places : goal.overflow_cast-places
+overflow_cast-places c =
     let L = c.loop-from in
     let R = given L.invariant.0 in
     let N = stepping L.invariant.0 L.invariant.1 c.next_bit-p.ensures in
-    (walk-room R L.invariant.1 N c.if-p-n.true).2
-
-pub offset_bounds-places-p : goal.offset_bounds-places-p
-offset_bounds-places-p c = fits-twice _ (part_small _ _ c.if-p-n.true c.loop-from.invariant.0.small)
-
-pub bounds-places-p : goal.bounds-places-p
-bounds-places-p c =
-    let L = c.loop-from in
-    let R = given L.invariant.0 in
-    let N = stepping L.invariant.0 L.invariant.1 c.next_bit-p.ensures in
-    place-room R L.invariant.1 N c.if-p-n.true
+    omega (arith, (walk-room R L.invariant.1 N c.if-p-n.true).2)
 
 pub overflow_add-at : goal.overflow_add-at
 overflow_add-at c =
@@ -65,53 +44,50 @@ overflow_add-k c =
     let N = stepping L.invariant.0 L.invariant.1 c.next_bit-p.ensures in
     fits_one _ (count_small _ (walk-room R L.invariant.1 N c.if-p-n.true).2)
 
-pub loop-from-smaller-then-wide-c : goal.loop-from-smaller-then-wide-c
-loop-from-smaller-then-wide-c c =
+pub loop-from-smaller-then-from-c : goal.loop-from-smaller-then-from-c
+loop-from-smaller-then-from-c c =
     let L = c.loop-from in
     let R = given L.invariant.0 in
     let N = stepping L.invariant.0 L.invariant.1 c.next_bit-p.ensures in
-    walk-less R L.invariant.1 N c.if-p-n.true (sym c.wide.ensures.0 ∙ c.if-wide-c.true)
+    walk-less R L.invariant.1 N c.if-p-n.true (sym c.from.ensures ∙ c.if-from-c.true)
 
-pub loop-from-preserved-then-wide-c : goal.loop-from-preserved-then-wide-c
-loop-from-preserved-then-wide-c c =
+pub loop-from-preserved-then-from-c : goal.loop-from-preserved-then-from-c
+loop-from-preserved-then-from-c c =
     let L = c.loop-from in
     let R = given L.invariant.0 in
     let N = stepping L.invariant.0 L.invariant.1 c.next_bit-p.ensures in
-    (L.invariant.0, rw c.narrow.ensures (walk-node R L.invariant.1 N c.if-p-n.true (sym c.wide.ensures.0 ∙ c.if-wide-c.true) (record { same = c.put-then-p-n.auto.bytes; bit = c.put-then-p-n.ensures })))
+    (L.invariant.0, (walk-node R L.invariant.1 N c.if-p-n.true (sym c.from.ensures ∙ c.if-from-c.true) (record { same = c.put-then-p-n.auto.bytes; bit = c.put-then-p-n.ensures })))
 
-pub put-requires-else-wide-c : goal.put-requires-else-wide-c
-put-requires-else-wide-c c =
+pub put-requires-else-from-c : goal.put-requires-else-from-c
+put-requires-else-from-c c =
     let L = c.loop-from in
     let R = given L.invariant.0 in
     let N = stepping L.invariant.0 L.invariant.1 c.next_bit-p.ensures in
-    (mark-room R L.invariant.1 N c.if-p-n.true (λ x. c.if-wide-c.false (c.wide.ensures.0 ∙ x))).0
-
-pub narrow-requires-else-wide-c : goal.narrow-requires-else-wide-c
-narrow-requires-else-wide-c c = inside _ _ 65536 c.if-p-n.true (small_count _ c.loop-from.invariant.0.small)
+    (mark-room R L.invariant.1 N c.if-p-n.true (λ x. c.if-from-c.false (c.from.ensures ∙ x))).0
 
 pub offset_bounds-shadows-m : goal.offset_bounds-shadows-m
 offset_bounds-shadows-m c =
     let L = c.loop-from in
     let R = given L.invariant.0 in
     let N = stepping L.invariant.0 L.invariant.1 c.next_bit-p.ensures in
-    fits-twice _ (count_small _ (mark-room R L.invariant.1 N c.if-p-n.true (λ x. c.if-wide-c.false (c.wide.ensures.0 ∙ x))).2)
+    fits-twice _ (count_small _ (mark-room R L.invariant.1 N c.if-p-n.true (λ x. c.if-from-c.false (c.from.ensures ∙ x))).2)
 
 pub bounds-shadows-m : goal.bounds-shadows-m
 bounds-shadows-m c =
     let L = c.loop-from in
     let R = given L.invariant.0 in
     let N = stepping L.invariant.0 L.invariant.1 c.next_bit-p.ensures in
-    (mark-room R L.invariant.1 N c.if-p-n.true (λ x. c.if-wide-c.false (c.wide.ensures.0 ∙ x))).1
+    (mark-room R L.invariant.1 N c.if-p-n.true (λ x. c.if-from-c.false (c.from.ensures ∙ x))).1
 
-pub overflow_add-at-else-wide-c : goal.overflow_add-at-else-wide-c
-overflow_add-at-else-wide-c c =
+pub overflow_add-at-else-from-c : goal.overflow_add-at-else-from-c
+overflow_add-at-else-from-c c =
     let L = c.loop-from in
     let R = given L.invariant.0 in
     let N = stepping L.invariant.0 L.invariant.1 c.next_bit-p.ensures in
     omega (arith, (walk-room R L.invariant.1 N c.if-p-n.true).0)
 
-pub overflow_add-k-else-wide-c : goal.overflow_add-k-else-wide-c
-overflow_add-k-else-wide-c c =
+pub overflow_add-k-else-from-c : goal.overflow_add-k-else-from-c
+overflow_add-k-else-from-c c =
     let L = c.loop-from in
     let R = given L.invariant.0 in
     let N = stepping L.invariant.0 L.invariant.1 c.next_bit-p.ensures in
@@ -122,36 +98,21 @@ overflow_add-m c =
     let L = c.loop-from in
     let R = given L.invariant.0 in
     let N = stepping L.invariant.0 L.invariant.1 c.next_bit-p.ensures in
-    fits_one _ (count_small _ (mark-room R L.invariant.1 N c.if-p-n.true (λ x. c.if-wide-c.false (c.wide.ensures.0 ∙ x))).2)
+    fits_one _ (count_small _ (mark-room R L.invariant.1 N c.if-p-n.true (λ x. c.if-from-c.false (c.from.ensures ∙ x))).2)
 
-pub overflow_add-from : goal.overflow_add-from
-overflow_add-from c = fits_one _ (part_small _ _ c.if-p-n.true c.loop-from.invariant.0.small)
-
-pub loop-from-smaller-else-wide-c : goal.loop-from-smaller-else-wide-c
-loop-from-smaller-else-wide-c c =
+pub loop-from-smaller-else-from-c : goal.loop-from-smaller-else-from-c
+loop-from-smaller-else-from-c c =
     let L = c.loop-from in
     let R = given L.invariant.0 in
     let N = stepping L.invariant.0 L.invariant.1 c.next_bit-p.ensures in
-    shadow-less R L.invariant.1 N c.if-p-n.true (λ x. c.if-wide-c.false (c.wide.ensures.0 ∙ x))
+    shadow-less R L.invariant.1 N c.if-p-n.true (λ x. c.if-from-c.false (c.from.ensures ∙ x))
 
-pub loop-from-preserved-else-wide-c : goal.loop-from-preserved-else-wide-c
-loop-from-preserved-else-wide-c c =
+pub loop-from-preserved-else-from-c : goal.loop-from-preserved-else-from-c
+loop-from-preserved-else-from-c c =
     let L = c.loop-from in
     let R = given L.invariant.0 in
     let N = stepping L.invariant.0 L.invariant.1 c.next_bit-p.ensures in
-    (L.invariant.0, rw c.narrow-else-wide-c.ensures (walk-shadow R L.invariant.1 N c.if-p-n.true (λ x. c.if-wide-c.false (c.wide.ensures.0 ∙ x)) (record { same = c.put-then-p-n.auto.bytes; bit = c.put-then-p-n.ensures }) (record { same = c.put-else-wide-c.auto.bytes; bit = c.put-else-wide-c.ensures })))
-
-pub shape_of-parens-then-c-eq0 : goal.shape_of-parens-then-c-eq0
-shape_of-parens-then-c-eq0 c = c.loop-from.invariant.1.len_parens ∙ c.put.auto.bytes
-
-pub shape_of-marks-then-c-eq0 : goal.shape_of-marks-then-c-eq0
-shape_of-marks-then-c-eq0 c = c.loop-from.invariant.1.len_marks
-
-pub shape_of-shadows-then-c-eq0 : goal.shape_of-shadows-then-c-eq0
-shape_of-shadows-then-c-eq0 c = c.loop-from.invariant.1.len_shadows
-
-pub shape_of-places-then-c-eq0 : goal.shape_of-places-then-c-eq0
-shape_of-places-then-c-eq0 c = c.loop-from.invariant.1.len_places
+    (L.invariant.0, (walk-shadow R L.invariant.1 N c.if-p-n.true (λ x. c.if-from-c.false (c.from.ensures ∙ x)) (record { same = c.put-then-p-n.auto.bytes; bit = c.put-then-p-n.ensures }) (record { same = c.put-else-from-c.auto.bytes; bit = c.put-else-from-c.ensures })))
 
 pub returns-then-c-eq0 : goal.returns-then-c-eq0
 returns-then-c-eq0 c =
@@ -167,25 +128,16 @@ overflow_add-at-else-p-n c =
     let N = stepping L.invariant.0 L.invariant.1 c.next_bit-p.ensures in
     fits_one _ (leave_room R L.invariant.1 N c.if-p-n.false c.if-c-eq0.false)
 
-pub overflow_add-from-else-p-n : goal.overflow_add-from-else-p-n
-overflow_add-from-else-p-n c = fits_one _ (part_small _ _ c.loop-from.invariant.1.inner c.loop-from.invariant.0.small)
-
-pub offset_bounds-parent-done : goal.offset_bounds-parent-done
-offset_bounds-parent-done c = fits-twice _ (part_small _ _ c.loop-from.invariant.1.inner c.loop-from.invariant.0.small)
-
-pub bounds-parent-done : goal.bounds-parent-done
-bounds-parent-done c = inside _ _ _ c.loop-from.invariant.1.inner c.loop-from.invariant.0.small
-
 pub loop-from-smaller : goal.loop-from-smaller
 loop-from-smaller c =
     let L = c.loop-from in
     let R = given L.invariant.0 in
     let N = stepping L.invariant.0 L.invariant.1 c.next_bit-p.ensures in
-    rw c.wide-else-p-n.ensures.0 (leave-less R L.invariant.1 N c.if-p-n.false c.if-c-eq0.false)
+    rw c.from-else-p-n.ensures (leave-less R L.invariant.1 N c.if-p-n.false c.if-c-eq0.false)
 
 pub loop-from-preserved : goal.loop-from-preserved
 loop-from-preserved c =
     let L = c.loop-from in
     let R = given L.invariant.0 in
     let N = stepping L.invariant.0 L.invariant.1 c.next_bit-p.ensures in
-    (L.invariant.0, rw c.wide-else-p-n.ensures.0 (walk-leave R L.invariant.1 N c.if-p-n.false c.if-c-eq0.false))
+    (L.invariant.0, rw c.from-else-p-n.ensures (walk-leave R L.invariant.1 N c.if-p-n.false c.if-c-eq0.false))

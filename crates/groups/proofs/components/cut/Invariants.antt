@@ -1,9 +1,0 @@
-use Prim.Native.Nat.{ℕ, ◌<◌, ◌≤◌}
-use lib.ListN.{get_or}
-use Rattle.groups.proofs.components.cut.Given as goal
-
-abbrev pub invariant-loop-t : goal.invariant-loop-t
-invariant-loop-t l = (l.t ≤ l.top) × ((k : ℕ) → l.t ≤ k → k < l.top → l.p < get_or l.bounds k 0)
-
-abbrev pub decreases-loop-t : goal.decreases-loop-t
-decreases-loop-t l = l.t
