@@ -1,5 +1,5 @@
 -- Which command the arguments name, by document 03's table. Assumes nothing.
-use Rattle.std.specs.Prelude.{ℕ, Bool, true, false, ◌&&◌, List, [], ◌∷◌, ◌++◌, eqb, ltb}
+use Rattle.std.specs.Prelude.{ℕ, Bool, true, false, ◌&&◌, List, [], ◌∷◌, ◌++◌, eqb, ltb, Option, Some, None}
 use Rattle.pages.specs.Text.{ascii}
 use Rattle.text.specs.Tests.{if_true}
 use Rattle.commands.specs.declared.Command.{Command}
@@ -25,6 +25,11 @@ pub data Row : Type 0 where
 unfoldable pub named : List Row → (word : List ℕ) → Command
 named [] word = Task Help
 named (row name command ∷ rows) word = if_true (same word name) command (named rows word)
+
+-- the command of a word's row
+unfoldable pub found : List Row → (word : List ℕ) → Option Command
+found [] word = None
+found (row name command ∷ rows) word = if_true (same word name) (Some command) (found rows word)
 
 -- COMMAND BOOK
 abbrev pub of_book : List Row
