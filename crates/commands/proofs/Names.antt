@@ -1,73 +1,75 @@
 -- A word against the rows of a table. Assumes nothing.
-use Prim.Native.Nat.{ℕ, ◌≤◌, ◌<◌}
-use mathlib.Core.Path.{◌≡◌, refl, sym, ap, ◌∙◌}
-use mathlib.Core.Bool.{Bool, true, false, false≢true}
+use Prim.Native.Nat.{ℕ, ◌+◌, ◌≤◌, ◌<◌}
+use mathlib.Core.Path.{◌≡◌, refl}
+use mathlib.Core.Bool.{Bool, true, false}
 use mathlib.Core.List.{List, [], ◌∷◌, ◌++◌}
-use lib.Dec.{eqb}
-use borrow.Author.Tests.{eqb-true, eq-eqb, ne_eqb, lt-ltb, le-ltb}
-use Rattle.lists.proofs.Bools.{and_both, both-and, Known, is_true, is_false, known}
-use Rattle.text.specs.Tests.{if_true}
+use lib.ListN.{length, get_or, drop}
+use borrow.Author.Tests.{ne_eqb, lt-ltb, le-ltb}
+use Rattle.std.proofs.Common.{Bor, map, Option, Some, None}
+use native.Mathlib.Omega.{arith}
+use Rattle.std.specs.Option.{option_or, unwrap_or}
+use Rattle.std.specs.Str.{bytes_eq}
+use Rattle.std.proofs.lemmas.List.{drop_more, drop_all}
+use Rattle.std.specs.Prelude.{if◌then◌else◌}
 use Rattle.commands.specs.declared.Command.{Command}
 use Rattle.commands.specs.declared.Command.TheVariants.{Task}
 use Rattle.commands.specs.declared.Task.TheVariants.{Help}
-use Rattle.commands.specs.Named.{same, Row, row, named, of_book, of_words, of_files, rows_for, command_of}
+use Rattle.commands.specs.Named.{same, Row, row, named, found, of_book, of_words, of_files, rows_for, command_of}
 
--- what `check::same` ensures
-abbrev pub Tells : (word name : List ℕ) → Bool → Type 0
-Tells word name r = (r ≡ true → word ≡ name) × (word ≡ name → r ≡ true)
+-- what a table of the code says of a word
+abbrev pub said : List (Bor (List ℕ) × Command) → List ℕ → Option Command
+said rows word = found (map (λ r. row r.0.now r.1) rows) word
 
-same_refl : (l : List ℕ) → same l l ≡ true
-unfolding same
-same_refl [] = refl
-same_refl (x ∷ xs) = both-and (eq-eqb x x refl) (same_refl xs)
+-- the row at i against the word, by what the test of them returned
+module _ (rows : List (Bor (List ℕ) × Command)) (i : ℕ) (d : Bor (List ℕ) × Command) (word : List ℕ) where
+  pub here : i < length rows → bytes_eq word (get_or rows i d).0.now ≡ true → said (drop i rows) word ≡ Some (get_or rows i d).1
+  unfolding found
+  here l e = rw (drop_more rows i d l, e) refl
 
-same-is : (a b : List ℕ) → same a b ≡ true → a ≡ b
-unfolding same
-same-is [] [] e = refl
-same-is [] (y ∷ ys) e = absurd (false≢true e)
-same-is (x ∷ xs) [] e = absurd (false≢true e)
-same-is (x ∷ xs) (y ∷ ys) e =
-    rw (eqb-true x y (and_both (eqb x y) (same xs ys) e).0, same-is xs ys (and_both (eqb x y) (same xs ys) e).1)
+  pub beyond : i < length rows → bytes_eq word (get_or rows i d).0.now ≡ false → said (drop i rows) word ≡ said (drop (i + 1) rows) word
+  unfolding found
+  beyond l e = rw (drop_more rows i d l, e) refl
 
-told : (word name : List ℕ) (r : Bool) → Tells word name r → same word name ≡ r
-told word name true t = rw (t.0 refl) (same_refl name)
-told word name false t = by (known (same word name))
-  where
-    by : Known (same word name) → same word name ≡ false
-    by (is_true e) = absurd (false≢true (t.1 (same-is word name e)))
-    by (is_false e) = e
+pub past : (rows : List (Bor (List ℕ) × Command)) (i : ℕ) (word : List ℕ) → length rows ≤ i → said (drop i rows) word ≡ None
+unfolding found
+past rows i word l = rw (drop_all i rows l) refl
 
--- a row's command or the one below it, by what the test returned
-module _ {word name : List ℕ} {r : Bool} (t : Tells word name r) (command below : Command) where
-  pub taken : r ≡ true → command ≡ if_true (same word name) command below
-  taken e = sym (ap (λ (b : Bool). if_true b command below) (told word name r t ∙ e))
+if_append : (b : Bool) (command : Command) (r s t : Option Command) → r ≡ option_or s t → (if b then Some command else r) ≡ option_or (if b then Some command else s) t
+if_append true command r s t e = refl
+if_append false command r s t e = e
 
-  pub left : r ≡ false → below ≡ if_true (same word name) command below
-  left e = sym (ap (λ (b : Bool). if_true b command below) (told word name r t ∙ e))
+found-append : (rows more : List Row) (word : List ℕ) → found (rows ++ more) word ≡ option_or (found rows word) (found more word)
+unfolding found
+found-append [] more word = refl
+found-append (row name command ∷ rows) more word = if_append (same word name) command _ _ _ (found-append rows more word)
 
-pub upon : (word name : List ℕ) (rows : List Row) (command below : Command) {r : Command} → r ≡ if_true (same word name) command below → below ≡ named rows word → r ≡ named (row name command ∷ rows) word
-unfolding named
-upon word name rows command below e p = e ∙ ap (λ (x : Command). if_true (same word name) command x) p
+if_named : (b : Bool) (command x : Command) (r : Option Command) → x ≡ unwrap_or r (Task Help) → (if b then command else x) ≡ unwrap_or (if b then Some command else r) (Task Help)
+if_named true command x r e = refl
+if_named false command x r e = e
 
-pub none : (word : List ℕ) → Task Help ≡ named [] word
-unfolding named
-none word = refl
+named-is : (rows : List Row) (word : List ℕ) → named rows word ≡ unwrap_or (found rows word) (Task Help)
+unfolding named found
+named-is [] word = refl
+named-is (row name command ∷ rows) word = if_named (same word name) command _ _ (named-is rows word)
 
 -- the rows, by how many arguments there are
 module _ (word : List ℕ) (count : ℕ) where
-  pub few : count < 3 → Task Help ≡ command_of word count
-  unfolding command_of rows_for named
-  few l = rw (lt-ltb count 3 l)
+  pub answered : command_of word count ≡ unwrap_or (found (rows_for count) word) (Task Help)
+  unfolding command_of
+  answered = named-is (rows_for count) word
 
-  module _ (x : Command) (enough : 3 ≤ count) where
-    pub three : count ≡ 3 → x ≡ named of_book word → x ≡ command_of word count
-    unfolding command_of rows_for
-    three e p = rw (le-ltb count 3 enough, eq-eqb count 3 e) p
+  pub few : count < 3 → found (rows_for count) word ≡ None
+  unfolding rows_for found
+  few l = rw (lt-ltb count 3 l) refl
 
-    pub four : (count ≡ 3 → ⊥) → count ≡ 4 → x ≡ named (of_files ++ of_words) word → x ≡ command_of word count
-    unfolding command_of rows_for
-    four n e p = rw (le-ltb count 3 enough, ne_eqb count 3 n, eq-eqb count 4 e) p
+  pub three : count ≡ 3 → found (rows_for count) word ≡ found of_book word
+  unfolding rows_for
+  three e = rw e refl
 
-    pub more : (count ≡ 3 → ⊥) → (count ≡ 4 → ⊥) → x ≡ named of_words word → x ≡ command_of word count
-    unfolding command_of rows_for
-    more n m p = rw (le-ltb count 3 enough, ne_eqb count 3 n, ne_eqb count 4 m) p
+  pub four : count ≡ 4 → found (rows_for count) word ≡ option_or (found of_files word) (found of_words word)
+  unfolding rows_for
+  four e = rw e (found-append of_files of_words word)
+
+  pub more : 4 < count → found (rows_for count) word ≡ found of_words word
+  unfolding rows_for
+  more l = rw (le-ltb count 3 (omega arith), ne_eqb count 3 (λ e. omega arith), ne_eqb count 4 (λ e. omega arith)) refl

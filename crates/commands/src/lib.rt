@@ -2,9 +2,8 @@
 // Commands that read and write alike are one family: the program has a function for each family.
 #![tactic(auto)]
 
-ghost use Rattle.std.specs.Prelude.{◌≡◌, ◌++◌};
-ghost use Rattle.text.specs.Tests.{if_true};
-ghost use Rattle.commands.specs.Named.{same, named, of_book, of_words, of_files, command_of};
+ghost use Rattle.std.specs.Prelude.{◌≡◌, map};
+ghost use Rattle.commands.specs.Named.{row, found, of_book, of_words, of_files, command_of};
 
 // A session with a book: its counts, the answer to the claim in the words, or the answers to the claims of standard input.
 #[derive(Clone, Copy)]
@@ -65,126 +64,78 @@ pub enum Command {
     Task(Task),
 }
 
-// One row of a table: its command where the word is its name, or else that of the rows below it.
-fn row(word: &[u8], name: &[u8], command: Command, below: Command) -> Command
-    ensures { result ≡ if_true (same word.now name.now) command below }
+// The command of a word's row. A `match` on the words was tried: it leaves a goal for each way past its arms, 32 for seven words, where a table needs one loop.
+fn find(word: &[u8], rows: &[(&[u8], Command)]) -> Option<Command>
+    ensures { result ≡ found (map (λ r. row r.0.now r.1) rows.now) word.now }
 {
-    if check::same(word, name) {
-        return command;
+    for (name, command) in rows {
+        if word == *name {
+            return Some(*command);
+        }
     }
-    below
+    None
 }
 
-// The commands of one argument, a book. The rows stand from the last to the first.
-fn of_one(word: &[u8]) -> Command
-    ensures { result ≡ named of_book word.now }
+// The commands of one argument, a book.
+fn of_one(word: &[u8]) -> Option<Command>
+    ensures { result ≡ found of_book word.now }
 {
-    let command = Command::Task(Task::Help);
-    let command = row(word, b"new", Command::Task(Task::New), command);
-    let command = row(
+    find(
         word,
-        b"replicates",
-        Command::Task(Task::Replicates),
-        command,
-    );
-    let command = row(word, b"ask", Command::Session(Session::AskInput), command);
-    let command = row(
-        word,
-        b"show",
-        Command::Task(Task::Book(BookPage::Show)),
-        command,
-    );
-    let command = row(
-        word,
-        b"grid",
-        Command::Task(Task::Book(BookPage::Grid)),
-        command,
-    );
-    let command = row(
-        word,
-        b"why",
-        Command::Task(Task::Book(BookPage::Why)),
-        command,
-    );
-    row(word, b"check", Command::Session(Session::Check), command)
+        &[
+            (b"check", Command::Session(Session::Check)),
+            (b"why", Command::Task(Task::Book(BookPage::Why))),
+            (b"grid", Command::Task(Task::Book(BookPage::Grid))),
+            (b"show", Command::Task(Task::Book(BookPage::Show))),
+            (b"ask", Command::Session(Session::AskInput)),
+            (b"replicates", Command::Task(Task::Replicates)),
+            (b"new", Command::Task(Task::New)),
+        ],
+    )
 }
 
 // The commands of a book and words.
-fn of_words(word: &[u8]) -> Command
-    ensures { result ≡ named of_words word.now }
+fn of_words(word: &[u8]) -> Option<Command>
+    ensures { result ≡ found of_words word.now }
 {
-    let command = Command::Task(Task::Help);
-    let command = row(
+    find(
         word,
-        b"withdraw",
-        Command::Task(Task::Edit(Change::Withdraw)),
-        command,
-    );
-    let command = row(
-        word,
-        b"add",
-        Command::Task(Task::Edit(Change::Add)),
-        command,
-    );
-    let command = row(
-        word,
-        b"apart",
-        Command::Task(Task::Words(WordsPage::Apart)),
-        command,
-    );
-    let command = row(
-        word,
-        b"touching",
-        Command::Task(Task::Words(WordsPage::Touching)),
-        command,
-    );
-    let command = row(
-        word,
-        b"inside",
-        Command::Task(Task::Words(WordsPage::Inside)),
-        command,
-    );
-    let command = row(
-        word,
-        b"why",
-        Command::Task(Task::Words(WordsPage::Why)),
-        command,
-    );
-    row(word, b"ask", Command::Session(Session::AskWords), command)
+        &[
+            (b"ask", Command::Session(Session::AskWords)),
+            (b"why", Command::Task(Task::Words(WordsPage::Why))),
+            (b"inside", Command::Task(Task::Words(WordsPage::Inside))),
+            (b"touching", Command::Task(Task::Words(WordsPage::Touching))),
+            (b"apart", Command::Task(Task::Words(WordsPage::Apart))),
+            (b"add", Command::Task(Task::Edit(Change::Add))),
+            (b"withdraw", Command::Task(Task::Edit(Change::Withdraw))),
+        ],
+    )
 }
 
-// The commands of two files, or else of a book and words.
-fn of_two(word: &[u8]) -> Command
-    ensures { result ≡ named (of_files ++ of_words) word.now }
+// The commands of two files.
+fn of_files(word: &[u8]) -> Option<Command>
+    ensures { result ≡ found of_files word.now }
 {
-    let command = of_words(word);
-    let command = row(
+    find(
         word,
-        b"convert",
-        Command::Task(Task::Write(Export::Convert)),
-        command,
-    );
-    let command = row(
-        word,
-        b"pack",
-        Command::Task(Task::Write(Export::Pack)),
-        command,
-    );
-    let command = row(word, b"compare", Command::Task(Task::Compare), command);
-    row(word, b"verify", Command::Task(Task::Verify), command)
+        &[
+            (b"verify", Command::Task(Task::Verify)),
+            (b"compare", Command::Task(Task::Compare)),
+            (b"pack", Command::Task(Task::Write(Export::Pack))),
+            (b"convert", Command::Task(Task::Write(Export::Convert))),
+        ],
+    )
 }
 
+#[tactic(auto, using(crate::proofs::Names::answered, crate::proofs::Names::few, crate::proofs::Names::three, crate::proofs::Names::four, crate::proofs::Names::more))]
 pub fn command_of(word: &[u8], count: usize) -> Command
     ensures { result ≡ command_of word.now count }
 {
-    if count < 3 {
-        return Command::Task(Task::Help);
-    }
-    if count == 3 {
-        return of_one(word);
-    }
-    if count == 4 {
-        return of_two(word);
-    }
-    of_words(word)
+    let command = match count {
+        0..3 => None,
+        3 => of_one(word),
+        4 => of_files(word).or(of_words(word)),
+        _ => of_words(word),
+    };
+    command.unwrap_or(Command::Task(Task::Help))
 }

@@ -2,8 +2,8 @@
 ghost use Rattle.std.specs.Prelude.{◌≡◌, ◌≤◌, length, IfOk};
 ghost use Rattle.files.specs.Sizes.{PATH-BYTES};
 
+use std::fs::Metadata;
 use std::io::Error;
-use std::os::unix::fs::MetadataExt;
 use std::{fs, io};
 
 // The longest path.
@@ -21,16 +21,12 @@ pub fn path_of(name: &[u8]) -> io::Result<&str>
     if PATH_BYTES < name.len() {
         return Err(Error::from_raw_os_error(ENAMETOOLONG));
     }
-    match str::from_utf8(name) {
-        Ok(path) => Ok(path),
-        Err(_) => Err(Error::from_raw_os_error(EILSEQ)),
-    }
+    str::from_utf8(name).map_err(|_| Error::from_raw_os_error(EILSEQ))
 }
 
 // The kind and the mode of the file that a name leads to, or why the system cannot say.
-pub fn mode_of(rt: &HostRuntime, name: &[u8]) -> io::Result<u32> {
-    let metadata = fs::metadata(rt, path_of(name)?)?;
-    Ok(metadata.mode())
+pub fn metadata_of(rt: &HostRuntime, name: &[u8]) -> io::Result<Metadata> {
+    fs::metadata(rt, path_of(name)?)
 }
 
 // Whether the name is a link, or why the system cannot say: what is put in its place would leave the file that it leads to as it was.

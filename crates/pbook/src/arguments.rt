@@ -1,7 +1,9 @@
 // The program's arguments: a path, and words joined into a line.
+ghost use Rattle.std.specs.Prelude.{◌≤◌, length, IfOk};
 ghost use Rattle.io.specs.Counts.{IsPrefixLen};
 
-use files::Got;
+use crate::desk;
+use files::Told;
 use std::env::{Env, FillError};
 use std::io::Error;
 use text::Form;
@@ -18,33 +20,26 @@ const ENAMETOOLONG: i32 = 36;
 
 // How many arguments there are, the program's name among them.
 pub fn count(rt: &HostRuntime) -> usize {
-    let mut none = [0u8; 0];
-    for i in 0..usize::MAX {
-        if let Err(FillError::NotPresent) = rt.arg(i, &mut none) {
-            return i;
-        }
-    }
-    usize::MAX
+    (0..usize::MAX)
+        .position(|i| matches!(rt.arg(i, &mut []), Err(FillError::NotPresent)))
+        .unwrap_or(usize::MAX)
 }
 
 // Why an argument is not in its buffer, as the system says it.
 fn reason(error: FillError) -> Error {
-    match error {
-        FillError::NotPresent => Error::from_raw_os_error(EINVAL),
-        FillError::TooLong => Error::from_raw_os_error(ENAMETOOLONG),
-    }
+    Error::from_raw_os_error(match error {
+        FillError::NotPresent => EINVAL,
+        FillError::TooLong => ENAMETOOLONG,
+    })
 }
 
-// A path, with the reason where there is none, or one that is longer than the buffer.
-pub fn path(rt: &HostRuntime, i: usize, buf: &mut [u8]) -> Got
-    ensures { IsPrefixLen result.n buf.new }
+// A path. Where there is none, or one that is longer than the buffer, the reason is told.
+pub fn path<'a>(rt: &HostRuntime, i: usize, buf: &'a mut [u8]) -> Result<&'a [u8], Told>
+    ensures { IfOk result (λ path. length path.now ≤ length buf.old) }
 {
     match rt.arg(i, buf) {
-        Ok(n) => Got { n, failed: false },
-        Err(e) => {
-            files::fail(rt, buf, &reason(e));
-            Got { n: 0, failed: true }
-        }
+        Ok(n) => Ok(&buf[..n]),
+        Err(e) => Err(files::fail(rt, buf, &reason(e))),
     }
 }
 
@@ -54,32 +49,35 @@ fn words(rt: &HostRuntime, first: usize, line: &mut [u8]) -> usize
 {
     let mut at: usize = 0;
     for i in first..usize::MAX {
-        let n = match rt.arg(i, &mut line[at..]) {
-            Ok(n) => n,
+        match rt.arg(i, &mut line[at..]) {
+            Ok(n) => at += n,
             Err(FillError::NotPresent) => break,
             Err(FillError::TooLong) => return line.len(),
-        };
-        at += n;
+        }
         if line.len() <= at {
             return line.len();
         }
         line[at] = b' ';
         at += 1;
     }
-    if at == 0 {
-        return 0;
-    }
-    at - 1
+    at.saturating_sub(1)
 }
 
 // The words behind the book. They are told first where they are wrong: they are not judged by a file that cannot be read.
-pub fn said(rt: &HostRuntime, form: Form, line: &mut [u8], page: &mut [u8]) -> Got
-    ensures { IsPrefixLen result.n line.new }
+pub fn said<'a>(
+    rt: &HostRuntime,
+    form: Form,
+    line: &'a mut [u8],
+    page: &mut [u8],
+) -> Result<&'a [u8], Told>
+    ensures { IfOk result (λ words. length words.now ≤ length line.old) }
 {
     let n = words(rt, NEXT, line);
-    let bad = crate::desk::end_of(book_pages::words::write_words(form, &line[..n], page));
+    let said = &line[..n];
+    let bad = desk::end_of(book_pages::words::write_words(form, said, page));
     if 0 < bad {
         files::write_page(rt, page, bad);
+        return Err(Told);
     }
-    Got { n, failed: 0 < bad }
+    Ok(said)
 }

@@ -1,170 +1,120 @@
 // The commands that write a file. The lock is made before the book is read, so that nobody else's change is lost.
-ghost use Rattle.std.specs.Prelude.{IfSome};
-ghost use Rattle.io.specs.Counts.{IsPrefixLen};
+ghost use Rattle.std.specs.Prelude.{◌≤◌, length, IfOk};
 
+use crate::arguments::{BOOK, NEXT, path, said};
+use crate::desk;
 use commands::{Change, Export};
-use files::changing;
-use files::changing::Standing;
-use std::fs::File;
+use files::changing::Lock;
+use files::{Told, changing};
+use std::fs::Permissions;
 use std::io::Error;
 
 // What the system says of a file that is not there.
 const ENOENT: i32 = 2;
 
-// A book that was read under a lock: the lock, how many bytes were read, the file's mode.
+// A book that is to be changed, and who may use it.
 #[derive(Drop)]
-struct Open {
-    file: File,
-    n: usize,
-    mode: u32,
+struct Plain<'a> {
+    book: &'a [u8],
+    mode: Permissions,
 }
 
-// Reads the book that is to be changed, whose lock is made. Where that fails it is told, and nothing is left.
-fn open_plain(rt: &HostRuntime, file: File, path: &[u8], source: &mut [u8]) -> Option<Open>
-    ensures { IfSome result (λ o. IsPrefixLen o.n source.new) }
+// Reads the book that is to be changed, whose lock is made.
+fn read_plain<'a>(rt: &HostRuntime, name: &[u8], source: &'a mut [u8]) -> Result<Plain<'a>, Told>
+    ensures { IfOk result (λ plain. length plain.book.now ≤ length source.old) }
 {
-    let standing = changing::look_at(rt, path);
-    if let Standing::Missing = standing {
-        files::fail(rt, path, &Error::from_raw_os_error(ENOENT));
-    }
-    let Standing::Plain(mode) = standing else {
-        changing::drop_lock(rt, file, path);
-        return None;
+    let Some(mode) = changing::look_at(rt, name)? else {
+        return Err(files::fail(rt, name, &Error::from_raw_os_error(ENOENT)));
     };
-    let got = files::read_file(rt, path, source);
-    if got.failed {
-        changing::drop_lock(rt, file, path);
-        return None;
-    }
-    Some(Open {
-        file,
-        n: got.n,
+    let n = files::read_file(rt, name, source)?;
+    Ok(Plain {
+        book: &source[..n],
         mode,
     })
-}
-
-// Makes the lock, and reads the book.
-fn open_book(rt: &HostRuntime, path: &[u8], source: &mut [u8]) -> Option<Open>
-    ensures { IfSome result (λ o. IsPrefixLen o.n source.new) }
-{
-    let file = changing::make_lock(rt, path)?;
-    open_plain(rt, file, path, source)
 }
 
 // A book changed by words that can be read.
 fn change_book(
     rt: &HostRuntime,
     which: Change,
-    path: &[u8],
+    name: &[u8],
     words: &[u8],
     source: &mut [u8],
     page: &mut [u8],
-) {
-    let Some(open) = open_book(rt, path, source) else {
-        return;
+) -> Result<(), Told> {
+    let lock = Lock::make(rt, name)?;
+    let Ok(Plain { book, mode }) = read_plain(rt, name, source) else {
+        lock.release(rt);
+        return Err(Told);
     };
-    let n = open.n;
     let mut out = [0u8; change_pages::OUT_BYTES];
-    let made = crate::desk::change_page(which, &source[..n], words, &mut out, page);
-    let written = made.written;
-    let end = crate::desk::end_of(written);
+    let made = desk::change_page(which, book, words, &mut out, page);
     if made.changed {
-        if changing::keep(rt, open.file, path, &out, made.bytes, open.mode) {
-            files::write_page(rt, page, end);
-        }
-        return;
+        lock.keep(rt, &out[..made.bytes], mode)?;
+    } else {
+        lock.release(rt);
     }
-    changing::drop_lock(rt, open.file, path);
-    files::write_page(rt, page, end);
+    files::write_page(rt, page, desk::end_of(made.written));
+    Ok(())
 }
 
 // The words are read before the lock is made.
-pub fn change(rt: &HostRuntime, which: Change, source: &mut [u8], page: &mut [u8]) {
+pub fn change(
+    rt: &HostRuntime,
+    which: Change,
+    source: &mut [u8],
+    page: &mut [u8],
+) -> Result<(), Told> {
     let mut line = io::buffer();
-    let words = crate::arguments::said(rt, crate::desk::change_form(which), &mut line, page);
-    if words.failed {
-        return;
-    }
-    let mut path = io::buffer();
-    let book = crate::arguments::path(rt, crate::arguments::BOOK, &mut path);
-    if book.failed {
-        return;
-    }
-    let n = book.n;
-    let m = words.n;
-    change_book(rt, which, &path[..n], &line[..m], source, page);
+    let words = said(rt, desk::change_form(which), &mut line, page)?;
+    let mut name = io::buffer();
+    let name = path(rt, BOOK, &mut name)?;
+    change_book(rt, which, name, words, source, page)
 }
 
-// Makes the lock of the file that is written to, and reads the book.
-fn open_other(rt: &HostRuntime, target: &[u8], path: &[u8], source: &mut [u8]) -> Option<Open>
-    ensures { IfSome result (λ o. IsPrefixLen o.n source.new) }
-{
-    let file = changing::make_lock(rt, target)?;
-    let got = files::read_file(rt, path, source);
-    if got.failed {
-        changing::drop_lock(rt, file, target);
-        return None;
-    }
-    Some(Open {
-        file,
-        n: got.n,
-        mode: 0,
-    })
-}
-
-// A book written to another file.
+// A book written to another file, whose lock is made first.
 fn export_book(
     rt: &HostRuntime,
     which: Export,
-    path: &[u8],
+    name: &[u8],
     target: &[u8],
     source: &mut [u8],
     page: &mut [u8],
-) {
-    let Some(open) = open_other(rt, target, path, source) else {
-        return;
+) -> Result<(), Told> {
+    let lock = Lock::make(rt, target)?;
+    let Ok(n) = files::read_file(rt, name, source) else {
+        lock.release(rt);
+        return Err(Told);
     };
-    let n = open.n;
     let mut out = [0u8; change_pages::OUT_BYTES];
-    let made = crate::desk::export_page(which, &source[..n], &mut out, page);
-    let written = made.written;
-    let end = crate::desk::end_of(written);
+    let made = desk::export_page(which, &source[..n], &mut out, page);
     if made.changed {
-        if changing::keep_from(rt, open.file, target, &out, made.bytes, path) {
-            files::write_page(rt, page, end);
-        }
-        return;
+        lock.keep_from(rt, &out[..made.bytes], name)?;
+    } else {
+        lock.release(rt);
     }
-    changing::drop_lock(rt, open.file, target);
-    files::write_page(rt, page, end);
+    files::write_page(rt, page, desk::end_of(made.written));
+    Ok(())
 }
 
-pub fn export(rt: &HostRuntime, which: Export, source: &mut [u8], page: &mut [u8]) {
-    let mut path = io::buffer();
-    let book = crate::arguments::path(rt, crate::arguments::BOOK, &mut path);
-    if book.failed {
-        return;
-    }
+pub fn export(
+    rt: &HostRuntime,
+    which: Export,
+    source: &mut [u8],
+    page: &mut [u8],
+) -> Result<(), Told> {
+    let mut name = io::buffer();
+    let name = path(rt, BOOK, &mut name)?;
     let mut target = io::buffer();
-    let other = crate::arguments::path(rt, crate::arguments::NEXT, &mut target);
-    if other.failed {
-        return;
-    }
-    let length = book.n;
-    let reach = other.n;
-    export_book(rt, which, &path[..length], &target[..reach], source, page);
+    let target = path(rt, NEXT, &mut target)?;
+    export_book(rt, which, name, target, source, page)
 }
 
 // An empty book in a new file.
-pub fn new(rt: &HostRuntime, page: &mut [u8]) {
-    let mut path = io::buffer();
-    let book = crate::arguments::path(rt, crate::arguments::BOOK, &mut path);
-    if book.failed {
-        return;
-    }
-    let length = book.n;
-    if changing::make_empty(rt, &path[..length]) {
-        let end = crate::desk::end_of(change_pages::write_new(page));
-        files::write_page(rt, page, end);
-    }
+pub fn new(rt: &HostRuntime, page: &mut [u8]) -> Result<(), Told> {
+    let mut name = io::buffer();
+    changing::make_empty(rt, path(rt, BOOK, &mut name)?)?;
+    let end = desk::end_of(change_pages::write_new(page));
+    files::write_page(rt, page, end);
+    Ok(())
 }

@@ -7,13 +7,33 @@ mod changes;
 mod desk;
 mod reading;
 
+use buffers::{LONG_PAGE_ROOM, PAGE_ROOM, TEXT_ROOM};
 use commands::{Command, Session, Task};
+use files::Told;
 use std::env::Env;
 
 // The list of commands.
 fn help(rt: &HostRuntime) {
-    let text =
-        b"pbook check BOOK\npbook ask BOOK [KIND a b [FACTS]]\npbook why BOOK [KIND a b [FACTS]]\npbook verify BOOK CHAIN\npbook inside BOOK g\npbook touching BOOK g\npbook apart BOOK g\npbook grid BOOK\npbook replicates BOOK\npbook compare BOOK OTHER\npbook show BOOK\npbook new BOOK\npbook pack BOOK OUT\npbook convert OLD OUT\npbook add BOOK KIND a b [ORIGIN]\npbook add BOOK void a [ORIGIN]\npbook withdraw BOOK n\npbook help\n";
+    let text = b"\
+pbook check BOOK
+pbook ask BOOK [KIND a b [FACTS]]
+pbook why BOOK [KIND a b [FACTS]]
+pbook verify BOOK CHAIN
+pbook inside BOOK g
+pbook touching BOOK g
+pbook apart BOOK g
+pbook grid BOOK
+pbook replicates BOOK
+pbook compare BOOK OTHER
+pbook show BOOK
+pbook new BOOK
+pbook pack BOOK OUT
+pbook convert OLD OUT
+pbook add BOOK KIND a b [ORIGIN]
+pbook add BOOK void a [ORIGIN]
+pbook withdraw BOOK n
+pbook help
+";
     files::write_page(rt, text, text.len());
 }
 
@@ -28,7 +48,13 @@ fn named(rt: &HostRuntime) -> Command {
 }
 
 // A session is not called from `run`, whose frame has the matrices of the other pages.
-fn session(rt: &HostRuntime, which: Session, source: &mut [u8], other: &mut [u8], page: &mut [u8]) {
+fn session(
+    rt: &HostRuntime,
+    which: Session,
+    source: &mut [u8],
+    other: &mut [u8],
+    page: &mut [u8],
+) -> Result<(), Told> {
     match which {
         Session::Check => reading::check(rt, source, page),
         Session::AskWords => reading::ask_words(rt, source, page),
@@ -44,7 +70,7 @@ fn run(
     other: &mut [u8],
     long: &mut [u8],
     short: &mut [u8],
-) {
+) -> Result<(), Told> {
     match task {
         Task::Book(which) => reading::book(rt, which, source, long),
         Task::Words(which) => reading::words(rt, which, source, long),
@@ -54,18 +80,21 @@ fn run(
         Task::Edit(which) => changes::change(rt, which, source, short),
         Task::Write(which) => changes::export(rt, which, source, short),
         Task::New => changes::new(rt, short),
-        Task::Help => help(rt),
+        Task::Help => {
+            help(rt);
+            Ok(())
+        }
     }
 }
 
+// What failed was told, and the exit status says nothing of it.
 fn main(rt: HostRuntime) {
-    let mut source = buffers::text();
-    let mut other = buffers::text();
-    let mut long = buffers::long_page();
-    let mut short = buffers::page();
-    let command = named(&rt);
-    match command {
+    let mut source = buffers::zeros::<TEXT_ROOM>();
+    let mut other = buffers::zeros::<TEXT_ROOM>();
+    let mut long = buffers::zeros::<LONG_PAGE_ROOM>();
+    let mut short = buffers::zeros::<PAGE_ROOM>();
+    let _ = match named(&rt) {
         Command::Session(which) => session(&rt, which, &mut source, &mut other, &mut long),
         Command::Task(task) => run(&rt, task, &mut source, &mut other, &mut long, &mut short),
-    }
+    };
 }

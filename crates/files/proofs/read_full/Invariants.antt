@@ -1,6 +1,6 @@
--- `files::read_all`: what was read lies in the buffer, whose length stays.
+-- `files::read_full`: what was read lies in the buffer, whose length stays.
 use Rattle.std.proofs.Common.{length, ◌-◌, ◌≡◌, ◌≤◌}
-use Rattle.files.proofs.read_all.Given as goal
+use Rattle.files.proofs.read_full.Given as goal
 
 abbrev pub invariant-loop-done : goal.invariant-loop-done
 invariant-loop-done g l = (l.done ≤ length l.buf) × (length l.buf ≡ length l.initial.buf)
