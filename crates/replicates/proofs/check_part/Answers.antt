@@ -20,4 +20,3 @@ returns-then-bad_window c =
 pub returns : goal.returns
 returns c =
     let A = c.args in c.check_entries.ensures ∙ part-entries A.n A.nodes A.shadows A.log.now A.window (omega arith) (omega arith) (sym c.if-bad_window.false ∙ c.bad_window.ensures)
-
