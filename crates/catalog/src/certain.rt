@@ -15,7 +15,9 @@ ghost use Rattle.records.specs.Sizes.{APART, MEETS, PART, PIECES, RECORD-BYTES};
 
 use records::Record;
 
-// Kinds that a list is asked for, as the caller gives them.
+// Kinds that a list is asked for: the numbers that a caller from C gives.
+const PART: usize = 1;
+
 const APART: usize = 2;
 
 pub const MEETS: usize = 3;
@@ -25,10 +27,9 @@ fn join_where(on: bool, m: &mut [u64], d: &[u64], a: usize)
     requires { (IsMatrix m.old) × (IsMatrix d.now) × (a < PIECES) }
     ensures { Widened m.old m.new (λ x. on && bit_of d.now a x) }
 {
-    if !on {
-        return;
+    if on {
+        matrices::union_row(m, 0, d, a);
     }
-    matrices::union_row(m, 0, d, a);
 }
 
 // Adds to row 0 what a record makes APART from g: where g is in the one piece of an APART, all that is in the other.
@@ -49,12 +50,9 @@ fn part_from(run: &[u8], g: usize, d: &[u64], m: &mut [u64])
     ensures { Parted d.now run.now g (length run.now / RECORD-BYTES) m.new }
 {
     matrices::clear_rows(m, 1);
-    let n = run.len() / records::RECORD_BYTES;
-    let mut i: usize = 0;
-    while i < n {
+    for i in 0..run.len() / records::RECORD_BYTES {
         let r = records::record_at(run, i);
         part_record(r, g, d, m);
-        i += 1;
     }
 }
 
@@ -74,13 +72,11 @@ fn is_certain(
     if verdicts::marks_tell(kind as u8, x, g, voids) {
         return true;
     }
-    if kind == 1 {
-        return matrices::test(d, g, x);
+    match kind {
+        PART => matrices::test(d, g, x),
+        APART => matrices::test(m, 0, x),
+        _ => matrices::meet(t, x, d, g),
     }
-    if kind == APART {
-        return matrices::test(m, 0, x);
-    }
-    matrices::meet(t, x, d, g)
 }
 
 // Lists the pieces below n of which the claim follows, and says how many.
@@ -98,15 +94,11 @@ fn list_certain(
     ensures { (list.new ≡ front (passing (told (void_of voids.now) d.now t.now m.now kind g) n) list.old) × (result ≡ length (passing (told (void_of voids.now) d.now t.now m.now kind g) n)) }
 {
     let mut count: usize = 0;
-    let mut x: usize = 0;
-    while x < n {
-        if !is_certain(kind, x, g, voids, d, t, m) {
-            x += 1;
-            continue;
+    for x in 0..n {
+        if is_certain(kind, x, g, voids, d, t, m) {
+            list[count] = x as u16;
+            count += 1;
         }
-        list[count] = x as u16;
-        count += 1;
-        x += 1;
     }
     count
 }
@@ -126,9 +118,8 @@ pub fn list_pieces(
     requires { Bounded n (facts run.now) × (PART ≤ kind) × (kind ≤ MEETS) × (g < n) × (n ≤ length list.old) × Holds n d.now (part_bit n (facts run.now)) × Holds n t.now (toward_bit (void_of voids.now) n (facts run.now)) × (IsMatrix m.old) × Voids voids.now × (false ≡ clash (void_of voids.now) n (facts run.now)) }
     ensures { (list.new ≡ front (passing (λ x. follows (void_of voids.now) n (facts run.now) (fact_of kind x g)) n) list.old) × (result ≡ length (passing (λ x. follows (void_of voids.now) n (facts run.now) (fact_of kind x g)) n)) }
 {
-    if kind != APART {
-        return list_certain(kind, g, n, voids, d, t, m, list);
+    if kind == APART {
+        part_from(run, g, d, m);
     }
-    part_from(run, g, d, m);
     list_certain(kind, g, n, voids, d, t, m, list)
 }

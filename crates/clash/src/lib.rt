@@ -27,19 +27,13 @@ fn silenced_byte(book: &[u8], i: usize, p: usize) -> u8
     ensures { result ≡ silenced_byte i p (get_or book.now p 0) }
 {
     let x = book[p];
-    if p % records::RECORD_BYTES != 0 {
+    if p % records::RECORD_BYTES != 0 || p / records::RECORD_BYTES < i {
         return x;
     }
-    if p / records::RECORD_BYTES < i {
-        return x;
+    match x {
+        records::PART..=records::NOTPART => records::TRAY,
+        _ => x,
     }
-    if x < 1 {
-        return x;
-    }
-    if records::NOTPART < x {
-        return x;
-    }
-    records::TRAY
 }
 
 // Writes that copy to the front of `out`.
@@ -47,11 +41,8 @@ fn silence(book: &[u8], i: usize, out: &mut [u8])
     requires { length book.now ≤ length out.old }
     ensures { take (length book.now) out.new ≡ silenced book.now i }
 {
-    let m = book.len();
-    let mut p: usize = 0;
-    while p < m {
+    for p in 0..book.len() {
         out[p] = silenced_byte(book, i, p);
-        p += 1;
     }
 }
 
@@ -60,12 +51,9 @@ fn claim_at(book: &[u8], i: usize) -> Record
     requires { RECORD-BYTES * i + RECORD-BYTES ≤ length book.now }
     ensures { result ≡ unrestricted (record_at book.now i) }
 {
-    let r = records::record_at(book, i);
     Record {
-        kind: r.kind,
         origin: 0,
-        a: r.a,
-        b: r.b,
+        ..records::record_at(book, i)
     }
 }
 

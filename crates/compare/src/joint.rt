@@ -4,8 +4,10 @@ ghost use Rattle.lists.specs.Front.{front};
 ghost use Rattle.compare.specs.Agreement.{agreement, threes};
 ghost use Rattle.compare.specs.Together.{Joins};
 
-// The byte of an answer OPEN, and those of two answers that differ.
+// The byte of an answer OPEN, and those of two answers beside each other.
 const OPEN: u8 = 3;
+
+const SAME: u8 = 1;
 
 const ONE_OPEN: u8 = 2;
 
@@ -18,19 +20,17 @@ pub const COMPARED_BYTES: usize = 3;
 pub const JOINT_BYTES: usize = 98304;
 
 // 1 for the same answer, 2 where one alone is open, 3 for opposite ones.
+#[tactic(auto, unfolding(crate::specs::Agreement::agreement))]
 fn agreement_of(x: u8, y: u8) -> u8
     ensures { result ≡ agreement x y }
 {
     if x == y {
-        return 1;
+        SAME
+    } else if x == OPEN || y == OPEN {
+        ONE_OPEN
+    } else {
+        OPPOSED
     }
-    if x == OPEN {
-        return ONE_OPEN;
-    }
-    if y == OPEN {
-        return ONE_OPEN;
-    }
-    OPPOSED
 }
 
 // Three bytes for each claim.
@@ -38,16 +38,13 @@ pub fn write_answers(ours: &[u8], theirs: &[u8], out: &mut [u8])
     requires { (length theirs.now ≡ length ours.now) × (3 * length ours.now ≤ length out.old) }
     ensures { out.new ≡ front (threes (λ i. get_or ours.now i 0) (λ i. get_or theirs.now i 0) (length ours.now)) out.old }
 {
-    let n = ours.len();
-    let mut i: usize = 0;
-    while i < n {
+    for i in 0..ours.len() {
         let x = ours[i];
         let y = theirs[i];
         let at = COMPARED_BYTES * i;
         out[at] = x;
         out[at + 1] = y;
         out[at + 2] = agreement_of(x, y);
-        i += 1;
     }
 }
 
@@ -56,10 +53,7 @@ pub fn write_answers(ours: &[u8], theirs: &[u8], out: &mut [u8])
 pub fn join(first: &[u8], second: &[u8], run: &mut [u8; JOINT_BYTES]) -> usize
     ensures { Joins first.now second.now run.new result }
 {
-    if records::BOOK_BYTES < first.len() {
-        return 0;
-    }
-    if records::BOOK_BYTES < second.len() {
+    if records::BOOK_BYTES < first.len() || records::BOOK_BYTES < second.len() {
         return 0;
     }
     let at = first.len();

@@ -17,13 +17,10 @@ fn drop_trays(book: &[u8], out: &mut [u8]) -> usize
     requires { length book.now ≤ length out.old }
     ensures { (result ≡ length (no_trays book.now)) × (out.new ≡ front (no_trays book.now) out.old) }
 {
-    let n = book.len() / records::RECORD_BYTES;
     let mut at: usize = 0;
-    let mut i: usize = 0;
-    while i < n {
+    for i in 0..book.len() / records::RECORD_BYTES {
         let r = records::record_at(book, i);
         at = records::copy_where(r.kind != records::TRAY, book, i, out, at);
-        i += 1;
     }
     at
 }

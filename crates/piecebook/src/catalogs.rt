@@ -4,6 +4,7 @@ ghost use Rattle.std.specs.Prelude.{◌≡◌};
 ghost use Rattle.catalog.specs.Lent.{lent};
 ghost use Rattle.areas.specs.Subtree.{range_from, range_to};
 
+use areas::subtree::Range;
 use catalog::Counts;
 use index::{DatasetId, TreeId};
 use matrices::Matrix;
@@ -99,15 +100,15 @@ pub extern "C" fn piecebook_fact_between(
     ensures { Asked area.now count unordered row_from row_to column_from column_to result }
 {
     let either = unordered != 0;
-    let found = areas::fact_between(
-        area,
-        count,
-        either,
-        TreeId(row_from),
-        TreeId(row_to),
-        TreeId(column_from),
-        TreeId(column_to),
-    );
+    let rows = Range {
+        from: TreeId(row_from),
+        to: TreeId(row_to),
+    };
+    let columns = Range {
+        from: TreeId(column_from),
+        to: TreeId(column_to),
+    };
+    let found = areas::fact_between(area, count, either, rows, columns);
     found as usize
 }
 

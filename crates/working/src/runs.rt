@@ -22,7 +22,7 @@ pub fn write_runs(first: &[u8], second: &[u8], out: &mut [u8])
     let at = first.len();
     let end = at + second.len();
     put_runs(first, second, out);
-    numbers::clear(&mut out[end..]);
+    out[end..].fill(0);
 }
 
 // Writes the bytes before `at` and those from `at` + 6 up to `end`, and zeros behind them.

@@ -6,14 +6,10 @@ use Rattle.clash.proofs.Silencing.{copied_more, copied_all}
 use Rattle.clash.proofs.silence.Goals as goal
 
 pub loop-p-init : goal.loop-p-init
-loop-p-init c = (search rules, search rules, λ k l. absurd (omega arith))
-
-pub loop-p-smaller : goal.loop-p-smaller
-loop-p-smaller c = omega arith
+loop-p-init c = λ k l. absurd (omega arith)
 
 pub loop-p-preserved : goal.loop-p-preserved
-loop-p-preserved c =
-    (omega arith, simp length-set (omega arith), copied_more c.args.book.now _ c.loop-p.out _ _ c.loop-p.invariant.2 c.silenced_byte.ensures (omega arith))
+loop-p-preserved c = copied_more c.args.book.now _ c.loop-p.out _ _ c.loop-p.invariant c.silenced_byte.ensures (omega arith)
 
 pub returns : goal.returns
-returns c = copied_all _ _ c.loop-p.out _ c.loop-p.invariant.2 (omega arith) (omega arith)
+returns c = copied_all _ _ c.loop-p.out _ c.loop-p.invariant (omega arith) (omega arith)

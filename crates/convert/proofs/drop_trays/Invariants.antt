@@ -8,7 +8,4 @@ use Rattle.convert.proofs.drop_trays.Given as goal
 
 abbrev pub invariant-loop-i : goal.invariant-loop-i
 invariant-loop-i l =
-    (l.i ≤ l.n) × (l.at ≤ 6 * l.i) × (length l.out ≡ length l.initial.out) × Written no_tray l.book l.initial.out l.i l.out l.at
-
-abbrev pub decreases-loop-i : goal.decreases-loop-i
-decreases-loop-i l = l.n - l.i
+    (l.at ≤ 6 * l.i) × Written no_tray l.book l.initial.out l.i l.out l.at

@@ -1,9 +1,6 @@
 -- `replicates::bad_window` meets its contract: the pieces passed are the book's. Assumes nothing.
 use native.Mathlib.Omega.{arith}
-use Prim.Native.Nat.{◌-◌}
-use mathlib.Core.Path.{◌≡◌}
-use Rattle.replicates.proofs.Rows.{sound_none, sound_more, window-long, window-beyond, window-sound}
-use borrow.Author.Rules.{rules}
+use Rattle.replicates.proofs.Rows.{sound_none, sound_more, window-beyond}
 use Rattle.replicates.proofs.bad_window.Goals as goal
 
 pub loop-j-init : goal.loop-j-init

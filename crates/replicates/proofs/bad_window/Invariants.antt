@@ -1,5 +1,4 @@
 -- `replicates::bad_window` meets its contract: the pieces passed are the book's. Assumes nothing.
-use Prim.Native.Nat.{◌≤◌, ◌-◌}
 use Rattle.replicates.proofs.Rows.{Sound}
 use Rattle.replicates.proofs.bad_window.Given as goal
 

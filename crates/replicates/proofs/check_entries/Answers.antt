@@ -1,9 +1,6 @@
 -- `replicates::check_entries` meets its contract: the loop keeps what is left of the scan. Assumes nothing.
 use native.Mathlib.Omega.{arith}
-use Prim.Native.Nat.{◌-◌}
-use mathlib.Core.Path.{refl}
-use Rattle.replicates.proofs.Rows.{left-first, left-next, left-stop, left_end}
-use borrow.Author.Rules.{rules}
+use Rattle.replicates.proofs.Rows.{left-next, left-stop, left_end}
 use Rattle.replicates.proofs.check_entries.Goals as goal
 
 pub returns-then-counts-from : goal.returns-then-counts-from

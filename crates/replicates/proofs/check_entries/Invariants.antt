@@ -1,7 +1,4 @@
 -- `replicates::check_entries` meets its contract: the loop keeps what is left of the scan. Assumes nothing.
-use Prim.Native.Nat.{◌≤◌, ◌-◌}
-use mathlib.Core.Path.{◌≡◌}
-use Rattle.replicates.specs.Log.{entry_count}
 use Rattle.replicates.proofs.Rows.{Left}
 use Rattle.replicates.proofs.check_entries.Given as goal
 

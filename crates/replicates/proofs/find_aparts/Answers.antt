@@ -8,6 +8,3 @@ pub apart_rows-requires : goal.apart_rows-requires
 apart_rows-requires c =
     let P = c.requires in
     ((settleable _ _ P.sound).bounded, P.void.0, P.steps, P.parts, search rules, search rules, sym P.free)
-
-pub returns : goal.returns
-returns c = rw c.requires.void.1 at c.apart_rows.ensures

@@ -1,18 +1,9 @@
 -- `replicates::judge` meets its contract. Assumes nothing.
-use mathlib.Core.Path.{refl, sym, ◌∙◌}
+use mathlib.Core.Path.{sym, ◌∙◌}
 use Rattle.contradiction.proofs.SettlingLaws.{row-free, row-clash}
 use Rattle.replicates.proofs.Rows.{passes}
 use Rattle.replicates.proofs.Calls.{clash-refused, part-refused, part-written}
 use Rattle.replicates.proofs.judge.Goals as goal
-
-pub slice_bounds-settle_counted-end : goal.slice_bounds-settle_counted-end
-slice_bounds-settle_counted-end c = refl
-
-pub settle_counted-settled-requires : goal.settle_counted-settled-requires
-settle_counted-settled-requires c = (c.requires.0, refl)
-
-pub slice_bounds-find_aparts-end : goal.slice_bounds-find_aparts-end
-slice_bounds-find_aparts-end c = sym c.settle_counted-settled.auto.voids
 
 pub find_aparts-requires : goal.find_aparts-requires
 find_aparts-requires c =
@@ -44,9 +35,6 @@ returns-in-Err-fit c =
     part-refused A.book.now A.n c.requires.0 A.window A.log.now A.out.now
     (rw S.0.1 at (S.1.free (row-free c.in-Ok.is)).is) (S.3.free _ _ c.in-Ok.is) _ _ _ c.refuse-in-Err-fit.ensures
     (sym c.in-Err-fit.is ∙ (rw c.of.ensures at c.check_part-fit.ensures))
-
-pub shape_of-out : goal.shape_of-out
-shape_of-out c = c.write_part.auto.out
 
 pub returns-in-Ok-fit : goal.returns-in-Ok-fit
 returns-in-Ok-fit c =

@@ -1,8 +1,8 @@
 -- `replicates::put_entries` meets its contract. Assumes nothing.
-use Prim.Native.Nat.{ℕ, ◌≤◌, ◌-◌, ◌+◌, ◌<◌}
+use Prim.Native.Nat.{ℕ, ◌+◌, ◌<◌}
 use mathlib.Core.Path.{◌≡◌}
-use lib.ListN.{length, get_or}
-use Rattle.replicates.specs.Log.{entry_count, entry_at}
+use lib.ListN.{get_or}
+use Rattle.replicates.specs.Log.{entry_at}
 use Rattle.replicates.proofs.put_entries.Given as goal
 
 abbrev pub invariant-loop-i : goal.invariant-loop-i

@@ -1,11 +1,9 @@
-use Prim.Native.Nat.{ℕ, ◌*◌, ◌-◌}
-use mathlib.Core.Path.{◌≡◌, refl, ap, ◌∙◌}
+use Prim.Native.Nat.{ℕ}
+use mathlib.Core.Path.{refl, ap, ◌∙◌}
 use native.Mathlib.Omega.{arith}
-use lib.ListN.{length, length-set}
 use lib.Dec.{leb}
 use Rattle.lists.specs.Tally.{num}
 use Rattle.replicates.proofs.Reaches.{reach-more, bytes-none, bytes-more}
-use borrow.Author.Rules.{rules}
 use Rattle.replicates.proofs.Sequences.{as_num}
 use Rattle.replicates.proofs.write_bytes.Goals as goal
 

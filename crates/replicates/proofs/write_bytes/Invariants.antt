@@ -1,6 +1,5 @@
-use Prim.Native.Nat.{◌≤◌, ◌-◌}
+use Prim.Native.Nat.{◌-◌}
 use mathlib.Core.Path.{◌≡◌}
-use lib.ListN.{length}
 use Rattle.lists.specs.Front.{front}
 use Rattle.matrices.specs.Matrix.{bit_of}
 use Rattle.replicates.specs.Before.{bytes_from}

@@ -9,7 +9,4 @@ use Rattle.catalog.proofs.certain.list_certain.Given as goal
 
 abbrev pub invariant-loop-x : goal.invariant-loop-x
 invariant-loop-x l =
-    (l.x ≤ l.n) × (l.count ≤ l.x) × (length l.list ≡ length l.initial.list) × Listed (told (void_of l.voids) l.d l.t l.m l.kind l.g) l.x l.initial.list l.list l.count
-
-abbrev pub decreases-loop-x : goal.decreases-loop-x
-decreases-loop-x l = l.n - l.x
+    (l.count ≤ l.x) × Listed (told (void_of l.voids) l.d l.t l.m l.kind l.g) l.x l.initial.list l.list l.count

@@ -4,11 +4,7 @@ use borrow.Author.Rules.{rules}
 use Rattle.closure.proofs.Holding.{below-2048}
 use Rattle.catalog.proofs.Telling.{list-certain}
 use Rattle.catalog.proofs.certain.list_pieces.Goals as goal
-
-pub returns-then-kind-ne-APART : goal.returns-then-kind-ne-APART
-returns-then-kind-ne-APART c =
-    let P = c.requires in
-    list-certain _ _ _ _ _ _ P.0 P.5 P.6 P.8.whole P.9 _ _ P.1 P.2 P.3 (λ e. absurd (c.if-kind-ne-APART.true e)) _ _ _ c.list_certain.ensures
+use Rattle.catalog.proofs.certain.list_pieces.Goals.{then-kind-eq-APART, else-kind-eq-APART}
 
 pub part_from-requires : goal.part_from-requires
 part_from-requires c =
@@ -19,4 +15,9 @@ part_from-requires c =
 pub returns : goal.returns
 returns c =
     let P = c.requires in
-    list-certain _ _ _ _ _ _ P.0 P.5 P.6 P.8.whole P.9 _ _ P.1 P.2 P.3 (λ e. c.part_from.ensures) _ _ _ c.list_certain-2.ensures
+    list-certain _ _ _ _ _ _ P.0 P.5 P.6 P.8.whole P.9 _ _ P.1 P.2 P.3
+    (λ e. elim c.if-kind-eq-APART.branch [
+      | then-kind-eq-APART w ↦ rw w.m-is w.part_from.ensures
+      | else-kind-eq-APART w ↦ absurd (w.if-kind-eq-APART.false e)
+    ])
+    _ _ _ c.list_certain.ensures

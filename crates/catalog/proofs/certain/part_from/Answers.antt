@@ -9,7 +9,7 @@ use Rattle.catalog.proofs.Telling.{parted-none, parted-more, apart-within}
 use Rattle.catalog.proofs.certain.part_from.Goals as goal
 
 pub loop-i-init : goal.loop-i-init
-loop-i-init c = (refl, search rules, search rules, parted-none _ _ _ _ c.clear_rows.ensures)
+loop-i-init c = (search rules, parted-none _ _ _ _ c.clear_rows.ensures)
 
 pub part_record-requires : goal.part_record-requires
 part_record-requires c =
@@ -19,10 +19,4 @@ part_record-requires c =
 pub loop-i-preserved : goal.loop-i-preserved
 loop-i-preserved c =
     let L = c.loop-i in
-    (search rules, search rules, search rules, parted-more _ _ _ _ _ L.i _ c.record_at-r.ensures c.part_record.ensures L.invariant.3)
-
-pub returns : goal.returns
-returns c =
-    let L = c.loop-i in
-    let e : L.i ≡ length c.args.run.now / 6 = omega arith in
-    subst (λ (n : ℕ). Parted c.args.d.now c.args.run.now c.args.g n L.m) e L.invariant.3
+    (search rules, parted-more _ _ _ _ _ L.i _ c.record_at-r.ensures c.part_record.ensures L.invariant.1)

@@ -6,7 +6,4 @@ use Rattle.catalog.specs.Tells.{Parted}
 use Rattle.catalog.proofs.certain.part_from.Given as goal
 
 abbrev pub invariant-loop-i : goal.invariant-loop-i
-invariant-loop-i l = (l.n ≡ length l.run / 6) × (l.i ≤ l.n) × (length l.m ≡ 65536) × Parted l.d l.run l.g l.i l.m
-
-abbrev pub decreases-loop-i : goal.decreases-loop-i
-decreases-loop-i l = l.n - l.i
+invariant-loop-i l = (length l.m ≡ 65536) × Parted l.d l.run l.g l.i l.m

@@ -8,7 +8,4 @@ use Rattle.compare.proofs.joint.write_answers.Given as goal
 
 abbrev pub invariant-loop-i : goal.invariant-loop-i
 invariant-loop-i l =
-    (l.i ≤ length l.ours) × (length l.out ≡ length l.initial.out) × (l.out ≡ front (threes (λ j. get_or l.ours j 0) (λ j. get_or l.theirs j 0) l.i) l.initial.out)
-
-abbrev pub decreases-loop-i : goal.decreases-loop-i
-decreases-loop-i l = length l.ours - l.i
+    (l.out ≡ front (threes (λ j. get_or l.ours j 0) (λ j. get_or l.theirs j 0) l.i) l.initial.out)

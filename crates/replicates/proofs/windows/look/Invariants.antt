@@ -1,4 +1,4 @@
-use Prim.Native.Nat.{◌≤◌, ◌-◌}
+use Prim.Native.Nat.{◌≤◌}
 use Rattle.matrices.specs.Matrix.{bit_of}
 use Rattle.replicates.specs.Before.{oldest}
 use Rattle.replicates.proofs.Looks.{Looking}

@@ -1,8 +1,4 @@
-use Prim.Native.Nat.{◌-◌}
-use mathlib.Core.Path.{◌≡◌}
-use native.Mathlib.Omega.{arith}
 use Rattle.replicates.proofs.Reaches.{reach-none, reach-more}
-use borrow.Author.Rules.{rules}
 use Rattle.replicates.proofs.windows.reach.Goals as goal
 
 pub loop-q-init : goal.loop-q-init

@@ -1,4 +1,3 @@
-use Prim.Native.Nat.{◌≤◌, ◌-◌}
 use Rattle.matrices.specs.Matrix.{bit_of}
 use Rattle.replicates.specs.Looking.{Reach}
 use Rattle.replicates.proofs.windows.reach.Given as goal

@@ -25,12 +25,6 @@ slice_bounds-put_runs-end c = sym (length-take-le _ c.args.area.now (within _ _ 
 pub slice_bounds-put_runs-count : goal.slice_bounds-put_runs-count
 slice_bounds-put_runs-count c = six-behind _ _ c.requires.0
 
--- ?convert slice-bounds-put-runs-start
--- part-put-runs-start c = omega (arith, c.before.before.requires.0, c.before.before.requires.1.0, c.before.before.requires.1.1)
-
--- ?convert slice-bounds-put-runs-end
--- part-put-runs-end c = omega (arith, c.before.before.requires.0, c.before.before.requires.1.0, c.before.before.requires.1.1)
-
 pub put_runs-requires : goal.put_runs-requires
 put_runs-requires c =
     omega (arith, c.requires.1.0, gap_length c.args.area.now _ _ (six-behind _ _ c.requires.0) (within _ _ c.requires.1.0 c.requires.1.1))

@@ -1,7 +1,12 @@
 -- `runs::write_runs` meets its contract. Assumes nothing.
 use Rattle.working.proofs.RunsLaws.{runs-written}
+use mathlib.Core.Path.{◌≡◌}
+use Prim.Native.Nat.{◌+◌, ◌-◌}
+use native.Mathlib.Omega.{arith}
+use lib.ListN.{length, replicate}
+use Rattle.std.proofs.lemmas.Grind.{common_steps}
 use Rattle.working.proofs.runs.write_runs.Goals as goal
 
 pub returns : goal.returns
 returns c =
-    runs-written c.args.first.now c.args.second.now c.args.out.now _ _ c.requires c.put_runs.ensures c.clear.ensures
+    runs-written c.args.first.now c.args.second.now c.args.out.now _ _ c.requires c.put_runs.ensures (grind (arith, common_steps))
