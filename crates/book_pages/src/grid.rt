@@ -14,8 +14,7 @@ ghost use Rattle.grids.specs.Sizes.{SIDE};
 use grids::GridAnswer;
 use grids::rounds::Grid;
 use outcomes::Outcome;
-use pages::Written;
-use sentences::sources::Source;
+use sentences::Whom;
 use text::Form;
 
 const TEN: usize = 10;
@@ -86,11 +85,9 @@ fn put_signs(
     ensures { Put page.old at (signs (four part.now apart.now meets.now notpart.now) a n) page.new result }
 {
     let mut end = at;
-    let mut b: usize = 0;
-    while b < n {
+    for b in 0..n {
         let x = sign(part, apart, meets, notpart, a, b);
         end = pages::put_byte(page, end, x);
-        b += 1;
     }
     end
 }
@@ -127,11 +124,9 @@ fn put_columns(page: &mut [u8], at: usize, upper: bool, n: usize) -> usize
     ensures { Put page.old at (columns upper n) page.new result }
 {
     let mut end = at;
-    let mut b: usize = 0;
-    while b < n {
+    for b in 0..n {
         let x = digit(upper, b);
         end = pages::put_byte(page, end, x);
-        b += 1;
     }
     end
 }
@@ -170,14 +165,12 @@ fn put_rows(
     ensures { Put page.old at (rows (four part.now apart.now meets.now notpart.now) n n) page.new result }
 {
     let mut end = at;
-    let mut a: usize = 0;
-    while a < n {
+    for a in 0..n {
         end = pages::put_byte(page, end, tens(a));
         end = pages::put_byte(page, end, ones(a));
         end = pages::put_byte(page, end, b' ');
         end = put_signs(page, end, part, apart, meets, notpart, a, n);
         end = pages::put_byte(page, end, b'\n');
-        a += 1;
     }
     end
 }
@@ -231,15 +224,15 @@ fn put_grid(book: &[u8], source: &[u8], page: &mut [u8]) -> usize
 }
 
 // The grids of the book on one page: 4,498 bytes always serve.
-pub fn write_grid(source: &[u8], page: &mut [u8]) -> Written
+pub fn write_grid(source: &[u8], page: &mut [u8]) -> Option<usize>
     ensures page { Page page.old (grid_text source.now) page.new result }
     ensures source_len_bound { length (grid_text source.now) ≤ GRID-ROOM }
 {
     let mut book = [0u8; text::BOOK_ROOM];
     let read = sentences::sources::read_source(Form::Records, source, &mut book);
     match read {
-        Source::Unread(bad, reason) => sentences::write_unread(page, sentences::BOOK, bad, reason),
-        Source::Bytes(n) => {
+        Err(unread) => sentences::write_unread(page, Whom::Book, unread),
+        Ok(n) => {
             let end = put_grid(&book[..n], source, page);
             pages::finish(page.len(), end)
         }

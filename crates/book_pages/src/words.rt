@@ -5,8 +5,7 @@ ghost use Rattle.sentences.specs.Arguments as args;
 ghost use Rattle.book_pages.specs.WordsText.{words_text};
 ghost use Rattle.sentences.specs.Rooms.{UNREAD-LINE};
 
-use pages::Written;
-use sentences::sources::Words;
+use sentences::Whom;
 use text::Form;
 
 // Whose words they are.
@@ -14,14 +13,14 @@ fn speaker(form: Form) -> usize
     ensures { result ≡ args.speaker form }
 {
     match form {
-        Form::Records => sentences::WORDS,
-        Form::Claims => sentences::CLAIM_WORDS,
-        Form::Log => sentences::WORDS,
+        Form::Records => Whom::Words,
+        Form::Claims => Whom::ClaimWords,
+        Form::Log => Whom::Words,
     }
 }
 
 // The line of words that cannot be read, and nothing of words that can: 95 bytes always serve.
-pub fn write_words(form: Form, words: &[u8], page: &mut [u8]) -> Written
+pub fn write_words(form: Form, words: &[u8], page: &mut [u8]) -> Option<usize>
     ensures page { Page page.old (words_text form words.now) page.new result }
     ensures words_len_bound { length (words_text form words.now) ≤ UNREAD-LINE }
 {
@@ -31,6 +30,6 @@ pub fn write_words(form: Form, words: &[u8], page: &mut [u8]) -> Written
             let whom = speaker(form);
             sentences::write_unread(page, whom, 0, reason)
         }
-        Words::Entry(_) => pages::finish(page.len(), 0),
+        Ok(_) => pages::finish(page.len(), 0),
     }
 }

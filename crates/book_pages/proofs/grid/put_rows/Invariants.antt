@@ -6,7 +6,4 @@ use Rattle.book_pages.specs.GridText.{rows}
 use Rattle.book_pages.proofs.grid.put_rows.Given as goal
 
 abbrev pub invariant-loop-a : goal.invariant-loop-a
-invariant-loop-a l = Put l.initial.page l.at (rows (four l.part l.apart l.meets l.notpart) l.n l.a) l.page l.end × (l.a ≤ l.n)
-
-abbrev pub decreases-loop-a : goal.decreases-loop-a
-decreases-loop-a l = l.n - l.a
+invariant-loop-a l = Put l.initial.page l.at (rows (four l.part l.apart l.meets l.notpart) l.n l.a) l.page l.end

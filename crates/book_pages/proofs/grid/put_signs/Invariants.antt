@@ -6,7 +6,4 @@ use Rattle.book_pages.specs.GridText.{signs}
 use Rattle.book_pages.proofs.grid.put_signs.Given as goal
 
 abbrev pub invariant-loop-b : goal.invariant-loop-b
-invariant-loop-b l = Put l.initial.page l.at (signs (by.four l.part l.apart l.meets l.notpart) l.a l.b) l.page l.end × (l.b ≤ l.n)
-
-abbrev pub decreases-loop-b : goal.decreases-loop-b
-decreases-loop-b l = l.n - l.b
+invariant-loop-b l = Put l.initial.page l.at (signs (by.four l.part l.apart l.meets l.notpart) l.a l.b) l.page l.end

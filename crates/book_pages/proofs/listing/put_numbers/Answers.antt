@@ -9,17 +9,14 @@ use Rattle.book_pages.proofs.listing.put_numbers.Goals as goal
 
 pub loop-i-init : goal.loop-i-init
 unfolding number_lines
-loop-i-init c = (no_line _, search rules)
+loop-i-init c = no_line _
 
 pub overflow_cast-list : goal.overflow_cast-list
 overflow_cast-list c = omega (arith, c.type_inv.list c.loop-i.i)
 
 pub loop-i-preserved : goal.loop-i-preserved
 unfolding number_lines
-loop-i-preserved c = (next-line _ c.loop-i.i c.loop-i.invariant.0 c.put_number-end.ensures, omega arith)
-
-pub shape_of-page : goal.shape_of-page
-shape_of-page c = c.loop-i.invariant.0.kept
+loop-i-preserved c = next-line _ c.loop-i.i c.loop-i.invariant c.put_number-end.ensures
 
 pub returns : goal.returns
-returns c = put_as (ap (number_lines _) (omega arith)) c.loop-i.invariant.0
+returns c = put_as (ap (number_lines _) (omega arith)) c.loop-i.invariant

@@ -6,7 +6,4 @@ use Rattle.book_pages.specs.ListText.{number_lines}
 use Rattle.book_pages.proofs.listing.put_numbers.Given as goal
 
 abbrev pub invariant-loop-i : goal.invariant-loop-i
-invariant-loop-i l = Put l.initial.page l.at (number_lines l.list l.i) l.page l.end × (l.i ≤ length l.list)
-
-abbrev pub decreases-loop-i : goal.decreases-loop-i
-decreases-loop-i l = length l.list - l.i
+invariant-loop-i l = Put l.initial.page l.at (number_lines l.list l.i) l.page l.end
