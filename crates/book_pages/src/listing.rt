@@ -17,8 +17,8 @@ fn put_numbers(page: &mut [u8], at: usize, list: &[u16]) -> usize
     ensures { Put page.old at (number_lines list.now (length list.now)) page.new result }
 {
     let mut end = at;
-    for i in 0..list.len() {
-        end = pages::put_number(page, end, list[i] as usize, b'\n');
+    for &x in list {
+        end = pages::put_number(page, end, usize::from(x), b'\n');
     }
     end
 }

@@ -5,17 +5,16 @@ ghost use Rattle.sentences.specs.Arguments as args;
 ghost use Rattle.book_pages.specs.WordsText.{words_text};
 ghost use Rattle.sentences.specs.Rooms.{UNREAD-LINE};
 
-use sentences::Whom;
+use sentences::{Unread, Whom};
 use text::Form;
 
 // Whose words they are.
-fn speaker(form: Form) -> usize
+fn speaker(form: Form) -> Whom
     ensures { result ≡ args.speaker form }
 {
     match form {
-        Form::Records => Whom::Words,
         Form::Claims => Whom::ClaimWords,
-        Form::Log => Whom::Words,
+        Form::Records | Form::Log => Whom::Words,
     }
 }
 
@@ -26,10 +25,7 @@ pub fn write_words(form: Form, words: &[u8], page: &mut [u8]) -> Option<usize>
 {
     let said = sentences::sources::read_words(form, words);
     match said {
-        Words::Wrong(reason) => {
-            let whom = speaker(form);
-            sentences::write_unread(page, whom, 0, reason)
-        }
+        Err(cause) => sentences::write_unread(page, speaker(form), Unread { line: 0, cause }),
         Ok(_) => pages::finish(page.len(), 0),
     }
 }

@@ -1,5 +1,4 @@
 -- `grid::put_columns` meets its contract: the loop keeps that the first b digits are put. Assumes nothing.
-use borrow.Author.Rules.{rules}
 use native.Mathlib.Omega.{arith}
 use mathlib.Core.Path.{ap}
 use mathlib.Core.List.{[], ◌∷◌}

@@ -1,5 +1,4 @@
 -- `grid::put_columns` meets its contract: the loop keeps that the first b digits are put. Assumes nothing.
-use Prim.Native.Nat.{◌≤◌, ◌-◌}
 use Rattle.pages.specs.Put.{Put}
 use Rattle.book_pages.specs.GridText.{columns}
 use Rattle.book_pages.proofs.grid.put_columns.Given as goal
