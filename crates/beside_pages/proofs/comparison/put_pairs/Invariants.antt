@@ -1,7 +1,5 @@
 -- `beside_pages::put_pairs` meets its contract. Assumes nothing.
-use Prim.Native.Nat.{◌≤◌, ◌-◌}
 use Rattle.pages.specs.Put.{Put}
-use Rattle.records.specs.Record.{records}
 use Rattle.beside_pages.specs.ComparisonText.{pair_lines}
 use Rattle.beside_pages.proofs.comparison.put_pairs.Given as goal
 

@@ -1,5 +1,4 @@
 -- `beside_pages::put_entries` meets its contract. Assumes nothing.
-use borrow.Author.Rules.{rules}
 use native.Mathlib.Omega.{arith}
 use mathlib.Core.Path.{ap}
 use Rattle.pages.proofs.Puts.{put_as}

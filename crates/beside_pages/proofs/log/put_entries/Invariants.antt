@@ -1,7 +1,5 @@
 -- `beside_pages::put_entries` meets its contract. Assumes nothing.
-use Prim.Native.Nat.{◌≤◌, ◌-◌}
 use Rattle.pages.specs.Put.{Put}
-use Rattle.replicates.specs.Log.{entry_count}
 use Rattle.beside_pages.specs.LogText.{entry_lines}
 use Rattle.beside_pages.proofs.log.put_entries.Given as goal
 
