@@ -10,9 +10,8 @@ ghost use Rattle.beside_pages.specs.Rooms.{COMPARISON-HEAD, COMPARISON-ROOM};
 ghost use Rattle.text.specs.Rooms.{CLAIMS-ROOM};
 
 use compare::RefusedOf;
-use pages::Written;
 use records::{Record, Refusal};
-use sentences::sources::Source;
+use sentences::Whom;
 use text::Form;
 
 // The bytes of the longest comparison: three a claim.
@@ -47,12 +46,10 @@ fn put_pairs(page: &mut [u8], at: usize, claims: &[u8], bytes: &[u8]) -> usize
 {
     let n = claims.len() / records::RECORD_BYTES;
     let mut end = at;
-    let mut i: usize = 0;
-    while i < n {
+    for i in 0..n {
         let k = compare::joint::COMPARED_BYTES * i;
         let claim = records::record_at(claims, i);
         end = put_pair(page, end, i, claim, bytes[k], bytes[k + 1], bytes[k + 2]);
-        i += 1;
     }
     end
 }
@@ -80,7 +77,7 @@ fn put_refused_in(
     ensures claims_len_bound { length (refused_in k refusal place source.now second.now claims.now) ≤ COMPARISON-HEAD }
 {
     if k == compare::SECOND {
-        let at = sentences::put_prefix(page, 0, sentences::SECOND);
+        let at = sentences::put_prefix(page, 0, Whom::Second);
         return sentences::put_refused(page, at, refusal, place, second, claims);
     }
     sentences::put_refused(page, 0, refusal, place, source, claims)
@@ -141,20 +138,15 @@ fn write_answers(
     second: &[u8],
     claims: &[u8],
     page: &mut [u8],
-) -> Written
+) -> Option<usize>
     ensures page { Page page.old (of_claims claims.now (λ asked. beside_text first.now other.now asked source.now second.now claims.now)) page.new result }
     ensures claims_len_bound { length (of_claims claims.now (λ asked. beside_text first.now other.now asked source.now second.now claims.now)) ≤ COMPARISON-ROOM }
 {
     let mut asked = [0u8; text::CLAIMS_ROOM];
     let read = sentences::sources::read_source(Form::Claims, claims, &mut asked);
     match read {
-        Source::Unread(bad, reason) => sentences::write_unread(
-            page,
-            sentences::CLAIMS,
-            bad,
-            reason,
-        ),
-        Source::Bytes(n) => {
+        Err(unread) => sentences::write_unread(page, Whom::Claims, unread),
+        Ok(n) => {
             let end = put_comparison(first, other, &asked[..n], source, second, claims, page);
             pages::finish(page.len(), end)
         }
@@ -168,32 +160,27 @@ fn write_second(
     second: &[u8],
     claims: &[u8],
     page: &mut [u8],
-) -> Written
+) -> Option<usize>
     ensures page { Page page.old (of_second second.now (λ other. of_claims claims.now (λ asked. beside_text first.now other asked source.now second.now claims.now))) page.new result }
     ensures claims_len_bound { length (of_second second.now (λ other. of_claims claims.now (λ asked. beside_text first.now other asked source.now second.now claims.now))) ≤ COMPARISON-ROOM }
 {
     let mut other = [0u8; text::BOOK_ROOM];
     let read = sentences::sources::read_source(Form::Records, second, &mut other);
     match read {
-        Source::Unread(bad, reason) => sentences::write_unread(
-            page,
-            sentences::SECOND,
-            bad,
-            reason,
-        ),
-        Source::Bytes(n) => write_answers(first, &other[..n], source, second, claims, page),
+        Err(unread) => sentences::write_unread(page, Whom::Second, unread),
+        Ok(n) => write_answers(first, &other[..n], source, second, claims, page),
     }
 }
 
 // Two books and the claims that both answer: 208,960 bytes always serve.
-pub fn write_comparison(source: &[u8], second: &[u8], claims: &[u8], page: &mut [u8]) -> Written
+pub fn write_comparison(source: &[u8], second: &[u8], claims: &[u8], page: &mut [u8]) -> Option<usize>
     ensures page { Page page.old (comparison_text source.now second.now claims.now) page.new result }
     ensures claims_len_bound { length (comparison_text source.now second.now claims.now) ≤ COMPARISON-ROOM }
 {
     let mut first = [0u8; text::BOOK_ROOM];
     let read = sentences::sources::read_source(Form::Records, source, &mut first);
     match read {
-        Source::Unread(bad, reason) => sentences::write_unread(page, sentences::BOOK, bad, reason),
-        Source::Bytes(n) => write_second(&first[..n], source, second, claims, page),
+        Err(unread) => sentences::write_unread(page, Whom::Book, unread),
+        Ok(n) => write_second(&first[..n], source, second, claims, page),
     }
 }

@@ -9,9 +9,9 @@ ghost use Rattle.beside_pages.specs.LogText.{entry_line, entry_lines, none, meas
 ghost use Rattle.beside_pages.specs.Rooms.{LOG-PAGE-ROOM};
 ghost use Rattle.text.specs.Rooms.{LOG-ROOM};
 
-use pages::Written;
+
 use replicates::{Replicated, Window};
-use sentences::sources::Source;
+use sentences::Whom;
 use text::Form;
 
 // The line of entry i.
@@ -31,14 +31,12 @@ fn put_entries(page: &mut [u8], log: &[u8], bytes: &[u8]) -> usize
     ensures log_len_bound { length (entry_lines log.now bytes.now (entry_count log.now)) ≤ LOG-PAGE-ROOM }
 {
     let n = log.len() / replicates::ENTRY_BYTES;
-    let mut end: usize = 0;
-    let mut i: usize = 0;
-    while i < n {
+    let mut end = 0;
+    for i in 0..n {
         let low = replicates::ENTRY_BYTES * i;
         let high = low + 1;
         let piece = numbers::wide(log[low]) + numbers::BYTE_VALUES * numbers::wide(log[high]);
         end = put_entry(page, end, i, piece, bytes[low], bytes[high]);
-        i += 1;
     }
     end
 }
@@ -75,15 +73,15 @@ fn put_log(book: &[u8], log: &[u8], source: &[u8], other: &[u8], page: &mut [u8]
 }
 
 // The replicates in the log of a source.
-fn write_entries(book: &[u8], source: &[u8], other: &[u8], page: &mut [u8]) -> Written
+fn write_entries(book: &[u8], source: &[u8], other: &[u8], page: &mut [u8]) -> Option<usize>
     ensures page { Page page.old (of_log other.now (λ log. measured_text book.now log source.now other.now)) page.new result }
     ensures other_len_bound { length (of_log other.now (λ log. measured_text book.now log source.now other.now)) ≤ LOG-PAGE-ROOM }
 {
     let mut log = [0u8; text::LOG_ROOM];
     let read = sentences::sources::read_source(Form::Log, other, &mut log);
     match read {
-        Source::Unread(bad, reason) => sentences::write_unread(page, sentences::LOG, bad, reason),
-        Source::Bytes(n) => {
+        Err(unread) => sentences::write_unread(page, Whom::Log, unread),
+        Ok(n) => {
             let end = put_log(book, &log[..n], source, other, page);
             pages::finish(page.len(), end)
         }
@@ -91,14 +89,14 @@ fn write_entries(book: &[u8], source: &[u8], other: &[u8], page: &mut [u8]) -> W
 }
 
 // The replicates in a log: 655,380 bytes always serve.
-pub fn write_log(source: &[u8], other: &[u8], page: &mut [u8]) -> Written
+pub fn write_log(source: &[u8], other: &[u8], page: &mut [u8]) -> Option<usize>
     ensures page { Page page.old (log_text source.now other.now) page.new result }
     ensures other_len_bound { length (log_text source.now other.now) ≤ LOG-PAGE-ROOM }
 {
     let mut book = [0u8; text::BOOK_ROOM];
     let read = sentences::sources::read_source(Form::Records, source, &mut book);
     match read {
-        Source::Unread(bad, reason) => sentences::write_unread(page, sentences::BOOK, bad, reason),
-        Source::Bytes(n) => write_entries(&book[..n], source, other, page),
+        Err(unread) => sentences::write_unread(page, Whom::Book, unread),
+        Ok(n) => write_entries(&book[..n], source, other, page),
     }
 }

@@ -25,7 +25,7 @@ use Rattle.grids.specs.Gridded.{by_size, grid_outcome, bit_for, Gridded}
 use Rattle.sentences.specs.Refusals as line
 use Rattle.pages.proofs.Lined.{same_lines}
 use Rattle.book_pages.proofs.Rooms.{grid-width}
-use Rattle.book_pages.specs.Sign.{between, sign, four}
+use Rattle.book_pages.specs.Sign.{between, sign}
 use Rattle.book_pages.specs.GridText.{tens, ones, digit, heading, headings, signs, row, rows, grid_lines, text_of, sheet_text}
 
 -- ---- the columns
@@ -71,13 +71,6 @@ module _ (D E : Fact → Bool) (n : ℕ) (same : (f : Fact) → Within n f → D
   unfolding grid_lines rows
   same-grid = rw (same_lines (row D n) (row E n) n same_row)
 
--- four lists are the grids that hold them
-four_is : (g : Grids) (f : Fact) → four g.part g.apart g.meets g.notpart f ≡ holds g f
-four_is g (PART a b) = refl
-four_is g (APART a b) = refl
-four_is g (MEETS a b) = refl
-four_is g (NOTPART a b) = refl
-
 data Known (b : Bool) : Type 0 where
   is_true : b ≡ true → Known b
   is_false : b ≡ false → Known b
@@ -114,17 +107,16 @@ module _ (s source : List ℕ) (o : Outcome) (g : Grids) (d : Gridded s o g) whe
     unfolding grid_outcome
     small = few (fresh_call s []) n x y (sym d.outcome-is ∙ is)
 
-    bits-follow : (f : Fact) → Within n f → four g.part g.apart g.meets g.notpart f ≡ follows (marked s) n (facts s) f
+    bits-follow : (f : Fact) → Within n f → holds g f ≡ follows (marked s) n (facts s) f
     unfolding bit_for claimed
     bits-follow f w =
-        four_is g f
-        ∙ d.bits f (omega (arith, small), omega (arith, small))
+        d.bits f (omega (arith, small), omega (arith, small))
         ∙ ap (λ p. bit_for s p f) (sym d.outcome-is ∙ is)
         ∙ ap (λ b. b && follows (marked s) n (facts s) f) (among-them n f w)
 
-    pub accepted : grid_lines (four g.part g.apart g.meets g.notpart) n ≡ sheet_text s source
+    pub accepted : grid_lines (holds g) n ≡ sheet_text s source
     unfolding sheet_text text_of
-    accepted = same-grid (four g.part g.apart g.meets g.notpart) (follows (marked s) n (facts s)) n bits-follow ∙ rw (← d.outcome-is, is)
+    accepted = same-grid (holds g) (follows (marked s) n (facts s)) n bits-follow ∙ rw (← d.outcome-is, is)
 
     pub accepted-short : length (sheet_text s source) ≤ 4498
-    accepted-short = rw (sym accepted) (grid-width (four g.part g.apart g.meets g.notpart) n small)
+    accepted-short = rw (sym accepted) (grid-width (holds g) n small)

@@ -1,7 +1,6 @@
 -- The sign of two pieces on the page of a grid, by which claims about them follow. Assumes nothing.
-use Rattle.std.specs.Prelude.{ℕ, Bool, true, false, ◌&&◌, ◌||◌, List}
+use Rattle.std.specs.Prelude.{ℕ, Bool, true, false, ◌&&◌, ◌||◌}
 use Rattle.rules.specs.Fact.{Fact, PART, APART, MEETS, NOTPART}
-use Rattle.grids.specs.Grid.{bit_at}
 
 abbrev pub pick : {A : Type 0} → Bool → A → A → A
 pick true x y = x
@@ -19,10 +18,3 @@ between D a b = sign_of (D (PART a b)) (D (PART b a)) (D (APART a b)) (D (MEETS 
 -- `v` where a or b is void, which is APART from itself
 unfoldable pub sign : (Fact → Bool) → ℕ → ℕ → ℕ
 sign D a b = pick (D (APART a a) || D (APART b b)) 118 (between D a b)
-
--- the facts of four grids
-abbrev pub four : (part apart meets notpart : List ℕ) → Fact → Bool
-four part apart meets notpart (PART a b) = bit_at part a b
-four part apart meets notpart (APART a b) = bit_at apart a b
-four part apart meets notpart (MEETS a b) = bit_at meets a b
-four part apart meets notpart (NOTPART a b) = bit_at notpart a b

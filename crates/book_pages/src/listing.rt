@@ -9,9 +9,8 @@ ghost use Rattle.book_pages.specs.Rooms.{LIST-ROOM};
 ghost use Rattle.records.specs.Sizes.{PIECES};
 
 use catalog::Counts;
-use pages::Written;
 use records::Refused;
-use sentences::sources::{Source, Words};
+use sentences::{Unread, Whom};
 use text::Form;
 
 // The numbers of a list, one a line.
@@ -19,10 +18,8 @@ fn put_numbers(page: &mut [u8], at: usize, list: &[u16]) -> usize
     ensures { Put page.old at (number_lines list.now (length list.now)) page.new result }
 {
     let mut end = at;
-    let mut i: usize = 0;
-    while i < list.len() {
-        end = pages::put_number(page, end, list[i] as usize, b'\n');
-        i += 1;
+    for &x in list {
+        end = pages::put_number(page, end, usize::from(x), b'\n');
     }
     end
 }
@@ -86,15 +83,15 @@ fn put_catalog(book: &[u8], source: &[u8], kind: usize, g: usize, page: &mut [u8
 }
 
 // The list that a catalog of a source has.
-fn write_pieces(source: &[u8], kind: usize, g: usize, page: &mut [u8]) -> Written
+fn write_pieces(source: &[u8], kind: usize, g: usize, page: &mut [u8]) -> Option<usize>
     ensures page { Page page.old (of_book source.now (λ book. catalog_text book source.now kind g)) page.new result }
     ensures g_len_bound { length (of_book source.now (λ book. catalog_text book source.now kind g)) ≤ LIST-ROOM }
 {
     let mut book = [0u8; text::BOOK_ROOM];
     let read = sentences::sources::read_source(Form::Records, source, &mut book);
     match read {
-        Source::Unread(bad, reason) => sentences::write_unread(page, sentences::BOOK, bad, reason),
-        Source::Bytes(n) => {
+        Err(unread) => sentences::write_unread(page, Whom::Book, unread),
+        Ok(n) => {
             let end = put_catalog(&book[..n], source, kind, g, page);
             pages::finish(page.len(), end)
         }
@@ -102,13 +99,13 @@ fn write_pieces(source: &[u8], kind: usize, g: usize, page: &mut [u8]) -> Writte
 }
 
 // The pieces x of which the claim of a kind 1 to 3 about x and the piece in the words follows, on a page: 12,300 bytes always serve.
-pub fn write_list(source: &[u8], kind: usize, words: &[u8], page: &mut [u8]) -> Written
+pub fn write_list(source: &[u8], kind: usize, words: &[u8], page: &mut [u8]) -> Option<usize>
     ensures page { Page page.old (list_text source.now kind words.now) page.new result }
     ensures words_len_bound { length (list_text source.now kind words.now) ≤ LIST-ROOM }
 {
     let said = sentences::sources::read_words(Form::Log, words);
     match said {
-        Words::Wrong(reason) => sentences::write_unread(page, sentences::WORDS, 0, reason),
-        Words::Entry(number) => write_pieces(source, kind, number.a, page),
+        Err(cause) => sentences::write_unread(page, Whom::Words, Unread { line: 0, cause }),
+        Ok(number) => write_pieces(source, kind, number.a, page),
     }
 }

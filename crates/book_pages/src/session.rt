@@ -9,8 +9,7 @@ ghost use Rattle.book_pages.specs.Rooms.{ASK-ROOM, ASK-WORDS-ROOM, CLAIM-LINE};
 ghost use Rattle.sentences.specs.Rooms.{REFUSED-LINE};
 ghost use Rattle.text.specs.Rooms.{CLAIMS-ROOM};
 
-use pages::Written;
-use sentences::sources::{Source, Words};
+use sentences::{Unread, Whom};
 use text::Form;
 
 // An answer for each claim, and one more.
@@ -35,20 +34,15 @@ fn put_session(book: &[u8], claims: &[u8], source: &[u8], other: &[u8], page: &m
 }
 
 // The answers about a book to the claims of a source.
-fn write_answers(book: &[u8], source: &[u8], claims: &[u8], page: &mut [u8]) -> Written
+fn write_answers(book: &[u8], source: &[u8], claims: &[u8], page: &mut [u8]) -> Option<usize>
     ensures page { Page page.old (of_claims claims.now (λ asked. session_text book.now asked source.now claims.now)) page.new result }
     ensures claims_len_bound { length (of_claims claims.now (λ asked. session_text book.now asked source.now claims.now)) ≤ ASK-ROOM }
 {
     let mut asked = [0u8; text::CLAIMS_ROOM];
     let read = sentences::sources::read_source(Form::Claims, claims, &mut asked);
     match read {
-        Source::Unread(bad, reason) => sentences::write_unread(
-            page,
-            sentences::CLAIMS,
-            bad,
-            reason,
-        ),
-        Source::Bytes(n) => {
+        Err(unread) => sentences::write_unread(page, Whom::Claims, unread),
+        Ok(n) => {
             let end = put_session(book, &asked[..n], source, claims, page);
             pages::finish(page.len(), end)
         }
@@ -56,20 +50,20 @@ fn write_answers(book: &[u8], source: &[u8], claims: &[u8], page: &mut [u8]) -> 
 }
 
 // The answers to the claims about the book: 135,343 bytes always serve.
-pub fn write_ask(source: &[u8], claims: &[u8], page: &mut [u8]) -> Written
+pub fn write_ask(source: &[u8], claims: &[u8], page: &mut [u8]) -> Option<usize>
     ensures page { Page page.old (ask_text source.now claims.now) page.new result }
     ensures claims_len_bound { length (ask_text source.now claims.now) ≤ ASK-ROOM }
 {
     let mut book = [0u8; text::BOOK_ROOM];
     let read = sentences::sources::read_source(Form::Records, source, &mut book);
     match read {
-        Source::Unread(bad, reason) => sentences::write_unread(page, sentences::BOOK, bad, reason),
-        Source::Bytes(n) => write_answers(&book[..n], source, claims, page),
+        Err(unread) => sentences::write_unread(page, Whom::Book, unread),
+        Ok(n) => write_answers(&book[..n], source, claims, page),
     }
 }
 
 // The answer about a source to one claim, or to none.
-fn write_about(source: &[u8], claims: &[u8], page: &mut [u8]) -> Written
+fn write_about(source: &[u8], claims: &[u8], page: &mut [u8]) -> Option<usize>
     requires { length claims.now ≤ CLAIMS-ROOM }
     ensures page { Page page.old (of_book source.now (λ book. session_text book claims.now source.now [])) page.new result }
     ensures source_len_bound { length (of_book source.now (λ book. session_text book claims.now source.now [])) ≤ REFUSED-LINE + CLAIM-LINE * records claims.now }
@@ -78,8 +72,8 @@ fn write_about(source: &[u8], claims: &[u8], page: &mut [u8]) -> Written
     let none = [0u8; 0];
     let read = sentences::sources::read_source(Form::Records, source, &mut book);
     match read {
-        Source::Unread(bad, reason) => sentences::write_unread(page, sentences::BOOK, bad, reason),
-        Source::Bytes(n) => {
+        Err(unread) => sentences::write_unread(page, Whom::Book, unread),
+        Ok(n) => {
             let end = put_session(&book[..n], claims, source, &none, page);
             pages::finish(page.len(), end)
         }
@@ -87,7 +81,7 @@ fn write_about(source: &[u8], claims: &[u8], page: &mut [u8]) -> Written
 }
 
 // The counts of the book: 142 bytes always serve.
-pub fn write_check(source: &[u8], page: &mut [u8]) -> Written
+pub fn write_check(source: &[u8], page: &mut [u8]) -> Option<usize>
     ensures page { Page page.old (check_text source.now) page.new result }
     ensures source_len_bound { length (check_text source.now) ≤ REFUSED-LINE }
 {
@@ -96,14 +90,14 @@ pub fn write_check(source: &[u8], page: &mut [u8]) -> Written
 }
 
 // The answer to the claim in the words: 175 bytes always serve.
-pub fn write_ask_words(source: &[u8], words: &[u8], page: &mut [u8]) -> Written
+pub fn write_ask_words(source: &[u8], words: &[u8], page: &mut [u8]) -> Option<usize>
     ensures page { Page page.old (ask_words_text source.now words.now) page.new result }
     ensures words_len_bound { length (ask_words_text source.now words.now) ≤ ASK-WORDS-ROOM }
 {
     let said = sentences::sources::read_words(Form::Claims, words);
     match said {
-        Words::Wrong(reason) => sentences::write_unread(page, sentences::CLAIM_WORDS, 0, reason),
-        Words::Entry(claim) => {
+        Err(cause) => sentences::write_unread(page, Whom::ClaimWords, Unread { line: 0, cause }),
+        Ok(claim) => {
             let six = sentences::sources::six_bytes(claim);
             write_about(source, &six, page)
         }

@@ -5,11 +5,10 @@ ghost use Rattle.book_pages.specs.ShowText.{shown_text, show_text};
 ghost use Rattle.book_pages.specs.Rooms.{SHOW-ROOM};
 ghost use Rattle.text.specs.Rooms.{BOOK-ROOM};
 
-use pages::Written;
-use sentences::sources::Source;
+use sentences::Whom;
 use text::Form;
 
-fn write_shown(book: &[u8], source: &[u8], page: &mut [u8]) -> Written
+fn write_shown(book: &[u8], source: &[u8], page: &mut [u8]) -> Option<usize>
     requires { length book.now ≤ BOOK-ROOM }
     ensures page { Page page.old (shown_text book.now source.now) page.new result }
     ensures source_len_bound { length (shown_text book.now source.now) ≤ SHOW-ROOM }
@@ -30,14 +29,14 @@ fn write_shown(book: &[u8], source: &[u8], page: &mut [u8]) -> Written
 }
 
 // The book as text: 229,404 bytes always serve.
-pub fn write_show(source: &[u8], page: &mut [u8]) -> Written
+pub fn write_show(source: &[u8], page: &mut [u8]) -> Option<usize>
     ensures page { Page page.old (show_text source.now) page.new result }
     ensures source_len_bound { length (show_text source.now) ≤ SHOW-ROOM }
 {
     let mut book = [0u8; text::BOOK_ROOM];
     let read = sentences::sources::read_source(Form::Records, source, &mut book);
     match read {
-        Source::Unread(bad, reason) => sentences::write_unread(page, sentences::BOOK, bad, reason),
-        Source::Bytes(n) => write_shown(&book[..n], source, page),
+        Err(unread) => sentences::write_unread(page, Whom::Book, unread),
+        Ok(n) => write_shown(&book[..n], source, page),
     }
 }

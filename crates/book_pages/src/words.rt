@@ -5,32 +5,27 @@ ghost use Rattle.sentences.specs.Arguments as args;
 ghost use Rattle.book_pages.specs.WordsText.{words_text};
 ghost use Rattle.sentences.specs.Rooms.{UNREAD-LINE};
 
-use pages::Written;
-use sentences::sources::Words;
+use sentences::{Unread, Whom};
 use text::Form;
 
 // Whose words they are.
-fn speaker(form: Form) -> usize
+fn speaker(form: Form) -> Whom
     ensures { result ≡ args.speaker form }
 {
     match form {
-        Form::Records => sentences::WORDS,
-        Form::Claims => sentences::CLAIM_WORDS,
-        Form::Log => sentences::WORDS,
+        Form::Claims => Whom::ClaimWords,
+        Form::Records | Form::Log => Whom::Words,
     }
 }
 
 // The line of words that cannot be read, and nothing of words that can: 95 bytes always serve.
-pub fn write_words(form: Form, words: &[u8], page: &mut [u8]) -> Written
+pub fn write_words(form: Form, words: &[u8], page: &mut [u8]) -> Option<usize>
     ensures page { Page page.old (words_text form words.now) page.new result }
     ensures words_len_bound { length (words_text form words.now) ≤ UNREAD-LINE }
 {
     let said = sentences::sources::read_words(form, words);
     match said {
-        Words::Wrong(reason) => {
-            let whom = speaker(form);
-            sentences::write_unread(page, whom, 0, reason)
-        }
-        Words::Entry(_) => pages::finish(page.len(), 0),
+        Err(cause) => sentences::write_unread(page, speaker(form), Unread { line: 0, cause }),
+        Ok(_) => pages::finish(page.len(), 0),
     }
 }

@@ -4,7 +4,7 @@ use mathlib.Core.Path.{◌≡◌, sym, subst, ◌∙◌}
 use mathlib.Core.List.{List, []}
 use native.Mathlib.Omega.{arith}
 use Rattle.records.specs.declared.Record.{Record}
-use Rattle.pages.specs.declared.Written.{Written}
+use Rattle.std.specs.Prelude.{Option}
 use Rattle.text.specs.declared.Form.TheVariants.{Records, Claims}
 use Rattle.text.specs.Entry.{six_bytes}
 use Rattle.text.specs.Text.{Entries}
@@ -25,7 +25,7 @@ use Rattle.chain_pages.proofs.Readings.{no_bytes, not-read, one-book}
 abbrev of : List ℕ → Record → List ℕ → List ℕ → List ℕ
 of source entry c book = why_text source (six_bytes entry) (said book (six_bytes entry)) c
 
-module _ (source : List ℕ) (entry : Record) {page page' : List ℕ} (r : Written) where
+module _ (source : List ℕ) (entry : Record) {page page' : List ℕ} (r : Option ℕ) where
   pub source-unread : (l number : ℕ) → Breaks (read_either Records source) l number → Paged 95 page (unread_line 0 l number) page' r → OfSource source entry page page' r
   source-unread l number b t =
       let whole : Paged 852835 page (text_of source entry []) page' r = page-unread 852835 page page' r 0 Records source (of source entry []) (omega arith) b t in
@@ -47,7 +47,7 @@ module _ (source : List ℕ) (entry : Record) {page page' : List ℕ} (r : Writt
 
 -- ---- words that say a claim, and words that do not
 
-module _ (source words : List ℕ) {page page' : List ℕ} (w : Words) (is : w ≡ words_of Claims words) (r : Written) where
+module _ (source words : List ℕ) {page page' : List ℕ} (w : Words) (is : w ≡ words_of Claims words) (r : Option ℕ) where
   pub words-wrong : (reason : ℕ) → w ≡ Wrong reason → Paged 95 page (unread_line 5 0 reason) page' r → Why source words page page' r
   unfolding why_page
   words-wrong reason e t =

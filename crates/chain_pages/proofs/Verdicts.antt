@@ -7,7 +7,7 @@ use native.Mathlib.Omega.{arith}
 use lib.ListN.{length}
 use Rattle.pages.specs.Put.{Put}
 use Rattle.pages.specs.Written.{written_at}
-use Rattle.pages.specs.declared.Written.{Written}
+use Rattle.std.specs.Prelude.{Option}
 use Rattle.text.specs.declared.Form.TheVariants.{Records}
 use Rattle.text.specs.Text.{Entries}
 use Rattle.text.specs.Either.{read_either}
@@ -23,7 +23,7 @@ unfolding verdict_line
 line-short true = omega arith
 line-short false = omega arith
 
-module _ (source chain : List ℕ) {page page' : List ℕ} (x : Written) where
+module _ (source chain : List ℕ) {page page' : List ℕ} (x : Option ℕ) where
   pub verdict-unread : (l number : ℕ) → Breaks (read_either Records source) l number → Paged 95 page (unread_line 0 l number) page' x → Verdict source chain page page' x
   verdict-unread l number b t =
       let p : Paged 95 page (verdict_page source false) page' x = page-unread 95 page page' x 0 Records source (λ (book : List ℕ). verdict_line false) (omega arith) b t in

@@ -13,8 +13,8 @@ use Rattle.chain_writing.specs.Call.{shown}
 use Rattle.verdicts.specs.declared.Answer.{Answer}
 use Rattle.chain_check.specs.Call.{passes}
 use Rattle.pages.specs.Written.{Page}
-use Rattle.pages.specs.declared.Written.{Written}
-use Rattle.pages.specs.declared.Written.TheVariants.{Text}
+use Rattle.std.specs.Prelude.{Option}
+use Rattle.std.specs.Prelude.{Some}
 use Rattle.text.specs.declared.Form.TheVariants.{Records, Claims}
 use Rattle.text.specs.Entry.{six_bytes}
 use Rattle.sentences.proofs.Readings.{of-read}
@@ -42,7 +42,7 @@ answer-of : (x : Reply) → shown x ≡ true → (a : Answer) × (x ≡ Ok a)
 answer-of (Ok a) h = (a, refl)
 answer-of (Err r) h = absurd (false≢true h)
 
-printed-text : (page text page' : List ℕ) (r : Written) (end : ℕ) → r ≡ Text end → Page page text page' r → take end page' ≡ text
+printed-text : (page text page' : List ℕ) (r : Option ℕ) (end : ℕ) → r ≡ Text end → Page page text page' r → take end page' ≡ text
 printed-text page text page' r end is p = (subst (Page page text page') is p).first
 
 module _ (source words book : List ℕ) (r : Record) (c : List ℕ) where

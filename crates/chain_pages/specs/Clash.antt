@@ -6,7 +6,7 @@ use Rattle.chain_format.specs.Step.{steps}
 use Rattle.clash.specs.Clash.{passes, reply_of, shown}
 use Rattle.pages.specs.Put.{Put}
 use Rattle.pages.specs.Written.{Page}
-use Rattle.pages.specs.declared.Written.{Written}
+use Rattle.std.specs.Prelude.{Option}
 use Rattle.text.specs.declared.Form.TheVariants.{Records}
 use Rattle.text.specs.Text.{Entries}
 use Rattle.text.specs.Either.{read_either}
@@ -30,7 +30,7 @@ pub record Behind (book chain : List ℕ) : Type 0 where
   pub none : shown (reply_of (fresh_call book [])) ≡ false → chain ≡ []
 
 -- the page of the outcome and of steps behind it; which of several chains they are is free
-pub record Clash (source page page' : List ℕ) (r : Written) : Type 0 where
+pub record Clash (source page page' : List ℕ) (r : Option ℕ) : Type 0 where
   pub chain : List ℕ
   pub bytes : Bytes chain
   pub behind : (book : List ℕ) → read_either Records source ≡ Entries book → Behind book chain

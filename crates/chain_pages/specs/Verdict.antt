@@ -2,7 +2,7 @@
 use Rattle.std.specs.Prelude.{ℕ, ◌≤◌, ◌<◌, ◌≡◌, Bool, true, false, List, length, take}
 use Rattle.pages.specs.Text.{ascii}
 use Rattle.pages.specs.Written.{Page}
-use Rattle.pages.specs.declared.Written.{Written}
+use Rattle.std.specs.Prelude.{Option}
 use Rattle.pages.specs.declared.Written.TheVariants.{Text}
 use Rattle.text.specs.declared.Form.TheVariants.{Records}
 use Rattle.text.specs.Text.{Entries}
@@ -20,7 +20,7 @@ abbrev pub verdict_page : (source : List ℕ) → Bool → List ℕ
 verdict_page source passes = of_book source (λ book. verdict_line passes)
 
 -- PASSES exactly where the chain verifies by the book of the source
-pub record Verdict (source chain page page' : List ℕ) (r : Written) : Type 0 where
+pub record Verdict (source chain page page' : List ℕ) (r : Option ℕ) : Type 0 where
   pub passes : Bool
   pub verifies : (book : List ℕ) → read_either Records source ≡ Entries book → Verifies book chain passes
   pub page-is : Page page (verdict_page source passes) page' r
@@ -36,5 +36,5 @@ WhyPasses =
 
 -- and nothing that is longer than every page of `why` does
 abbrev pub LongFails : Type 0
-LongFails = (source book chain out out' : List ℕ) (r : Written) → read_either Records source ≡ Entries book → 852835 < length chain
+LongFails = (source book chain out out' : List ℕ) (r : Option ℕ) → read_either Records source ≡ Entries book → 852835 < length chain
     → (v : Verdict source chain out out' r) → v.passes ≡ false

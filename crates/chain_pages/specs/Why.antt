@@ -7,7 +7,7 @@ use Rattle.chain_check.specs.Call.{passes}
 use Rattle.chain_writing.specs.Call.{shown}
 use Rattle.chain_writing.specs.declared.Chain.{Chain}
 use Rattle.pages.specs.Written.{Page}
-use Rattle.pages.specs.declared.Written.{Written}
+use Rattle.std.specs.Prelude.{Option}
 use Rattle.pages.specs.declared.Written.TheVariants.{Text}
 use Rattle.text.specs.declared.Form.TheVariants.{Records, Claims}
 use Rattle.text.specs.Entry.{six_bytes}
@@ -33,7 +33,7 @@ pub record Asks (source words book claim : List ℕ) : Type 0 where
   pub claim-is : claim ≡ six_bytes entry
 
 -- the page of the reply and of steps behind it; which of several chains they are is free
-pub record Why (source words page page' : List ℕ) (r : Written) : Type 0 where
+pub record Why (source words page page' : List ℕ) (r : Option ℕ) : Type 0 where
   pub chain : List ℕ
   pub bytes : Bytes chain
   pub behind : (book claim : List ℕ) → Asks source words book claim → Behind book claim chain
@@ -44,7 +44,7 @@ pub record Why (source words page page' : List ℕ) (r : Written) : Type 0 where
 -- what was printed for FOLLOWS or DENIED verifies
 abbrev pub WhyVerifies : Type 0
 WhyVerifies =
-    (source words book claim page page' : List ℕ) (r : Written) (end : ℕ)
+    (source words book claim page page' : List ℕ) (r : Option ℕ) (end : ℕ)
     → Why source words page page' r → Asks source words book claim → shown (said book claim) ≡ true → r ≡ Text end → Verified book (take end page')
 
 -- ---- what the inner functions promise each other
@@ -60,7 +60,7 @@ pub record Shown (book claim : List ℕ) (r : Chain) (c' : List ℕ) : Type 0 wh
   pub few : r.steps ≤ 16400
   pub behind : Behind book claim (take (10 * r.steps) c')
 
-pub record OfBook (source book claim page page' : List ℕ) (r : Written) : Type 0 where
+pub record OfBook (source book claim page page' : List ℕ) (r : Option ℕ) : Type 0 where
   pub chain : List ℕ
   pub bytes : Bytes chain
   pub behind : Behind book claim chain
@@ -70,7 +70,7 @@ pub record OfBook (source book claim page page' : List ℕ) (r : Written) : Type
 abbrev pub text_of : (source : List ℕ) → Record → (c : List ℕ) → List ℕ
 text_of source r c = of_book source (λ book. why_text source (six_bytes r) (said book (six_bytes r)) c)
 
-pub record OfSource (source : List ℕ) (entry : Record) (page page' : List ℕ) (r : Written) : Type 0 where
+pub record OfSource (source : List ℕ) (entry : Record) (page page' : List ℕ) (r : Option ℕ) : Type 0 where
   pub chain : List ℕ
   pub bytes : Bytes chain
   pub behind : (book : List ℕ) → read_either Records source ≡ Entries book → Behind book (six_bytes entry) chain

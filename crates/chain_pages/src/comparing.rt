@@ -51,10 +51,8 @@ fn pass_steps(page: &[u8], at: usize, c: &[u8]) -> usize
 {
     let n = c.len() / chain_format::STEP_BYTES;
     let mut end = at;
-    let mut i: usize = 0;
-    while i < n {
+    for i in 0..n {
         end = pass_step(page, end, i, chain_format::step_at(c, i));
-        i += 1;
     }
     end
 }

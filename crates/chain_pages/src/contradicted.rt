@@ -8,9 +8,8 @@ ghost use Rattle.chain_pages.specs.ChainText.{Bytes};
 ghost use Rattle.chain_pages.specs.Clash.{Shown, StepsOf, OfBook, Clash};
 
 use outcomes::Counts;
-use pages::Written;
 use records::Refused;
-use sentences::sources::Source;
+use sentences::Whom;
 use text::Form;
 
 // The lines of steps, which are bytes.
@@ -65,14 +64,14 @@ fn clash_book(page: &mut [u8], source: &[u8], book: &[u8]) -> usize
 }
 
 // The page of the book of a source: the refusal, and a chain behind it where it is 14; or the counts.
-pub fn write_contradiction(source: &[u8], page: &mut [u8]) -> Written
+pub fn write_contradiction(source: &[u8], page: &mut [u8]) -> Option<usize>
     ensures { Clash source.now page.old page.new result }
 {
     let mut book = [0u8; text::BOOK_ROOM];
     let read = sentences::sources::read_source(Form::Records, source, &mut book);
     match read {
-        Source::Unread(l, reason) => sentences::write_unread(page, sentences::BOOK, l, reason),
-        Source::Bytes(n) => {
+        Err(unread) => sentences::write_unread(page, Whom::Book, unread),
+        Ok(n) => {
             let end = clash_book(page, source, &book[..n]);
             pages::finish(page.len(), end)
         }

@@ -70,11 +70,9 @@ pub fn put_steps(page: &mut [u8], at: usize, c: &[u8]) -> usize
 {
     let n = c.len() / chain_format::STEP_BYTES;
     let mut end = at;
-    let mut i: usize = 0;
-    while i < n {
+    for i in 0..n {
         let s = chain_format::step_at(c, i);
         end = put_step(page, end, i, s);
-        i += 1;
     }
     end
 }

@@ -83,12 +83,10 @@ fn number_if(n: usize, s: &[u8], at: usize) -> Found
 fn place_of(table: &[u8], x: u8) -> u8
     ensures { result ≡ place_in 0 table.now x % BYTE-VALUES }
 {
-    let mut i: usize = 0;
-    while i < table.len() {
+    for i in 0..table.len() {
         if table[i] == x {
             return numbers::low(i);
         }
-        i += 1;
     }
     numbers::low(i)
 }

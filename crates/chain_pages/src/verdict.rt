@@ -2,8 +2,7 @@
 ghost use Rattle.pages.specs.Put.{Put};
 ghost use Rattle.chain_pages.specs.Verdict.{verdict_line, Verdict};
 
-use pages::Written;
-use sentences::sources::Source;
+use sentences::Whom;
 use text::Form;
 
 fn put_verdict(page: &mut [u8], passes: bool) -> usize
@@ -16,14 +15,14 @@ fn put_verdict(page: &mut [u8], passes: bool) -> usize
 }
 
 // Whether the chain, a page that `why` may have printed about the book of a source, passes the check of R-2.
-pub fn write_verdict(source: &[u8], chain: &[u8], page: &mut [u8]) -> Written
+pub fn write_verdict(source: &[u8], chain: &[u8], page: &mut [u8]) -> Option<usize>
     ensures { Verdict source.now chain.now page.old page.new result }
 {
     let mut book = [0u8; text::BOOK_ROOM];
     let read = sentences::sources::read_source(Form::Records, source, &mut book);
     match read {
-        Source::Unread(l, reason) => sentences::write_unread(page, sentences::BOOK, l, reason),
-        Source::Bytes(n) => {
+        Err(unread) => sentences::write_unread(page, Whom::Book, unread),
+        Ok(n) => {
             let passes = crate::verified::verify(&book[..n], chain);
             let end = put_verdict(page, passes);
             pages::finish(page.len(), end)

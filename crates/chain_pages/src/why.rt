@@ -8,9 +8,8 @@ ghost use Rattle.chain_format.specs.Sizes.{CHAIN-BYTES};
 ghost use Rattle.chain_pages.specs.Rooms.{WHY-ROOM};
 
 use chain_writing::Chain;
-use pages::Written;
 use records::{Record, Refused};
-use sentences::sources::{Source, Words};
+use sentences::{Unread, Whom};
 use text::Form;
 use verdicts::Answer;
 
@@ -49,7 +48,7 @@ fn write_chain(book: &[u8], claim: &[u8], steps: &mut [u8; chain_format::CHAIN_B
 }
 
 // The page of the answer to the one claim about the book, and of a chain behind it. The book was read from the source.
-fn why_book(page: &mut [u8], source: &[u8], book: &[u8], claim: &[u8]) -> Written
+fn why_book(page: &mut [u8], source: &[u8], book: &[u8], claim: &[u8]) -> Option<usize>
     ensures { OfBook source.now book.now claim.now page.old page.new result }
 {
     let mut c = [0u8; chain_format::CHAIN_BYTES];
@@ -61,14 +60,14 @@ fn why_book(page: &mut [u8], source: &[u8], book: &[u8], claim: &[u8]) -> Writte
 }
 
 // The same for the book of a source.
-fn why_source(page: &mut [u8], source: &[u8], claim: Record) -> Written
+fn why_source(page: &mut [u8], source: &[u8], claim: Record) -> Option<usize>
     ensures { OfSource source.now claim page.old page.new result }
 {
     let mut book = [0u8; text::BOOK_ROOM];
     let read = sentences::sources::read_source(Form::Records, source, &mut book);
     match read {
-        Source::Unread(l, reason) => sentences::write_unread(page, sentences::BOOK, l, reason),
-        Source::Bytes(n) => {
+        Err(unread) => sentences::write_unread(page, Whom::Book, unread),
+        Ok(n) => {
             let six = sentences::sources::six_bytes(claim);
             why_book(page, source, &book[..n], &six)
         }
@@ -76,12 +75,12 @@ fn why_source(page: &mut [u8], source: &[u8], claim: Record) -> Written
 }
 
 // The page of the claim that the words say, about the book of a source: its answer, and a chain behind it.
-pub fn write_why(source: &[u8], words: &[u8], page: &mut [u8]) -> Written
+pub fn write_why(source: &[u8], words: &[u8], page: &mut [u8]) -> Option<usize>
     ensures { Why source.now words.now page.old page.new result }
 {
     let said = sentences::sources::read_words(Form::Claims, words);
     match said {
-        Words::Wrong(reason) => sentences::write_unread(page, sentences::CLAIM_WORDS, 0, reason),
-        Words::Entry(claim) => why_source(page, source, claim),
+        Err(cause) => sentences::write_unread(page, Whom::ClaimWords, Unread { line: 0, cause }),
+        Ok(claim) => why_source(page, source, claim),
     }
 }

@@ -5,25 +5,24 @@ use mathlib.Core.List.{List}
 use native.Mathlib.Decide.{dec_lt}
 use native.Mathlib.Omega.{arith}
 use lib.ListN.{length}
-use borrow.Author.Tests.{lt-ltb, le-ltb}
+use borrow.Author.Tests.{le-leb, lt-leb}
 use Rattle.io.specs.Counts.{IsPrefixLen}
 use Rattle.pages.specs.Printed.{Printed}
 use Rattle.pages.specs.Put.{Put}
 use Rattle.pages.specs.Written.{written_at, Page}
-use Rattle.pages.specs.declared.Written.{Written}
-use Rattle.pages.specs.declared.Written.TheVariants.{Text, NoRoom}
+use Rattle.std.specs.Prelude.{Option, Some, None}
 use Rattle.pages.proofs.Puts.{printed}
 
-pub full : (n e : ℕ) → n < e → written_at n e ≡ NoRoom
+pub full : (n e : ℕ) → n < e → written_at n e ≡ None
 unfolding written_at
-full n e h = rw (lt-ltb n e h)
+full n e h = rw (lt-leb e n h)
 
-pub roomy : (n e : ℕ) → e ≤ n → written_at n e ≡ Text e
+pub roomy : (n e : ℕ) → e ≤ n → written_at n e ≡ Some e
 unfolding written_at
-roomy n e h = rw (le-ltb n e h)
+roomy n e h = rw (le-leb e n h)
 
 -- where the page's length is read behind the puts
-pub write-page : {p s q : List ℕ} {e : ℕ} (r : Written) → Put p 0 s q e → r ≡ written_at (length q) e → Page p s q r
+pub write-page : {p s q : List ℕ} {e : ℕ} (r : Option ℕ) → Put p 0 s q e → r ≡ written_at (length q) e → Page p s q r
 write-page {p} {s} {q} {e} r a is =
     let at : r ≡ written_at (length p) e = is ∙ ap (λ n. written_at n e) a.kept in
     elim (dec_lt (length p) e) [
@@ -32,12 +31,12 @@ write-page {p} {s} {q} {e} r a is =
     ]
 
 -- a page that is long enough has the text
-pub fitting : {p s q : List ℕ} (r : Written) → Page p s q r → length s ≤ length p → (e : ℕ) × (r ≡ Text e) × Printed p s q e
-fitting (Text e) a h = (e, refl, a)
-fitting NoRoom a h = absurd (omega arith)
+pub fitting : {p s q : List ℕ} (r : Option ℕ) → Page p s q r → length s ≤ length p → (e : ℕ) × (r ≡ Some e) × Printed p s q e
+fitting (Some e) a h = (e, refl, a)
+fitting None a h = absurd (omega arith)
 
 -- what is written is at most as long as the page
-pub page-counts : (p s q : List ℕ) (r : Written) (e : ℕ) → r ≡ Text e → Page p s q r → IsPrefixLen e q
+pub page-counts : (p s q : List ℕ) (r : Option ℕ) (e : ℕ) → r ≡ Some e → Page p s q r → IsPrefixLen e q
 page-counts p s q r e is a = (subst (Page p s q) is a).counts
 
 -- what was put on a page that is long enough for it

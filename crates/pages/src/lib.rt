@@ -11,21 +11,15 @@ ghost use Rattle.pages.specs.Entry.{entry};
 // The digits of the largest number.
 const DIGITS: usize = 20;
 
-// How many bytes of the page are text; or the text is longer than the page.
-#[derive(Clone, Copy)]
-pub enum Written {
-    Text(usize),
-    NoRoom,
-}
+// The byte behind each line of a table.
+const LINE_END: u8 = b'\n';
 
-// What a page of so many bytes comes to, where all that was put ends at `end`.
-pub fn finish(length: usize, end: usize) -> Written
+// How many bytes of a page are text, where all that was put ends at `end`; none where the text is longer than the page.
+#[tactic(auto, unfolding(crate::specs::Written::written_at))]
+pub fn finish(length: usize, end: usize) -> Option<usize>
     ensures { result ≡ written_at length end }
 {
-    if length < end {
-        return Written::NoRoom;
-    }
-    Written::Text(end)
+    (end <= length).then_some(end)
 }
 
 // Puts one byte at a position of the page, and answers the position behind it.
@@ -43,11 +37,9 @@ pub fn put_byte(page: &mut [u8], at: usize, x: u8) -> usize
 pub fn put(page: &mut [u8], at: usize, text: &[u8]) -> usize
     ensures { Put page.old at text.now page.new result }
 {
-    let mut end = at;
-    let mut i: usize = 0;
-    while i < text.len() {
-        end = put_byte(page, end, text[i]);
-        i += 1;
+    let end = at.saturating_add(text.len());
+    if end <= page.len() {
+        page[at..end].copy_from_slice(text);
     }
     end
 }
@@ -68,18 +60,13 @@ pub fn put_line(page: &mut [u8], at: usize, table: &[u8], k: usize) -> usize
 {
     let mut end = at;
     let mut left = k;
-    let mut i: usize = 0;
-    while i < table.len() {
-        let x = table[i];
-        i += 1;
-        if x == b'\n' {
+    for &x in table {
+        if x == LINE_END {
             if left == 0 {
                 return end;
             }
             left -= 1;
-            continue;
-        }
-        if left == 0 {
+        } else if left == 0 {
             end = put_byte(page, end, x);
         }
     }

@@ -14,7 +14,6 @@ ghost use Rattle.report.specs.Rooms.{ANSWERS-MOST, ANSWERS-ROOM};
 ghost use Rattle.text.specs.Rooms.{CLAIMS-ROOM};
 
 use outcomes::Counts;
-use pages::Written;
 use records::{Record, Refused};
 
 // Bytes of claims that a session reads: one claim more than row 11 lets pass, so that row 11 can tell.
@@ -60,10 +59,7 @@ fn put_refusal(page: &mut [u8], at: usize, number: usize, place: usize) -> usize
 fn answer_at(answers: &[u8], i: usize) -> u8
     ensures { result ≡ get_or answers.now i 0 }
 {
-    if answers.len() <= i {
-        return 0;
-    }
-    answers[i]
+    answers.get(i).copied().unwrap_or(0)
 }
 
 // The lines of all claims.
@@ -72,12 +68,10 @@ pub fn put_claims(page: &mut [u8], at: usize, claims: &[u8], answers: &[u8]) -> 
 {
     let n = claims.len() / records::RECORD_BYTES;
     let mut end = at;
-    let mut i: usize = 0;
-    while i < n {
+    for i in 0..n {
         let claim = records::record_at(claims, i);
         let answer = answer_at(answers, i);
         end = put_claim(page, end, i, claim, answer);
-        i += 1;
     }
     end
 }
@@ -117,15 +111,11 @@ fn write_session(book: &[u8], claims: &[u8], page: &mut [u8]) -> usize
 }
 
 // Answers the claims about the book and writes the session on the page.
-pub fn ask(book: &[u8], claims: &[u8], page: &mut [u8]) -> Written
+pub fn ask(book: &[u8], claims: &[u8], page: &mut [u8]) -> Option<usize>
     ensures { Asked book.now claims.now page.old page.new result }
 {
-    if CLAIMS_READ < claims.len() {
-        return Written::NoRoom;
+    if CLAIMS_READ < claims.len() || page.len() < PAGE_BYTES {
+        return None;
     }
-    if page.len() < PAGE_BYTES {
-        return Written::NoRoom;
-    }
-    let end = write_session(book, claims, page);
-    Written::Text(end)
+    Some(write_session(book, claims, page))
 }

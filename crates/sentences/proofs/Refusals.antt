@@ -1,19 +1,16 @@
 -- The fields of a refusal's line, without and with the line of a text, and which line that is. Assumes nothing.
 use Prim.Native.Nat.{ℕ, zero, suc, ◌≤◌}
 use mathlib.Core.Path.{◌≡◌, refl}
-use mathlib.Core.Bool.{Bool, true, false}
-use mathlib.Core.List.{List, [], ◌++◌}
+use mathlib.Core.List.{List, ◌++◌}
 use native.Mathlib.Omega.{arith}
-use lib.Dec.{eqb}
 use lib.ListN.{get_or, get_or-eq_default}
 use borrow.Author.Tests.{eq-eqb, ne_eqb}
 use Rattle.records.specs.Refusal.{refusal_number}
 use Rattle.records.specs.declared.Refusal.{Refusal}
 use Rattle.text.specs.Place.{line_in}
-use Rattle.text.specs.Either.{is_text}
 use Rattle.pages.specs.Text.{ascii, field}
 use Rattle.pages.specs.Decimal.{decimal}
-use Rattle.sentences.specs.Refusals.{sentence, refusal_line, places, line_by, line_of, refused}
+use Rattle.sentences.specs.Refusals.{sentence, refusal_line, places, line_of, refused}
 
 module _ (number place : ℕ) where
   pub plain : (l : ℕ) → l ≡ 0
@@ -46,15 +43,6 @@ module _ (number place : ℕ) where
     beyond h =
         let none : get_or places number 0 ≡ 0 = get_or-eq_default places 0 h in
         of_none (λ is. absurd (omega (arith, none, is))) (λ is. absurd (omega (arith, none, is)))
-
-  -- where there is no other source
-  pub of-no-other : (book : List ℕ) → (get_or places number 0 ≡ 114 → ⊥) → 0 ≡ line_of number place book []
-  unfolding line_of line_in is_text
-  of-no-other book not = rw (ne_eqb (get_or places number 0) 114 not) (neither (eqb (get_or places number 0) 99))
-    where
-      neither : (b : Bool) → 0 ≡ line_by false b (line_in book place) 0
-      neither true = refl
-      neither false = refl
 
 pub as-refused : (r : Refusal) (number place l : ℕ) (book other : List ℕ) → number ≡ refusal_number r → l ≡ line_of number place book other
     → refusal_line number place l ≡ refused r place book other

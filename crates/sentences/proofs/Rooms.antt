@@ -1,12 +1,14 @@
 -- How long words, refusals and what cannot be read are. Assumes nothing.
 use Prim.Native.Nat.{ℕ, zero, suc, ◌≤◌, ◌<◌, ◌^◌}
-use mathlib.Core.Bool.{Bool, true, false}
+use mathlib.Core.Bool.{true}
 use native.Mathlib.Omega.{arith}
 use mathlib.Core.Path.{◌≡◌, sym}
 use mathlib.Core.List.{List, [], ◌∷◌, ◌++◌}
 use lib.Dec.{ltb}
 use Rattle.pages.specs.Text.{ascii, line}
 use lib.ListN.{length, length-append}
+use Rattle.lists.proofs.Bools.{Known, is_true, is_false, known}
+use Rattle.pages.specs.Decimal.{decimal}
 use Rattle.pages.proofs.Decimals.{decimal-length}
 use Rattle.pages.proofs.Entries.{widest, entry-width}
 use Rattle.sentences.specs.Words.{kinds, answers, agreements, kind_name, answer_name, agreement_name}
@@ -50,11 +52,11 @@ pub refused-width : (r : Refusal) (number place l : ℕ) (book other : List ℕ)
     → number < 2 ^ 64 → place < 2 ^ 64 → l < 2 ^ 64 → length (refused r place book other) ≤ 142
 refused-width r number place l book other is hn hp hl = rw (sym is) (refusal-width number place l hn hp hl)
 
--- words have no line, and then the line's number is 0
-pub unread-width : (source l reason : ℕ) → l < 2 ^ 64 → length (unread_line source l reason) ≤ 95
+-- words have no line
+pub unread-width : (source l reason : ℕ) → (ltb source 4 ≡ true → length (decimal l) ≤ 20) → length (unread_line source l reason) ≤ 95
 unfolding unread_line
-unread-width source l reason h = go (ltb source 4)
+unread-width source l reason h = go (known (ltb source 4))
   where
-    go : (b : Bool) → length (prefix source ++ line (ascii "UNREAD" ∷ (lined b l ++ (reason_of source reason ∷ [])))) ≤ 95
-    go true = simp length-append (omega (arith, prefix-width source, decimal-length 19 l (omega arith), reason-width source reason))
-    go false = simp length-append (omega (arith, prefix-width source, reason-width source reason))
+    go : Known (ltb source 4) → length (prefix source ++ line (ascii "UNREAD" ∷ (lined (ltb source 4) l ++ (reason_of source reason ∷ [])))) ≤ 95
+    go (is_true e) = rw e (simp length-append (omega (arith, prefix-width source, h e, reason-width source reason)))
+    go (is_false e) = rw e (simp length-append (omega (arith, prefix-width source, reason-width source reason)))

@@ -1,14 +1,13 @@
 -- The text of what was read from a source, the bytes of a file in either form; or the line of what cannot be read. Assumes nothing.
-use Rattle.std.specs.Prelude.{ℕ, ◌≤◌, ◌≡◌, List, length, take}
+use Rattle.std.specs.Prelude.{ℕ, ◌≤◌, ◌≡◌, List, Result, Ok, Err, length, take}
 use Rattle.text.specs.declared.Form.{Form}
 use Rattle.text.specs.declared.Form.TheVariants.{Records, Claims, Log}
 use Rattle.text.specs.declared.Reason.{Reason}
 use Rattle.text.specs.Reason.{reason_number}
 use Rattle.text.specs.Text.{Reading, Entries, Broken}
 use Rattle.text.specs.Either.{read_either}
-use Rattle.sentences.specs.Unread.{unread_line}
-use Rattle.sentences.specs.declared.sources.Source.{Source}
-use Rattle.sentences.specs.declared.sources.Source.TheVariants.{Bytes, Unread}
+use Rattle.sentences.specs.Unread.{cause_number, unread_line}
+use Rattle.sentences.specs.declared.Unread.{Unread}
 
 abbrev pub if_read : (whom : ℕ) → Reading → (List ℕ → List ℕ) → List ℕ
 if_read whom (Entries bytes) text = text bytes
@@ -38,6 +37,6 @@ pub record Breaks (x : Reading) (l number : ℕ) : Type 0 where
   pub numbered : number ≡ reason_number reason
 
 -- what was read stands at the front of the lent bytes
-abbrev pub Took : Reading → (out : List ℕ) → Source → Type 0
-Took x out (Bytes n) = (n ≤ length out) × (x ≡ Entries (take n out))
-Took x out (Unread l number) = Breaks x l number
+abbrev pub Took : Reading → (out : List ℕ) → Result ℕ Unread → Type 0
+Took x out (Ok n) = (n ≤ length out) × (x ≡ Entries (take n out))
+Took x out (Err u) = Breaks x u.line (cause_number u.cause)

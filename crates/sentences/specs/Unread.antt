@@ -3,13 +3,31 @@ use Rattle.std.specs.Prelude.{ℕ, Bool, true, false, ◌&&◌, ◌||◌, List, 
 use Rattle.pages.specs.Text.{ascii, line}
 use Rattle.pages.specs.Decimal.{decimal}
 use Rattle.pages.specs.Entry.{entry}
+use Rattle.text.specs.Reason.{reason_number}
+use Rattle.sentences.specs.declared.Whom.{Whom}
+use Rattle.sentences.specs.declared.Whom.TheVariants.{Book, Second, Claims, Log, Words, ClaimWords}
+use Rattle.sentences.specs.declared.Cause.{Cause}
+use Rattle.sentences.specs.declared.Cause.TheVariants.{Text, NotRecords, WordsTooLong}
 
--- 0 a book, 1 the second book, 2 claims, 3 a log, 4 words that are a record or a number, 5 words that are a claim
+-- words are a record or a number, and claim words a claim
+abbrev pub whom_number : Whom → ℕ
+whom_number Book = 0
+whom_number Second = 1
+whom_number Claims = 2
+whom_number Log = 3
+whom_number Words = 4
+whom_number ClaimWords = 5
+
 abbrev pub prefixes : List ℕ
 prefixes = ascii "\nSECOND \nCLAIMS \nLOG \nWORDS \nWORDS \n"
 
 unfoldable pub prefix : ℕ → List ℕ
 prefix source = entry source prefixes
+
+abbrev pub cause_number : Cause → ℕ
+cause_number (Text reason) = reason_number reason
+cause_number NotRecords = 6
+cause_number WordsTooLong = 7
 
 -- 1 to 5 are the reasons of a text; 6 is a text where records are wanted, 7 words that are too long, 8 reason 3 of a claim
 abbrev pub reasons : List ℕ

@@ -7,64 +7,50 @@ ghost use Rattle.sentences.specs.Sources.{Took};
 ghost use Rattle.sentences.specs.Arguments as args;
 ghost use Rattle.sentences.specs.Arguments.{words_of};
 
+use crate::{Cause, Unread};
 use records::Record;
-use text::Form;
-use text::lines::Line;
-use text::reading::Read;
+use text::reading::Unread as TextUnread;
+use text::{Form, Reason};
 
 // The longest words.
 const WORDS_BYTES: usize = 4095;
 
-// How many bytes of records, claims or a log were read; or the first bad line and the number of the reason.
-#[derive(Clone, Copy)]
-pub enum Source {
-    Bytes(usize),
-    Unread(usize, usize),
-}
-
-// What the words say; or the number of the reason why they cannot be read.
-#[derive(Clone, Copy)]
-pub enum Words {
-    Entry(Record),
-    Wrong(usize),
-}
-
-// Reads a source into the front of `out`.
-pub fn read_source(form: Form, source: &[u8], out: &mut [u8]) -> Source
+// Reads a source into the front of `out`, and says how many bytes of records, claims or a log it has.
+pub fn read_source(form: Form, source: &[u8], out: &mut [u8]) -> Result<usize, Unread>
     requires { bytes_most form ≤ length out.old }
     ensures { Took (read_either form source.now) out.new result }
 {
-    let read = text::reading::read_either(form, source, out);
-    match read {
-        Read::Whole(n) => Source::Bytes(n),
-        Read::Unread(l, reason) => Source::Unread(l, text::reason_number(reason) as usize),
-        Read::Short => Source::Bytes(0),
+    match text::reading::read_either(form, source, out) {
+        Ok(n) => Ok(n),
+        Err(TextUnread::BadLine(line, reason)) => {
+            let cause = Cause::Text(reason);
+            Err(Unread { line, cause })
+        }
+        Err(TextUnread::ShortBuffer) => Ok(0),
     }
 }
 
-// The number of the reason where there is no word.
-fn absent(form: Form) -> usize
+// The reason where there is no word.
+fn absent(form: Form) -> Reason
     ensures { result ≡ args.absent form }
 {
     match form {
-        Form::Records => crate::NOT_KIND,
-        Form::Claims => crate::NOT_KIND,
-        Form::Log => crate::NOT_NUMBER,
+        Form::Records | Form::Claims => Reason::NotKind,
+        Form::Log => Reason::NotNumber,
     }
 }
 
 // Reads words as one line.
-pub fn read_words(form: Form, words: &[u8]) -> Words
+pub fn read_words(form: Form, words: &[u8]) -> Result<Record, Cause>
     ensures { result ≡ words_of form words.now }
 {
     if WORDS_BYTES < words.len() {
-        return Words::Wrong(crate::WORDS_TOO_LONG);
+        return Err(Cause::WordsTooLong);
     }
-    let line = text::lines::read_line(form, words);
-    match line {
-        Line::Entry(r) => Words::Entry(r),
-        Line::Bad(reason) => Words::Wrong(text::reason_number(reason) as usize),
-        Line::Nothing => Words::Wrong(absent(form)),
+    match text::lines::read_line(form, words) {
+        Ok(Some(r)) => Ok(r),
+        Ok(None) => Err(Cause::Text(absent(form))),
+        Err(reason) => Err(Cause::Text(reason)),
     }
 }
 

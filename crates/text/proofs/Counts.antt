@@ -4,7 +4,7 @@ use mathlib.Core.Path.{◌≡◌, refl, sym, ap, ap₂, subst, ◌∙◌}
 use mathlib.Core.Bool.{Bool, true, false}
 use mathlib.Core.List.{List, [], ◌∷◌, ◌++◌, append-nil, append_assoc}
 use native.Mathlib.Omega.{arith}
-use lib.Dec.{eqb, ltb}
+use lib.Dec.{ltb}
 use lib.ListN.{length, take, drop, get_or, length-append}
 use Rattle.lists.proofs.Parts.{between}
 use Rattle.records.specs.declared.Record.{Record}
@@ -12,15 +12,10 @@ use Rattle.text.specs.Tests.{if_true}
 use Rattle.text.specs.declared.Form.{Form}
 use Rattle.text.specs.declared.Form.TheVariants.{Records, Claims, Log}
 use Rattle.text.specs.declared.Reason.{Reason}
-use Rattle.text.specs.declared.Reason.TheVariants.{NotKind, NotNumber, TooLong}
-use Rattle.text.specs.declared.words.Number.{Number}
-use Rattle.text.specs.declared.words.Number.TheVariants.{Value, NoNumber}
-use Rattle.text.specs.declared.lines.Line.{Line}
-use Rattle.text.specs.declared.lines.Line.TheVariants.{Nothing, Entry, Bad}
-use Rattle.text.specs.Word.{word, rest}
-use Rattle.text.specs.Number.{number}
-use Rattle.text.specs.Names.{kind_of, choice_of}
-use Rattle.text.specs.Line.{if_none, if_number, with_number, lastly, secondly, kinded, logged, said, line_of}
+use Rattle.text.specs.declared.Reason.TheVariants.{TooLong}
+use Rattle.std.specs.Prelude.{Some, None, Ok, Err}
+use Rattle.text.specs.Word.{word}
+use Rattle.text.specs.Line.{Said, if_none, said, some_entry, line_of}
 use Rattle.text.specs.Entry.{size, bytes_of}
 use Rattle.text.specs.Text.{Reading, Entries, Broken, most, lines_of, read_lines, read_text}
 use Rattle.text.specs.Lent.{entries_of}
@@ -29,63 +24,24 @@ use Rattle.text.proofs.Loops.{Which, nothing, entry, bad, which, line-nothing, l
 
 -- ## a line with a word says something
 
-data Speaks : Line → Type 0 where
-  entered : (e : Record) → Speaks (Entry e)
-  spoiled : (r : Reason) → Speaks (Bad r)
+entered : (x : Said) → some_entry x ≡ Ok None → ⊥
+entered (Ok e) q = let o : ◌≡◌ {A = ℕ} 0 1 = cc in omega arith
+entered (Err r) q = let o : ◌≡◌ {A = ℕ} 0 1 = cc in omega arith
 
-none-speaks : (w : List ℕ) {x y : Line} → Speaks x → Speaks y → Speaks (if_none w x y)
-none-speaks [] p q = p
-none-speaks (a ∷ w) p q = q
+none-if : (w : List ℕ) (x : Said) → if_none w (Ok None) (some_entry x) ≡ Ok None → w ≡ []
+none-if [] x q = refl
+none-if (a ∷ w) x q = absurd (entered x q)
 
-pick-speaks : (b : Bool) {x y : Line} → Speaks x → Speaks y → Speaks (if_true b x y)
-pick-speaks true p q = p
-pick-speaks false p q = q
-
-number-speaks : (n : Number) (more : ℕ → Line) → ((k : ℕ) → Speaks (more k)) → Speaks (if_number n more)
-number-speaks NoNumber more h = spoiled NotNumber
-number-speaks (Value k) more h = h k
-
-with-speaks : (l : List ℕ) (more : ℕ → List ℕ → Line) → ((k : ℕ) (m : List ℕ) → Speaks (more k m)) → Speaks (with_number l more)
-unfolding with_number
-with-speaks l more h = number-speaks (number (word l)) (λ n. more n (rest l)) (λ n. h n (rest l))
-
-last-speaks : (form : Form) (kind a b : ℕ) (l : List ℕ) → Speaks (lastly form kind a b l)
-unfolding lastly
-last-speaks form kind a b l = none-speaks (word l) (entered _) (pick-speaks (eqb (choice_of form (word l)) 0) (spoiled _) (none-speaks (word (rest l)) (entered _) (spoiled _)))
-
-second-speaks : (form : Form) (kind a : ℕ) (l : List ℕ) → Speaks (secondly form kind a l)
-unfolding secondly
-second-speaks form kind a l = pick-speaks (eqb kind 6) (last-speaks form kind a 0 l) (with-speaks l _ (λ b m. last-speaks form kind a b m))
-
-kinded-speaks : (form : Form) (kind : ℕ) (l : List ℕ) → Speaks (kinded form kind l)
-unfolding kinded
-kinded-speaks form kind l = pick-speaks (eqb kind 0) (spoiled NotKind) (with-speaks l _ (λ a m. second-speaks form kind a m))
-
-said-speaks : (form : Form) (l : List ℕ) → Speaks (said form l)
-unfolding logged
-said-speaks Records l = kinded-speaks Records (kind_of Records (word l)) (rest l)
-said-speaks Claims l = kinded-speaks Claims (kind_of Claims (word l)) (rest l)
-said-speaks Log l = with-speaks l _ (λ a m. last-speaks Log 0 a 0 m)
-
--- nothing is said exactly where there is no word
-silent : {x : Line} → Speaks x → x ≡ Nothing → ⊥
-silent (entered e) q = let o : ◌≡◌ {A = ℕ} 0 1 = cc in omega arith
-silent (spoiled r) q = let o : ◌≡◌ {A = ℕ} 0 1 = cc in omega arith
-
-none-if : (w : List ℕ) (x : Line) → Speaks x → if_none w Nothing x ≡ Nothing → w ≡ []
-none-if [] x s q = refl
-none-if (a ∷ w) x s q = absurd (silent s q)
-
-some-if : (w : List ℕ) (x : Line) (e : Record) → if_none w Nothing x ≡ Entry e → one_if w ≡ 1
+some-if : (w : List ℕ) (x : Said) (e : Record) → if_none w (Ok None) (some_entry x) ≡ Ok (Some e) → one_if w ≡ 1
 some-if [] x e q = let o : ◌≡◌ {A = ℕ} 0 1 = cc in absurd (omega arith)
 some-if (a ∷ w) x e q = refl
 
 module _ (form : Form) (l : List ℕ) where
-  no_word : line_of form l ≡ Nothing → word l ≡ []
+  no_word : line_of form l ≡ Ok None → word l ≡ []
   unfolding line_of
-  no_word q = none-if (word l) (said form l) (said-speaks form l) q
+  no_word q = none-if (word l) (said form l) q
 
-  a_word : (e : Record) → line_of form l ≡ Entry e → one_if (word l) ≡ 1
+  a_word : (e : Record) → line_of form l ≡ Ok (Some e) → one_if (word l) ≡ 1
   unfolding line_of
   a_word e q = some-if (word l) (said form l) e q
 

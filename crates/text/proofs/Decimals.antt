@@ -9,7 +9,7 @@ use lib.ListN.{length, length-append}
 use borrow.Author.Tests.{le-leb, lt-ltb, le-ltb}
 use Rattle.lists.proofs.Bools.{and_both, both-and}
 use Rattle.pages.specs.Decimal.{digit, spell, decimal}
-use Rattle.text.specs.declared.words.Number.TheVariants.{Value}
+use Rattle.std.specs.Prelude.{Some}
 use Rattle.text.specs.Number.{is_digit, digits, value, number_from, number}
 use Rattle.text.proofs.Numbers.{is-digit, number-some}
 
@@ -71,7 +71,7 @@ pub decimal-spelled : (n : ℕ) → Spelled n (decimal n)
 unfolding decimal
 decimal-spelled n = spelled n n (omega arith)
 
-pub number-decimal : (n : ℕ) → n ≤ 65535 → number (decimal n) ≡ Value n
+pub number-decimal : (n : ℕ) → n ≤ 65535 → number (decimal n) ≡ Some n
 unfolding number_from
 number-decimal n h =
     let s = decimal-spelled n in

@@ -1,4 +1,3 @@
-pub mod Sorts
 pub mod Runs
 pub mod Numbers
 pub mod Names

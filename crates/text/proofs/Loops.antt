@@ -12,14 +12,11 @@ use Rattle.records.specs.declared.Record.{Record}
 use Rattle.text.specs.declared.Form.{Form}
 use Rattle.text.specs.declared.Form.TheVariants.{Records, Claims, Log}
 use Rattle.text.specs.declared.Reason.{Reason}
-use Rattle.text.specs.declared.lines.Line.{Line}
-use Rattle.text.specs.declared.lines.Line.TheVariants.{Nothing, Entry, Bad}
+use Rattle.std.specs.Prelude.{Some, None, Result, Ok, Err}
 use Rattle.text.specs.declared.words.Sort.TheVariants.{Inner}
-use Rattle.text.specs.declared.reading.Step.{Step}
-use Rattle.text.specs.declared.reading.Step.TheVariants.{Go, Stop}
-use Rattle.text.specs.declared.reading.Read.TheVariants.{Whole, Unread}
+use Rattle.text.specs.declared.reading.Unread.TheVariants.{BadLine}
 use Rattle.text.specs.Runs.{of_sort, run}
-use Rattle.text.specs.Line.{line_of}
+use Rattle.text.specs.Line.{Line, line_of}
 use Rattle.text.specs.Lines.{lines}
 use Rattle.text.specs.Entry.{size, bytes_of}
 use Rattle.text.specs.Text.{Entries, Broken, most, bytes_most, read_lines}
@@ -30,25 +27,25 @@ use Rattle.text.proofs.Cuts.{line_at}
 
 -- what a line says, with the equation
 pub data Which (x : Line) : Type 0 where
-  nothing : x ≡ Nothing → Which x
-  entry : (e : Record) → x ≡ Entry e → Which x
-  bad : (r : Reason) → x ≡ Bad r → Which x
+  nothing : x ≡ Ok None → Which x
+  entry : (e : Record) → x ≡ Ok (Some e) → Which x
+  bad : (r : Reason) → x ≡ Err r → Which x
 
 pub which : (x : Line) → Which x
-which Nothing = nothing refl
-which (Entry e) = entry e refl
-which (Bad r) = bad r refl
+which (Ok None) = nothing refl
+which (Ok (Some e)) = entry e refl
+which (Err r) = bad r refl
 
 module _ (form : Form) (left n : ℕ) (done l : List ℕ) (ls : List (List ℕ)) where
-  pub line-nothing : line_of form l ≡ Nothing → read_lines form (suc left) n done (l ∷ ls) ≡ read_lines form (suc left) (suc n) done ls
+  pub line-nothing : line_of form l ≡ Ok None → read_lines form (suc left) n done (l ∷ ls) ≡ read_lines form (suc left) (suc n) done ls
   unfolding read_lines
   line-nothing e = rw (e, read_lines)
 
-  pub line-entry : (r : Record) → line_of form l ≡ Entry r → read_lines form (suc left) n done (l ∷ ls) ≡ read_lines form left (suc n) (done ++ bytes_of form r) ls
+  pub line-entry : (r : Record) → line_of form l ≡ Ok (Some r) → read_lines form (suc left) n done (l ∷ ls) ≡ read_lines form left (suc n) (done ++ bytes_of form r) ls
   unfolding read_lines
   line-entry r e = rw (e, read_lines)
 
-  pub line-bad : (r : Reason) → line_of form l ≡ Bad r → read_lines form (suc left) n done (l ∷ ls) ≡ Broken n r done
+  pub line-bad : (r : Reason) → line_of form l ≡ Err r → read_lines form (suc left) n done (l ∷ ls) ≡ Broken n r done
   unfolding read_lines
   line-bad r e = rw (e, read_lines)
 
@@ -111,17 +108,17 @@ module _ (form : Form) (text out₀ out : List ℕ) (from at line done left : �
   taken : length (take done out) ≡ done
   taken = length-take-le done out g.inside
 
-  ending : read_from form from text ≡ Entries (take done out) → (Whole done ≡ lines_into form from text) × (out ≡ lines_leave form from text out₀)
-  ending e = (rw e (ap Whole (sym taken)), rw e g.written)
+  ending : read_from form from text ≡ Entries (take done out) → (Ok done ≡ lines_into form from text) × (out ≡ lines_leave form from text out₀)
+  ending e = (rw e (ap Ok (sym taken)), rw e g.written)
 
-  pub going_end : length text ≤ at → (Whole done ≡ lines_into form from text) × (out ≡ lines_leave form from text out₀)
+  pub going_end : length text ≤ at → (Ok done ≡ lines_into form from text) × (out ≡ lines_leave form from text out₀)
   going_end h =
       ending
       (g.reads
       ∙ ap (λ (m : List ℕ). read_lines form left line (take done out) (lines m)) (drop_of_length-le text h)
       ∙ no_lines form left line (take done out))
 
-  pub going-full : done ≡ bytes_most form → (Whole done ≡ lines_into form from text) × (out ≡ lines_leave form from text out₀)
+  pub going-full : done ≡ bytes_most form → (Ok done ≡ lines_into form from text) × (out ≡ lines_leave form from text out₀)
   going-full h =
       ending
       (g.reads
@@ -140,7 +137,7 @@ module _ (form : Form) (text out₀ out : List ℕ) (from at line done left : �
     pub fits_one : bytes_most form ≤ length out → done + size form ≤ length out
     fits_one h = let s = some_left in omega (arith, g.count, ap (λ (m : ℕ). size form * m) s.1, size-suc form s.0)
 
-    module _ (e : ℕ) (h : at < length text) (i : e ≡ at + length (run (of_sort Inner) (drop at text))) (out' : List ℕ) (r : Step)
+    module _ (e : ℕ) (h : at < length text) (i : e ≡ at + length (run (of_sort Inner) (drop at text))) (out' : List ℕ) (r : Result ℕ Reason)
         (s : Stepped form (take (e - at) (drop at text)) done out out' r) (same : length out' ≡ length out) where
       abbrev said : Line
       said = line_of form (take (e - at) (drop at text))
@@ -167,7 +164,7 @@ module _ (form : Form) (text out₀ out : List ℕ) (from at line done left : �
             reads = reads ∙ ap₂ (λ (x : ℕ) (y : List ℕ). read_lines form left' x y later) (sym (add-one line)) (sym t);
           }
 
-      pub going_on : (n : ℕ) → r ≡ Go n → (k : ℕ) × Going form text out₀ out' from (e + 1) (line + 1) n k
+      pub going_on : (n : ℕ) → r ≡ Ok n → (k : ℕ) × Going form text out₀ out' from (e + 1) (line + 1) n k
       going_on n q = pick (which said) some_left
         where
           pick : Which said → (k : ℕ) × (left ≡ suc k) → (k : ℕ) × Going form text out₀ out' from (e + 1) (line + 1) n k
@@ -189,10 +186,10 @@ module _ (form : Form) (text out₀ out : List ℕ) (from at line done left : �
               )
           pick (bad x w) z = let o : ◌≡◌ {A = ℕ} 0 1 = cc (s.goes, ap (step_of form done) w) in absurd (omega arith)
 
-      pub going-stop : (x : Reason) → r ≡ Stop x → (Unread line x ≡ lines_into form from text) × (out' ≡ lines_leave form from text out₀)
+      pub going-stop : (x : Reason) → r ≡ Err x → (Err (BadLine line x) ≡ lines_into form from text) × (out' ≡ lines_leave form from text out₀)
       going-stop x q = pick (which said) some_left
         where
-          pick : Which said → (k : ℕ) × (left ≡ suc k) → (Unread line x ≡ lines_into form from text) × (out' ≡ lines_leave form from text out₀)
+          pick : Which said → (k : ℕ) × (left ≡ suc k) → (Err (BadLine line x) ≡ lines_into form from text) × (out' ≡ lines_leave form from text out₀)
           pick (nothing w) z = let o : ◌≡◌ {A = ℕ} 0 1 = cc (s.goes, ap (step_of form done) w) in absurd (omega arith)
           pick (entry y w) z = let o : ◌≡◌ {A = ℕ} 0 1 = cc (s.goes, ap (step_of form done) w) in absurd (omega arith)
           pick (bad y w) (k, z) =
@@ -200,4 +197,4 @@ module _ (form : Form) (text out₀ out : List ℕ) (from at line done left : �
               let p : out' ≡ out = s.puts ∙ ap (λ (v : Line). placed done (adds form v) out) w ∙ placed-none done out in
               let b : read_from form from text ≡ Broken line y (take done out) =
               next-reads (suc k) z ∙ line-bad form k line (take done out) (take (e - at) (drop at text)) later y w in
-              (rw b (ap (λ (v : Reason). Unread line v) m), rw b (p ∙ g.written))
+              (rw b (ap (λ (v : Reason). Err (BadLine line v)) m), rw b (p ∙ g.written))

@@ -6,7 +6,7 @@ use mathlib.Core.List.{List, [], ◌∷◌}
 use native.Mathlib.Omega.{arith}
 use lib.Dec.{eqb}
 use lib.ListN.{length, get_or}
-use borrow.Author.Tests.{eq-eqb, ne_eqb}
+use borrow.Author.Tests.{ne_eqb}
 use Rattle.lists.proofs.Bools.{and-false}
 use Rattle.text.specs.Text.{marked, mark_length}
 use Rattle.text.specs.Either.{is_text}
@@ -26,18 +26,6 @@ module _ (text : List ℕ) where
   pub mark-first : (get_or text 0 0 ≡ 239 → ⊥) → 0 ≡ mark_length text
   unfolding marked
   mark-first h = unmarked text (rw (ne_eqb (get_or text 0 0) 239 h))
-
-  pub mark-second : (get_or text 1 0 ≡ 187 → ⊥) → 0 ≡ mark_length text
-  unfolding marked
-  mark-second h = unmarked text (rw (ne_eqb (get_or text 1 0) 187 h, and-false (eqb (get_or text 0 0) 239)))
-
-  pub mark-third : (get_or text 2 0 ≡ 191 → ⊥) → 0 ≡ mark_length text
-  unfolding marked
-  mark-third h = unmarked text (rw (ne_eqb (get_or text 2 0) 191 h, and-false (eqb (get_or text 1 0) 187), and-false (eqb (get_or text 0 0) 239)))
-
-  pub mark-there : get_or text 0 0 ≡ 239 → get_or text 1 0 ≡ 187 → get_or text 2 0 ≡ 191 → 3 ≡ mark_length text
-  unfolding mark_length marked
-  mark-there a b c = rw (eq-eqb (get_or text 0 0) 239 a, eq-eqb (get_or text 1 0) 187 b, eq-eqb (get_or text 2 0) 191 c)
 
 pub no_bytes : (s : List ℕ) → length s ≡ 0 → false ≡ is_text s
 unfolding is_text

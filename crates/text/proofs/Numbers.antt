@@ -8,7 +8,8 @@ use lib.Dec.{leb}
 use lib.ListN.{length, drop, get_or, drop_of_length-le}
 use borrow.Author.Tests.{leb-true, le-leb, lt-leb}
 use Rattle.lists.proofs.Bools.{and_both, and-false}
-use Rattle.text.specs.declared.words.Number.TheVariants.{Value, NoNumber}
+use Rattle.std.specs.Prelude.{Some, None}
+use Rattle.std.specs.Char.{is_ascii_digit}
 use Rattle.text.specs.Number.{is_digit, digits, value, number_from, number}
 use Rattle.lists.proofs.Parts.{here}
 
@@ -20,6 +21,10 @@ pub is-digit : (x : ℕ) → 48 ≤ x → x ≤ 57 → is_digit x ≡ true
 unfolding is_digit
 is-digit x g h = rw (le-leb 48 x g, le-leb x 57 h)
 
+pub digit-test : (x : ℕ) → is_ascii_digit x ≡ is_digit x
+unfolding is_digit
+digit-test x = refl
+
 grows : (n : ℕ) (l : List ℕ) → n ≤ value n l
 unfolding value
 grows n [] = omega arith
@@ -29,15 +34,15 @@ pub from_more : (n x : ℕ) (xs : List ℕ) → is_digit x ≡ true → number_f
 unfolding number_from digits value
 from_more n x xs e = rw e
 
-pub from-other : (n x : ℕ) (xs : List ℕ) → is_digit x ≡ false → number_from n (x ∷ xs) ≡ NoNumber
+pub from-other : (n x : ℕ) (xs : List ℕ) → is_digit x ≡ false → number_from n (x ∷ xs) ≡ None
 unfolding number_from digits value
 from-other n x xs e = rw e
 
-pub from-large : (n : ℕ) (l : List ℕ) → 65535 < n → number_from n l ≡ NoNumber
+pub from-large : (n : ℕ) (l : List ℕ) → 65535 < n → number_from n l ≡ None
 unfolding number_from
 from-large n l h = rw (lt-leb (value n l) 65535 (omega (arith, grows n l)), and-false (digits l))
 
-pub from_end : (n : ℕ) → n ≤ 65535 → number_from n [] ≡ Value n
+pub from_end : (n : ℕ) → n ≤ 65535 → number_from n [] ≡ Some n
 unfolding number_from digits value
 from_end n h = rw (le-leb n 65535 h)
 
@@ -47,13 +52,13 @@ module _ (w : List ℕ) (i n : ℕ) where
   at_more v h e q =
       ap (number_from n) (here w i 0 h) ∙ from_more n (get_or w i 0) (drop (i + 1) w) e ∙ ap (λ (u : ℕ). number_from (10 * n + u) (drop (i + 1) w)) (sym q)
 
-  pub at_other : i < length w → is_digit (get_or w i 0) ≡ false → number_from n (drop i w) ≡ NoNumber
+  pub at_other : i < length w → is_digit (get_or w i 0) ≡ false → number_from n (drop i w) ≡ None
   at_other h e = ap (number_from n) (here w i 0 h) ∙ from-other n (get_or w i 0) (drop (i + 1) w) e
 
-  pub at-end : length w ≤ i → n ≤ 65535 → number_from n (drop i w) ≡ Value n
+  pub at-end : length w ≤ i → n ≤ 65535 → number_from n (drop i w) ≡ Some n
   at-end h g = ap (number_from n) (drop_of_length-le w h) ∙ from_end n g
 
-pub number-none : (w : List ℕ) → length w ≡ 0 → number w ≡ NoNumber
+pub number-none : (w : List ℕ) → length w ≡ 0 → number w ≡ None
 unfolding number
 number-none [] h = refl
 number-none (x ∷ xs) h = absurd (omega arith)

@@ -13,7 +13,7 @@ use Rattle.pages.specs.Decimal.{decimal}
 use Rattle.pages.proofs.Decimals.{decimal-length}
 use Rattle.pages.proofs.Lined.{lines-length}
 use Rattle.pages.proofs.Writing.{fitting}
-use Rattle.pages.specs.declared.Written.TheVariants.{Text}
+use Rattle.std.specs.Prelude.{Some}
 use Rattle.text.specs.Shown.{kind_word, choice_fields, show_record, show_records, ShownLength, Served, AlwaysServed}
 
 -- ## the word of a kind
@@ -116,7 +116,7 @@ shown-length s byte = (records-length (ascii "scanner") s (omega arith) byte, re
 served : (s text : List ℕ) → (((k : ℕ) → get_or s k 0 < 256) → length text ≤ 28 * records s) → Served s text
 served s text short p q r byte h a =
     let f = fitting r a (omega (arith, short byte)) in
-    f.1 ∙ ap Text (f.2.counts.1 ∙ ap length f.2.first)
+    f.1 ∙ ap Some (f.2.counts.1 ∙ ap length f.2.first)
 
 pub always-served : AlwaysServed
 always-served s = (served s _ (λ byte. (shown-length s byte).0), served s _ (λ byte. (shown-length s byte).1))

@@ -1,10 +1,14 @@
 -- Entries counted line by line. Assumes nothing.
 use Prim.Native.Nat.{ℕ, zero, suc, ◌+◌, ◌-◌, ◌≤◌, ◌<◌}
 use mathlib.Core.Path.{◌≡◌, refl, sym, ap, ap₂, ◌∙◌}
-use mathlib.Core.Bool.{true, false}
+use mathlib.Core.Bool.{true, false, not}
 use mathlib.Core.List.{List, [], ◌∷◌}
 use native.Mathlib.Numerals.{add-one}
 use native.Mathlib.Omega.{arith}
+use mir.Val.{bool_byte}
+use lib.Dec.{eqb}
+use borrow.Author.Tests.{eqb-true, eqb-false}
+use Rattle.lists.proofs.Bools.{Known, is_true, is_false, known}
 use lib.ListN.{length, take, drop, get_or, drop_of_length-le}
 use Rattle.text.specs.declared.words.Sort.TheVariants.{Inner}
 use Rattle.text.specs.Runs.{of_sort, run}
@@ -22,13 +26,20 @@ some_one [] h = absurd (h refl)
 some_one (x ∷ w) h = refl
 
 module _ (l : List ℕ) (from to : ℕ) (w : WordAt l 0 from to) where
-  pub none-on : from ≡ to → 0 ≡ entries_on l
+  none-on : from ≡ to → 0 ≡ entries_on l
   unfolding entries_on
   none-on e = sym (ap one_if (no_word w e))
 
-  pub one_on : (from ≡ to → ⊥) → 1 ≡ entries_on l
+  one_on : (from ≡ to → ⊥) → 1 ≡ entries_on l
   unfolding entries_on
   one_on h = some_one (word l) (some_word w h)
+
+  pub counted-on : bool_byte (not (eqb from to)) ≡ entries_on l
+  counted-on = pick (known (eqb from to))
+    where
+      pick : Known (eqb from to) → bool_byte (not (eqb from to)) ≡ entries_on l
+      pick (is_true e) = rw e (none-on (eqb-true from to e))
+      pick (is_false e) = rw e (one_on (eqb-false from to e))
 
 here-if : (w : List ℕ) (n k : ℕ) (ns : List ℕ) → k < one_if w → get_or (numbered_if w n ns) k 0 ≡ n
 here-if [] n k ns h = absurd (omega arith)

@@ -1,5 +1,5 @@
 -- Texts and what they are read into. Assumes nothing.
-use Rattle.std.specs.Prelude.{ℕ, ◌<◌, ◌≡◌, true, false, List, [], ◌∷◌, ◌++◌, length}
+use Rattle.std.specs.Prelude.{ℕ, ◌<◌, ◌≡◌, true, false, List, [], ◌∷◌, ◌++◌, Some, Ok, length}
 use Rattle.pages.specs.Text.{ascii}
 use Rattle.text.specs.declared.Form.{Form}
 use Rattle.text.specs.declared.Form.TheVariants.{Records, Claims, Log}
@@ -56,8 +56,8 @@ pub record Refuses : Type 0 where
 
 pub record Others : Type 0 where
   -- words that are joined: byte 10 among them is a blank
-  pub joined : line_of Claims (ascii "Meets 3" ++ (10 ∷ ascii "4 all")) ≡ entry 3 0 3 4
-  pub one_number : line_of Log (ascii "2047") ≡ entry 0 0 2047 0
+  pub joined : line_of Claims (ascii "Meets 3" ++ (10 ∷ ascii "4 all")) ≡ Ok (Some (entry 3 0 3 4))
+  pub one_number : line_of Log (ascii "2047") ≡ Ok (Some (entry 0 0 2047 0))
   pub second-line : place_line mixed 1 ≡ 4
   pub last_line : place_line mixed 2 ≡ 5
   pub no_line : place_line mixed 3 ≡ 0

@@ -1,5 +1,6 @@
 -- The words that are no numbers, in letters of either case. Assumes nothing.
-use Rattle.std.specs.Prelude.{ℕ, zero, suc, ◌+◌, Bool, true, false, ◌&&◌, List, [], ◌∷◌, eqb, leb}
+use Rattle.std.specs.Prelude.{ℕ, suc, ◌+◌, Bool, true, false, ◌&&◌, Option, Some, None, List, [], ◌∷◌, eqb, leb}
+use Rattle.std.specs.Option.{option_or}
 use Rattle.pages.specs.Text.{ascii}
 use Rattle.text.specs.Tests.{if_true}
 use Rattle.text.specs.declared.Form.{Form}
@@ -22,24 +23,19 @@ kind_names = ascii "PART" ∷ ascii "APART" ∷ ascii "MEETS" ∷ ascii "NOTPART
 abbrev pub void_name : List ℕ
 void_name = ascii "VOID"
 
--- the place of a word among names, counted from k on; 0 where it is none of them
-unfoldable pub place : ℕ → List (List ℕ) → List ℕ → ℕ
-place k [] w = 0
-place k (n ∷ ns) w = elim (same w n) [ true ↦ k | false ↦ place (suc k) ns w ]
+-- the place of a word among names, counted from k on; none where it is none of them
+unfoldable pub place : ℕ → List (List ℕ) → List ℕ → Option ℕ
+place k [] w = None
+place k (n ∷ ns) w = elim (same w n) [ true ↦ Some k | false ↦ place (suc k) ns w ]
 
--- the first, or the second where the first is 0
-abbrev pub or_else : ℕ → ℕ → ℕ
-or_else zero y = y
-or_else (suc x) y = suc x
-
--- the kind of a word, or 0: no claim is VOID, and a log has no kinds
-unfoldable pub kind_of : Form → List ℕ → ℕ
-kind_of Records w = or_else (place 1 kind_names w) (place 6 (void_name ∷ []) w)
+-- the kind of a word: no claim is VOID, and a log has no kinds
+unfoldable pub kind_of : Form → List ℕ → Option ℕ
+kind_of Records w = option_or (place 1 kind_names w) (place 6 (void_name ∷ []) w)
 kind_of Claims w = place 1 kind_names w
-kind_of Log w = 0
+kind_of Log w = None
 
--- one more than the choice that a word is, or 0: the origin of a record, the facts that a claim is answered from
-unfoldable pub choice_of : Form → List ℕ → ℕ
-choice_of Records w = place 1 (ascii "sheet" ∷ ascii "scanner" ∷ []) w
-choice_of Claims w = place 1 (ascii "all" ∷ ascii "sheets" ∷ []) w
-choice_of Log w = 0
+-- the choice that a word is: the origin of a record, the facts that a claim is answered from
+unfoldable pub choice_of : Form → List ℕ → Option ℕ
+choice_of Records w = place 0 (ascii "sheet" ∷ ascii "scanner" ∷ []) w
+choice_of Claims w = place 0 (ascii "all" ∷ ascii "sheets" ∷ []) w
+choice_of Log w = None

@@ -1,8 +1,7 @@
 -- The lines from which entries are read: those with words. Assumes nothing.
-use Rattle.std.specs.Prelude.{ℕ, suc, ◌*◌, ◌-◌, ◌≤◌, min, ◌≡◌, List, [], ◌∷◌, length, take, drop, get_or}
+use Rattle.std.specs.Prelude.{ℕ, suc, ◌*◌, ◌-◌, ◌≤◌, min, ◌≡◌, List, [], ◌∷◌, length, take, drop, get_or, Some, Ok}
 use Rattle.records.specs.declared.Record.{Record}
 use Rattle.text.specs.declared.Form.{Form}
-use Rattle.text.specs.declared.lines.Line.TheVariants.{Entry}
 use Rattle.text.specs.Line.{line_of}
 use Rattle.text.specs.Entry.{size, bytes_of}
 use Rattle.text.specs.Text.{Entries, most, lines_of, read_text}
@@ -44,7 +43,7 @@ EntryForEach = (form : Form) (text bytes : List ℕ) → read_text form text ≡
 pub record Says (form : Form) (n : ℕ) (ls : List (List ℕ)) (line : ℕ) (bytes : List ℕ) : Type 0 where
   pub counted : n ≤ line
   pub entry : Record
-  pub says : line_of form (get_or ls (line - n) []) ≡ Entry entry
+  pub says : line_of form (get_or ls (line - n) []) ≡ Ok (Some entry)
   pub same : bytes_of form entry ≡ bytes
 
 -- so for every entry that was read, before a bad line too

@@ -1,9 +1,7 @@
 -- A book, or a list of claims, as text. Assumes nothing.
-use Rattle.std.specs.Prelude.{ℕ, ◌*◌, ◌≤◌, ◌<◌, ◌≡◌, List, [], ◌∷◌, ◌++◌, eqb, length, get_or}
+use Rattle.std.specs.Prelude.{ℕ, ◌*◌, ◌≤◌, ◌<◌, ◌≡◌, List, [], ◌∷◌, ◌++◌, Option, Some, eqb, length, get_or}
 use Rattle.records.specs.declared.Record.{Record}
 use Rattle.records.specs.Record.{record_at, records}
-use Rattle.pages.specs.declared.Written.{Written}
-use Rattle.pages.specs.declared.Written.TheVariants.{Text}
 use Rattle.pages.specs.Written.{Page}
 use Rattle.pages.specs.Text.{ascii, line}
 use Rattle.pages.specs.Decimal.{decimal}
@@ -43,7 +41,7 @@ ShownLength = (s : List ℕ) → ((k : ℕ) → get_or s k 0 < 256) → (length 
 -- so a page of that length has the text
 abbrev pub Served : List ℕ → List ℕ → Type 0
 Served s text =
-    (page page' : List ℕ) (r : Written) → ((k : ℕ) → get_or s k 0 < 256) → 28 * records s ≤ length page → Page page text page' r → r ≡ Text (length text)
+    (page page' : List ℕ) (r : Option ℕ) → ((k : ℕ) → get_or s k 0 < 256) → 28 * records s ≤ length page → Page page text page' r → r ≡ Some (length text)
 
 abbrev pub AlwaysServed : Type 0
 AlwaysServed = (s : List ℕ) → Served s (show_book s) × Served s (show_claims s)

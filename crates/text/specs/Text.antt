@@ -1,11 +1,10 @@
 -- A text that is read: the bytes of its entries in order, or its first bad line, the reason, and the bytes of the entries before. Assumes nothing.
-use Rattle.std.specs.Prelude.{ℕ, zero, suc, ◌*◌, Bool, ◌&&◌, List, [], ◌∷◌, ◌++◌, eqb, ltb, length, drop, get_or}
+use Rattle.std.specs.Prelude.{ℕ, zero, suc, ◌*◌, Bool, ◌&&◌, List, [], ◌∷◌, ◌++◌, Some, None, Ok, Err, eqb, ltb, length, drop, get_or}
 use Rattle.text.specs.Tests.{if_true}
 use Rattle.text.specs.declared.Form.{Form}
 use Rattle.text.specs.declared.Form.TheVariants.{Records, Claims, Log}
 use Rattle.text.specs.declared.Reason.{Reason}
 use Rattle.text.specs.declared.Reason.TheVariants.{TooLong}
-use Rattle.text.specs.declared.lines.Line.TheVariants.{Nothing, Entry, Bad}
 use Rattle.text.specs.Line.{line_of}
 use Rattle.text.specs.Lines.{lines}
 use Rattle.text.specs.Entry.{size, bytes_of}
@@ -29,9 +28,9 @@ read_lines form left n done [] = Entries done
 read_lines form zero n done (l ∷ ls) = Entries done
 read_lines form (suc left) n done (l ∷ ls) =
     elim (line_of form l) [
-      | Nothing ↦ read_lines form (suc left) (suc n) done ls
-      | Entry e ↦ read_lines form left (suc n) (done ++ bytes_of form e) ls
-      | Bad reason ↦ Broken n reason done
+      | Ok None ↦ read_lines form (suc left) (suc n) done ls
+      | Ok (Some e) ↦ read_lines form left (suc n) (done ++ bytes_of form e) ls
+      | Err reason ↦ Broken n reason done
     ]
 
 -- the byte order mark that some editors put at the start

@@ -18,8 +18,11 @@ pub const CLAIMS_ROOM: usize = 24582;
 
 pub const LOG_ROOM: usize = 65538;
 
+// The lowest byte that begins a text.
+const FIRST_OF_TEXT: u8 = b'\t';
+
 // What the lines of a text are.
-#[derive(Clone, Copy)]
+#[derive(Clone, Copy, Debug, PartialEq, Eq)]
 pub enum Form {
     Records,
     Claims,
@@ -27,7 +30,7 @@ pub enum Form {
 }
 
 // Why a text cannot be read.
-#[derive(Clone, Copy)]
+#[derive(Clone, Copy, Debug, PartialEq, Eq)]
 pub enum Reason {
     NotKind,
     NotNumber,
@@ -49,21 +52,21 @@ pub fn reason_number(reason: Reason) -> u8
 }
 
 // Whether a book or a list of claims is text; if not, it is records.
+#[tactic(auto, unfolding(crate::specs::Either::is_text))]
 pub fn is_text(s: &[u8]) -> bool
     ensures { result ≡ is_text s.now }
 {
-    if s.len() == 0 {
-        return false;
-    }
-    9 <= s[0]
+    !s.is_empty() && FIRST_OF_TEXT <= s[0]
 }
 
 // The line of entry k of a source in either form, counted from 1, or 0 where there is none.
+#[tactic(auto, unfolding(crate::specs::Place::line_in))]
 pub fn line_in(source: &[u8], k: usize) -> usize
     ensures { result ≡ line_in source.now k }
 {
     if is_text(source) {
-        return reading::entry_line(source, k);
+        reading::entry_line(source, k)
+    } else {
+        0
     }
-    0
 }

@@ -1,100 +1,82 @@
 // One line of text: what it says, by its words.
-ghost use Rattle.std.specs.Prelude.{◌≡◌, [], ◌∷◌, ◌≤◌, length, drop};
+ghost use Rattle.std.specs.Prelude.{◌≡◌, [], ◌∷◌, ◌≤◌, length, drop, IfOk, IfErr};
 ghost use Rattle.text.specs.Names.{kind_names, place, kind_of, choice_of};
 ghost use Rattle.text.specs.Line.{bad_choice, lastly, secondly, kinded, logged, line_of};
-ghost use Rattle.text.specs.Reading.{NumberAt};
+ghost use Rattle.text.specs.Reading.{NumberAt, NoNumberAt};
 
-use crate::words::Number;
+use crate::words::{Word, is_word, next_word, read_number};
 use crate::{Form, Reason};
 use records::Record;
 
-// What a line says.
-#[derive(Clone, Copy)]
-pub enum Line {
-    Nothing,
-    Entry(Record),
-    Bad(Reason),
-}
-
 // A number and the place behind its word.
-#[derive(Clone, Copy)]
+#[derive(Clone, Copy, Debug, PartialEq, Eq)]
 pub struct Numbered {
-    pub number: Number,
+    pub number: usize,
     pub next: usize,
 }
 
-// 1 to 4, or 0.
-fn fact_kind(w: &[u8]) -> u8
+// The kind of a fact, by its name.
+#[tactic(auto, unfolding(crate::specs::Names::place))]
+fn fact_kind(w: &[u8]) -> Option<u8>
     ensures { result ≡ place 1 kind_names w.now }
 {
-    if crate::words::is_word(w, b"PART") {
-        return records::PART;
+    if is_word(w, b"PART") {
+        Some(records::PART)
+    } else if is_word(w, b"APART") {
+        Some(records::APART)
+    } else if is_word(w, b"MEETS") {
+        Some(records::MEETS)
+    } else if is_word(w, b"NOTPART") {
+        Some(records::NOTPART)
+    } else {
+        None
     }
-    if crate::words::is_word(w, b"APART") {
-        return records::APART;
-    }
-    if crate::words::is_word(w, b"MEETS") {
-        return records::MEETS;
-    }
-    if crate::words::is_word(w, b"NOTPART") {
-        return records::NOTPART;
-    }
-    0
 }
 
-fn kind_of(form: Form, w: &[u8]) -> u8
+#[tactic(auto, unfolding(crate::specs::Names::place, crate::specs::Names::kind_of))]
+fn kind_of(form: Form, w: &[u8]) -> Option<u8>
     ensures { result ≡ kind_of form w.now }
 {
     match form {
-        Form::Log => 0,
+        Form::Log => None,
         Form::Claims => fact_kind(w),
-        Form::Records => {
-            let kind = fact_kind(w);
-            if kind != 0 {
-                return kind;
-            }
-            if crate::words::is_word(w, b"VOID") {
-                return records::VOID;
-            }
-            0
-        }
+        Form::Records => fact_kind(w).or(is_word(w, b"VOID").then_some(records::VOID)),
     }
 }
 
-// 1 or 2, where the word is one of two names, or 0.
-fn one_of(w: &[u8], first: &[u8], second: &[u8]) -> u8
-    ensures { result ≡ place 1 (first.now ∷ second.now ∷ []) w.now }
+// 0 or 1, where the word is one of two names.
+#[tactic(auto, unfolding(crate::specs::Names::place))]
+fn one_of(w: &[u8], first: &[u8], second: &[u8]) -> Option<u8>
+    ensures { result ≡ place 0 (first.now ∷ second.now ∷ []) w.now }
 {
-    if crate::words::is_word(w, first) {
-        return 1;
+    if is_word(w, first) {
+        Some(0)
+    } else if is_word(w, second) {
+        Some(1)
+    } else {
+        None
     }
-    if crate::words::is_word(w, second) {
-        return 2;
-    }
-    0
 }
 
-fn choice_of(form: Form, w: &[u8]) -> u8
+#[tactic(auto, unfolding(crate::specs::Names::choice_of))]
+fn choice_of(form: Form, w: &[u8]) -> Option<u8>
     ensures { result ≡ choice_of form w.now }
 {
     match form {
-        Form::Log => 0,
+        Form::Log => None,
         Form::Claims => one_of(w, b"all", b"sheets"),
         Form::Records => one_of(w, b"sheet", b"scanner"),
     }
 }
 
-fn number_at(l: &[u8], at: usize) -> Numbered
+fn number_at(l: &[u8], at: usize) -> Result<Numbered, Reason>
     requires { at ≤ length l.now }
-    ensures { NumberAt l.now at result.number result.next }
+    ensures found { IfOk result (λ n. NumberAt l.now at n.number n.next) }
+    ensures missing { IfErr result (NoNumberAt l.now at) }
 {
-    let w = crate::words::next_word(l, at);
-    let from = w.from;
-    let to = w.to;
-    Numbered {
-        number: crate::words::read_number(&l[from..to]),
-        next: to,
-    }
+    let Word { from, to } = next_word(l, at);
+    let number = read_number(&l[from..to]).ok_or(Reason::NotNumber)?;
+    Ok(Numbered { number, next: to })
 }
 
 fn bad_choice(form: Form) -> Reason
@@ -108,96 +90,70 @@ fn bad_choice(form: Form) -> Reason
 }
 
 // What the words behind the numbers make of a line.
-fn read_last(form: Form, kind: u8, a: usize, b: usize, l: &[u8], at: usize) -> Line
+fn read_last(
+    form: Form,
+    kind: u8,
+    a: usize,
+    b: usize,
+    l: &[u8],
+    at: usize,
+) -> Result<Record, Reason>
     requires { at ≤ length l.now }
     ensures { result ≡ lastly form kind a b (drop at l.now) }
 {
-    let w = crate::words::next_word(l, at);
-    let from = w.from;
-    let to = w.to;
+    let Word { from, to } = next_word(l, at);
     if from == to {
-        return Line::Entry(Record {
-            kind,
-            origin: 0,
-            a,
-            b,
-        });
+        let origin = 0;
+        return Ok(Record { kind, origin, a, b });
     }
-    let choice = choice_of(form, &l[from..to]);
-    if choice == 0 {
-        return Line::Bad(bad_choice(form));
-    }
-    let v = crate::words::next_word(l, to);
+    let origin = choice_of(form, &l[from..to]).ok_or(bad_choice(form))?;
+    let v = next_word(l, to);
     if v.from != v.to {
-        return Line::Bad(Reason::WordTooMany);
+        return Err(Reason::WordTooMany);
     }
-    Line::Entry(Record {
-        kind,
-        origin: choice - 1,
-        a,
-        b,
-    })
+    Ok(Record { kind, origin, a, b })
 }
 
 // What stands behind the first of two numbers.
-fn read_second(form: Form, kind: u8, a: usize, l: &[u8], at: usize) -> Line
+fn read_second(form: Form, kind: u8, a: usize, l: &[u8], at: usize) -> Result<Record, Reason>
     requires { at ≤ length l.now }
     ensures { result ≡ secondly form kind a (drop at l.now) }
 {
     if kind == records::VOID {
         return read_last(form, kind, a, 0, l, at);
     }
-    let n = number_at(l, at);
-    let next = n.next;
-    let number = n.number;
-    let Number::Value(b) = number else {
-        return Line::Bad(Reason::NotNumber);
-    };
-    read_last(form, kind, a, b, l, next)
+    let b = number_at(l, at)?;
+    read_last(form, kind, a, b.number, l, b.next)
 }
 
 // What stands behind a kind.
-fn read_numbers(form: Form, kind: u8, l: &[u8], at: usize) -> Line
+fn read_numbers(form: Form, kind: u8, l: &[u8], at: usize) -> Result<Record, Reason>
     requires { at ≤ length l.now }
     ensures { result ≡ kinded form kind (drop at l.now) }
 {
-    if kind == 0 {
-        return Line::Bad(Reason::NotKind);
-    }
-    let n = number_at(l, at);
-    let next = n.next;
-    let number = n.number;
-    let Number::Value(a) = number else {
-        return Line::Bad(Reason::NotNumber);
-    };
-    read_second(form, kind, a, l, next)
+    let a = number_at(l, at)?;
+    read_second(form, kind, a.number, l, a.next)
 }
 
-fn read_entry(l: &[u8]) -> Line
+fn read_entry(l: &[u8]) -> Result<Record, Reason>
     ensures { result ≡ logged l.now }
 {
-    let n = number_at(l, 0);
-    let next = n.next;
-    let number = n.number;
-    let Number::Value(a) = number else {
-        return Line::Bad(Reason::NotNumber);
-    };
-    read_last(Form::Log, 0, a, 0, l, next)
+    let a = number_at(l, 0)?;
+    read_last(Form::Log, 0, a.number, 0, l, a.next)
 }
 
-// What one line says: a line of a text, or words that were joined.
-pub fn read_line(form: Form, l: &[u8]) -> Line
+// What one line says, a line of a text, or words that were joined: nothing where it has no word.
+pub fn read_line(form: Form, l: &[u8]) -> Result<Option<Record>, Reason>
     ensures { result ≡ line_of form l.now }
 {
-    let w = crate::words::next_word(l, 0);
-    let from = w.from;
-    let to = w.to;
+    let Word { from, to } = next_word(l, 0);
     if from == to {
-        return Line::Nothing;
+        return Ok(None);
     }
     if let Form::Log = form {
-        return read_entry(l);
+        return Ok(Some(read_entry(l)?));
     }
-    let kind = kind_of(form, &l[from..to]);
-    read_numbers(form, kind, l, to)
+    let kind = kind_of(form, &l[from..to]).ok_or(Reason::NotKind)?;
+    let entry = read_numbers(form, kind, l, to)?;
+    Ok(Some(entry))
 }

@@ -6,7 +6,6 @@ ghost use Rattle.pages.specs.Put.{Put};
 ghost use Rattle.pages.specs.Written.{Page};
 ghost use Rattle.text.specs.Shown.{kind_word, choice_fields, show_record, show_records, show_book, show_claims};
 
-use pages::Written;
 use records::Record;
 
 // The word of a kind and a space.
@@ -53,17 +52,15 @@ fn put_records(page: &mut [u8], choice: &[u8], s: &[u8]) -> usize
     ensures { Put page.old 0 (show_records choice.now s.now) page.new result }
 {
     let n = s.len() / records::RECORD_BYTES;
-    let mut end: usize = 0;
-    let mut i: usize = 0;
-    while i < n {
+    let mut end = 0;
+    for i in 0..n {
         end = put_record(page, end, choice, records::record_at(s, i));
-        i += 1;
     }
     end
 }
 
 // Writes a book as text to the front of a page, and says how many bytes it has; or the page is too short.
-pub fn show_book(book: &[u8], page: &mut [u8]) -> Written
+pub fn show_book(book: &[u8], page: &mut [u8]) -> Option<usize>
     ensures { Page page.old (show_book book.now) page.new result }
 {
     let end = put_records(page, b"scanner", book);
@@ -71,7 +68,7 @@ pub fn show_book(book: &[u8], page: &mut [u8]) -> Written
 }
 
 // The same of claims.
-pub fn show_claims(claims: &[u8], page: &mut [u8]) -> Written
+pub fn show_claims(claims: &[u8], page: &mut [u8]) -> Option<usize>
     ensures { Page page.old (show_claims claims.now) page.new result }
 {
     let end = put_records(page, b"sheets", claims);

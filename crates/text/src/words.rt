@@ -1,8 +1,8 @@
 // Runs of bytes of one sort, words, and the number or the name that a word is.
-ghost use Rattle.std.specs.Prelude.{◌≡◌, ◌+◌, ◌≤◌, length, drop};
+ghost use Rattle.std.specs.Prelude.{◌≡◌, ◌+◌, ◌≤◌, length, drop, position, not};
 ghost use Rattle.text.specs.Runs.{blank, of_sort, run};
-ghost use Rattle.text.specs.Number.{is_digit, number};
-ghost use Rattle.text.specs.Names.{lower, same};
+ghost use Rattle.text.specs.Number.{number};
+ghost use Rattle.text.specs.Names.{same};
 ghost use Rattle.text.specs.Reading.{WordAt};
 
 // The base of numbers in words, and the largest of them.
@@ -10,11 +10,8 @@ const TEN: usize = 10;
 
 const LARGEST: usize = 65535;
 
-// From a capital letter to the small one.
-const CASE: u8 = 32;
-
 // A sort of bytes: between words, in a word, in a line; in a number, outside numbers.
-#[derive(Clone, Copy)]
+#[derive(Clone, Copy, Debug, PartialEq, Eq)]
 pub enum Sort {
     Blank,
     Letter,
@@ -23,58 +20,38 @@ pub enum Sort {
     Gap,
 }
 
-#[derive(Clone, Copy)]
-pub enum Number {
-    Value(usize),
-    NoNumber,
-}
-
 // The place of a word.
-#[derive(Clone, Copy)]
+#[derive(Clone, Copy, Debug, PartialEq, Eq)]
 pub struct Word {
     pub from: usize,
     pub to: usize,
 }
 
+#[tactic(auto, unfolding(crate::specs::Runs::blank))]
 fn is_blank(x: u8) -> bool
     ensures { result ≡ blank x }
 {
-    if x == b' ' {
-        return true;
-    }
-    if x == b'\t' {
-        return true;
-    }
-    if x == b'\r' {
-        return true;
-    }
-    x == b'\n'
+    matches!(x, b' ' | b'\t' | b'\r' | b'\n')
 }
 
-fn is_digit(x: u8) -> bool
-    ensures { result ≡ is_digit x }
-{
-    if x < b'0' {
-        return false;
-    }
-    x <= b'9'
-}
-
+#[tactic(auto, unfolding(crate::specs::Runs::of_sort, crate::specs::Number::is_digit))]
 fn is_of(sort: Sort, x: u8) -> bool
     ensures { result ≡ of_sort sort x }
 {
     match sort {
         Sort::Blank => is_blank(x),
-        Sort::Letter => {
-            if is_blank(x) {
-                return false;
-            }
-            x != b'#'
-        }
+        Sort::Letter => !is_blank(x) && x != b'#',
         Sort::Inner => x != b'\n',
-        Sort::Digit => is_digit(x),
-        Sort::Gap => !is_digit(x),
+        Sort::Digit => x.is_ascii_digit(),
+        Sort::Gap => !x.is_ascii_digit(),
     }
+}
+
+// The place of the first byte of any other sort.
+fn first_other(sort: Sort, l: &[u8]) -> Option<usize>
+    ensures { result ≡ position (λ x. not (of_sort sort x)) l.now }
+{
+    l.iter().position(|x| !is_of(sort, *x))
 }
 
 // Where a run of one sort ends that begins at `from`.
@@ -82,14 +59,8 @@ pub fn run_end(sort: Sort, l: &[u8], from: usize) -> usize
     requires { from ≤ length l.now }
     ensures { result ≡ from + length (run (of_sort sort) (drop from l.now)) }
 {
-    let mut i = from;
-    while i < l.len() {
-        if !is_of(sort, l[i]) {
-            return i;
-        }
-        i += 1;
-    }
-    i
+    let rest = &l[from..];
+    from + first_other(sort, rest).unwrap_or(rest.len())
 }
 
 pub fn next_word(l: &[u8], at: usize) -> Word
@@ -102,54 +73,28 @@ pub fn next_word(l: &[u8], at: usize) -> Word
 }
 
 // The number that a word is. It stops above 65,535, so no sum wraps.
-pub fn read_number(w: &[u8]) -> Number
+pub fn read_number(w: &[u8]) -> Option<usize>
     ensures { result ≡ number w.now }
 {
-    if w.len() == 0 {
-        return Number::NoNumber;
+    if w.is_empty() {
+        return None;
     }
-    let mut n: usize = 0;
-    let mut i: usize = 0;
-    while i < w.len() {
-        let x = w[i];
-        if !is_digit(x) {
-            return Number::NoNumber;
+    let mut n = 0;
+    for &x in w {
+        if !x.is_ascii_digit() {
+            return None;
         }
-        n = TEN * n + numbers::wide(x - b'0');
+        n = TEN * n + usize::from(x - b'0');
         if LARGEST < n {
-            return Number::NoNumber;
+            return None;
         }
-        i += 1;
     }
-    Number::Value(n)
-}
-
-// A capital letter as a small one, and any other byte as it is.
-fn lower(x: u8) -> u8
-    ensures { result ≡ lower x }
-{
-    if x < b'A' {
-        return x;
-    }
-    if b'Z' < x {
-        return x;
-    }
-    x + CASE
+    Some(n)
 }
 
 // Whether a word is a name, in letters of either case.
 pub fn is_word(w: &[u8], name: &[u8]) -> bool
     ensures { result ≡ same w.now name.now }
 {
-    if w.len() != name.len() {
-        return false;
-    }
-    let mut i: usize = 0;
-    while i < w.len() {
-        if lower(w[i]) != lower(name[i]) {
-            return false;
-        }
-        i += 1;
-    }
-    true
+    w.eq_ignore_ascii_case(name)
 }

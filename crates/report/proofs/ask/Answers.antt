@@ -9,6 +9,7 @@ use native.Mathlib.Omega.{arith}
 use lib.Dec.{leb}
 use lib.ListN.{length}
 use Rattle.report.specs.Asked.{roomy}
+use Rattle.report.proofs.ask.Goals.{then-claims-gt-CLAIMS_READ-via-then-claims-gt-CLAIMS_READ, then-claims-gt-CLAIMS_READ-via-else-claims-gt-CLAIMS_READ+then-page-lt-PAGE_BYTES}
 use Rattle.report.proofs.ask.Goals as goal
 
 and_no : (b : Bool) → (b && false) ≡ false
@@ -28,10 +29,11 @@ unfolding roomy
 enough claims page h k = ap₂ ◌&&◌ (le-leb (length claims) 24582 h) (le-leb 135285 (length page) k)
 
 pub returns-then-claims-gt-CLAIMS_READ : goal.returns-then-claims-gt-CLAIMS_READ
-returns-then-claims-gt-CLAIMS_READ c = (long-claims _ _ (omega arith), refl)
-
-pub returns-then-page-lt-PAGE_BYTES : goal.returns-then-page-lt-PAGE_BYTES
-returns-then-page-lt-PAGE_BYTES c = (short-page _ _ (omega arith), refl)
+returns-then-claims-gt-CLAIMS_READ c =
+    elim c.then-claims-gt-CLAIMS_READ.branch [
+      | then-claims-gt-CLAIMS_READ-via-then-claims-gt-CLAIMS_READ w ↦ (long-claims _ _ (omega arith), refl)
+      | then-claims-gt-CLAIMS_READ-via-else-claims-gt-CLAIMS_READ+then-page-lt-PAGE_BYTES w ↦ (short-page _ _ (omega arith), refl)
+    ]
 
 pub returns : goal.returns
-returns c = (enough _ _ (omega arith) (omega arith), c.write_session-end.ensures)
+returns c = (enough _ _ c.if-claims-gt-CLAIMS_READ.false c.if-page-lt-PAGE_BYTES.false, c.write_session.ensures)

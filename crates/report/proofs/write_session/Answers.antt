@@ -16,7 +16,7 @@ slice_bounds-put_claims-end c = sym (c.answer-outcome.auto.answers ∙ length-re
 
 pub returns-in-Refused : goal.returns-in-Refused
 returns-in-Refused c =
-    refused _ _ _ _ c.answer-outcome.ensures c.requires.1 _ _ _ c.in-Refused.is c.refusal_number-number.ensures (search rules) (search rules) c.put_refusal.ensures
+    refused _ _ _ _ c.answer-outcome.ensures c.requires.1 _ _ _ c.in-Refused.is (c.from.ensures ∙ c.refusal_number-number.ensures) (search rules) (search rules) c.put_refusal.ensures
 
 pub returns-in-Accepted : goal.returns-in-Accepted
 returns-in-Accepted c =

@@ -13,5 +13,5 @@ returns-then-counted-eq114 c = c.line_in.ensures ∙ of-book _ _ _ _ c.if-counte
 pub returns-then-counted-eq99 : goal.returns-then-counted-eq99
 returns-then-counted-eq99 c = c.line_in-then-counted-eq99.ensures ∙ of_other _ _ _ _ c.if-counted-eq114.false c.if-counted-eq99.true
 
-pub returns : goal.returns
-returns c = of_none _ _ _ _ c.if-counted-eq114.false c.if-counted-eq99.false
+pub returns-else-counted-eq99 : goal.returns-else-counted-eq99
+returns-else-counted-eq99 c = of_none _ _ _ _ c.if-counted-eq114.false c.if-counted-eq99.false

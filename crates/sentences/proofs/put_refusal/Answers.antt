@@ -11,4 +11,4 @@ pub returns : goal.returns
 returns c =
     put_as
     (located _ _ _ c.if-l-eq0.false)
-    (chain c.put-at.ensures (chain c.put_number-at.ensures (chain c.put_number-at-2.ensures (chain c.put-at-2.ensures (chain c.put_number-at-3.ensures c.put_sentence-2.ensures)))))
+    (chain c.put-at.ensures (chain c.put_number-at.ensures (chain c.put_number-at-2.ensures (chain c.put_text_line-at.ensures.put c.put_sentence-2.ensures))))

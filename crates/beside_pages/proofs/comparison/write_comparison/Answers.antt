@@ -16,25 +16,25 @@ pub read_source-read-requires : goal.read_source-read-requires
 read_source-read-requires c = omega (arith, length-replicate {A = ℕ} 49158 0)
 
 pub slice_bounds-first-end : goal.slice_bounds-first-end
-slice_bounds-first-end c = (took-bytes _ _ c.in-Bytes.is c.read_source-read.ensures).0
+slice_bounds-first-end c = (took-bytes _ _ c.in-Ok.is c.read_source-read.ensures).0
 
 pub slice_bounds-write_second-end : goal.slice_bounds-write_second-end
-slice_bounds-write_second-end c = sym (length-take-le _ _ (took-bytes _ _ c.in-Bytes.is c.read_source-read.ensures).0)
+slice_bounds-write_second-end c = sym (length-take-le _ _ (took-bytes _ _ c.in-Ok.is c.read_source-read.ensures).0)
 
-pub shape_of-page-in-Unread : goal.shape_of-page-in-Unread
-shape_of-page-in-Unread c = c.write_unread.auto.page
+pub shape_of-page-in-Err : goal.shape_of-page-in-Err
+shape_of-page-in-Err c = c.write_unread.auto.page
 
-pub returns-in-Unread : goal.returns-in-Unread
+pub returns-in-Err : goal.returns-in-Err
 unfolding comparison_text
-returns-in-Unread c =
+returns-in-Err c =
     told (λ a b. record { page = a; claims_len_bound = b })
-    (page-untook _ _ _ c.write_unread.result _ _ _ _ _ (lit≤ tt) c.in-Unread.is c.read_source-read.ensures (c.write_unread.ensures.page, c.write_unread.ensures.reason_len_bound))
+    (page-untook _ _ _ c.write_unread.result _ _ _ _ _ (lit≤ tt) c.in-Err.is c.read_source-read.ensures (c.write_unread.ensures.page, c.write_unread.ensures.unread_len_bound))
 
-pub shape_of-page-in-Bytes : goal.shape_of-page-in-Bytes
-shape_of-page-in-Bytes c = c.write_second.auto.page
+pub shape_of-page-in-Ok : goal.shape_of-page-in-Ok
+shape_of-page-in-Ok c = c.write_second.auto.page
 
-pub returns-in-Bytes : goal.returns-in-Bytes
+pub returns-in-Ok : goal.returns-in-Ok
 unfolding comparison_text
-returns-in-Bytes c =
+returns-in-Ok c =
     told (λ a b. record { page = a; claims_len_bound = b })
-    (page-took _ _ _ c.write_second.result _ _ _ _ _ c.in-Bytes.is c.read_source-read.ensures (c.write_second.ensures.page, c.write_second.ensures.claims_len_bound))
+    (page-took _ _ _ c.write_second.result _ _ _ _ _ c.in-Ok.is c.read_source-read.ensures (c.write_second.ensures.page, c.write_second.ensures.claims_len_bound))

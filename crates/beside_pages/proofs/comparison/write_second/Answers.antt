@@ -15,23 +15,23 @@ pub read_source-read-requires : goal.read_source-read-requires
 read_source-read-requires c = omega (arith, length-replicate {A = ℕ} 49158 0)
 
 pub slice_bounds-other-end : goal.slice_bounds-other-end
-slice_bounds-other-end c = (took-bytes _ _ c.in-Bytes.is c.read_source-read.ensures).0
+slice_bounds-other-end c = (took-bytes _ _ c.in-Ok.is c.read_source-read.ensures).0
 
 pub slice_bounds-write_answers-end : goal.slice_bounds-write_answers-end
-slice_bounds-write_answers-end c = sym (length-take-le _ _ (took-bytes _ _ c.in-Bytes.is c.read_source-read.ensures).0)
+slice_bounds-write_answers-end c = sym (length-take-le _ _ (took-bytes _ _ c.in-Ok.is c.read_source-read.ensures).0)
 
-pub shape_of-page-in-Unread : goal.shape_of-page-in-Unread
-shape_of-page-in-Unread c = c.write_unread.auto.page
+pub shape_of-page-in-Err : goal.shape_of-page-in-Err
+shape_of-page-in-Err c = c.write_unread.auto.page
 
-pub returns-in-Unread : goal.returns-in-Unread
-returns-in-Unread c =
+pub returns-in-Err : goal.returns-in-Err
+returns-in-Err c =
     told (λ a b. record { page = a; claims_len_bound = b })
-    (page-untook _ _ _ c.write_unread.result _ _ _ _ _ (lit≤ tt) c.in-Unread.is c.read_source-read.ensures (c.write_unread.ensures.page, c.write_unread.ensures.reason_len_bound))
+    (page-untook _ _ _ c.write_unread.result _ _ _ _ _ (lit≤ tt) c.in-Err.is c.read_source-read.ensures (c.write_unread.ensures.page, c.write_unread.ensures.unread_len_bound))
 
-pub shape_of-page-in-Bytes : goal.shape_of-page-in-Bytes
-shape_of-page-in-Bytes c = c.write_answers.auto.page
+pub shape_of-page-in-Ok : goal.shape_of-page-in-Ok
+shape_of-page-in-Ok c = c.write_answers.auto.page
 
-pub returns-in-Bytes : goal.returns-in-Bytes
-returns-in-Bytes c =
+pub returns-in-Ok : goal.returns-in-Ok
+returns-in-Ok c =
     told (λ a b. record { page = a; claims_len_bound = b })
-    (page-took _ _ _ c.write_answers.result _ _ _ _ _ c.in-Bytes.is c.read_source-read.ensures (c.write_answers.ensures.page, c.write_answers.ensures.claims_len_bound))
+    (page-took _ _ _ c.write_answers.result _ _ _ _ _ c.in-Ok.is c.read_source-read.ensures (c.write_answers.ensures.page, c.write_answers.ensures.claims_len_bound))

@@ -1,5 +1,4 @@
 -- `beside_pages::put_entries` meets its contract. Assumes nothing.
-use borrow.Author.Rules.{rules}
 use native.Mathlib.Omega.{arith}
 use mathlib.Core.Path.{ap}
 use Rattle.pages.proofs.Puts.{put_as}
@@ -8,7 +7,7 @@ use Rattle.beside_pages.proofs.LogTexts.{no-entry, next-entry, entries-width}
 use Rattle.beside_pages.proofs.log.put_entries.Goals as goal
 
 pub loop-i-init : goal.loop-i-init
-loop-i-init c = (no-entry _ _, search rules)
+loop-i-init c = no-entry _ _
 
 pub overflow_mul-piece : goal.overflow_mul-piece
 overflow_mul-piece c = omega (arith, c.wide-in-loop-i.ensures.1)
@@ -24,11 +23,8 @@ bounds-bytes-high c = omega (arith, c.requires.0)
 
 pub loop-i-preserved : goal.loop-i-preserved
 loop-i-preserved c =
-    (next-entry c.args.log.now c.args.bytes.now c.loop-i.i _ (omega (arith, c.wide.ensures.0, c.wide-in-loop-i.ensures.0)) c.loop-i.invariant.0 c.put_entry-end.ensures, omega arith)
-
-pub shape_of-page : goal.shape_of-page
-shape_of-page c = c.loop-i.invariant.0.kept
+    next-entry c.args.log.now c.args.bytes.now c.loop-i.i _ (omega (arith, c.wide.ensures.0, c.wide-in-loop-i.ensures.0)) c.loop-i.invariant c.put_entry-end.ensures
 
 pub returns : goal.returns
 returns c =
-    record { put = put_as (ap (entry_lines c.args.log.now c.args.bytes.now) (omega arith)) c.loop-i.invariant.0; log_len_bound = entries-width _ _ (λ j. (c.type_inv.log j).fits) (λ j. (c.type_inv.bytes j).fits) c.requires.1 }
+    record { put = put_as (ap (entry_lines c.args.log.now c.args.bytes.now) (omega arith)) c.loop-i.invariant; log_len_bound = entries-width _ _ (λ j. (c.type_inv.log j).fits) (λ j. (c.type_inv.bytes j).fits) c.requires.1 }

@@ -1,12 +1,8 @@
 -- `grid::put_rows` meets its contract: the loop keeps that the first a lines are put. Assumes nothing.
-use Prim.Native.Nat.{◌≤◌, ◌-◌}
 use Rattle.pages.specs.Put.{Put}
-use Rattle.book_pages.specs.Sign.{four}
+use Rattle.grids.specs.Closed.{holds}
 use Rattle.book_pages.specs.GridText.{rows}
 use Rattle.book_pages.proofs.grid.put_rows.Given as goal
 
 abbrev pub invariant-loop-a : goal.invariant-loop-a
-invariant-loop-a l = Put l.initial.page l.at (rows (four l.part l.apart l.meets l.notpart) l.n l.a) l.page l.end × (l.a ≤ l.n)
-
-abbrev pub decreases-loop-a : goal.decreases-loop-a
-decreases-loop-a l = l.n - l.a
+invariant-loop-a l = Put l.initial.page l.at (rows (holds l.g) l.n l.a) l.page l.end

@@ -1,5 +1,4 @@
 -- `grid::put_signs` meets its contract: the loop keeps that the first b signs are put. Assumes nothing.
-use borrow.Author.Rules.{rules}
 use native.Mathlib.Omega.{arith}
 use mathlib.Core.Path.{ap}
 use mathlib.Core.List.{[], ◌∷◌}
@@ -10,15 +9,12 @@ use Rattle.book_pages.proofs.grid.put_signs.Goals as goal
 
 pub loop-b-init : goal.loop-b-init
 unfolding signs
-loop-b-init c = (no_line _, search rules)
+loop-b-init c = no_line _
 
 pub loop-b-preserved : goal.loop-b-preserved
 unfolding signs
 loop-b-preserved c =
-    (next-line _ c.loop-b.b c.loop-b.invariant.0 (put_as (ap (λ x. x ∷ []) c.sign-x.ensures) c.put_byte-end.ensures), omega arith)
-
-pub shape_of-page : goal.shape_of-page
-shape_of-page c = c.loop-b.invariant.0.kept
+    next-line _ c.loop-b.b c.loop-b.invariant (put_as (ap (λ x. x ∷ []) c.sign-x.ensures) c.put_byte-end.ensures)
 
 pub returns : goal.returns
-returns c = put_as (ap (signs _ _) (omega arith)) c.loop-b.invariant.0
+returns c = put_as (ap (signs _ _) (omega arith)) c.loop-b.invariant

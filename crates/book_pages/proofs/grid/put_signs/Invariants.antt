@@ -1,12 +1,8 @@
 -- `grid::put_signs` meets its contract: the loop keeps that the first b signs are put. Assumes nothing.
-use Prim.Native.Nat.{◌≤◌, ◌-◌}
 use Rattle.pages.specs.Put.{Put}
-use Rattle.book_pages.specs.Sign as by
+use Rattle.grids.specs.Closed.{holds}
 use Rattle.book_pages.specs.GridText.{signs}
 use Rattle.book_pages.proofs.grid.put_signs.Given as goal
 
 abbrev pub invariant-loop-b : goal.invariant-loop-b
-invariant-loop-b l = Put l.initial.page l.at (signs (by.four l.part l.apart l.meets l.notpart) l.a l.b) l.page l.end × (l.b ≤ l.n)
-
-abbrev pub decreases-loop-b : goal.decreases-loop-b
-decreases-loop-b l = l.n - l.b
+invariant-loop-b l = Put l.initial.page l.at (signs (holds l.g) l.a l.b) l.page l.end

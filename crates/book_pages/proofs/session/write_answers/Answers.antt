@@ -16,27 +16,27 @@ pub read_source-read-requires : goal.read_source-read-requires
 read_source-read-requires c = omega (arith, length-replicate {A = ℕ} 24582 0)
 
 pub slice_bounds-asked-end : goal.slice_bounds-asked-end
-slice_bounds-asked-end c = (took-bytes _ _ c.in-Bytes.is c.read_source-read.ensures).0
+slice_bounds-asked-end c = (took-bytes _ _ c.in-Ok.is c.read_source-read.ensures).0
 
 pub slice_bounds-put_session-end : goal.slice_bounds-put_session-end
-slice_bounds-put_session-end c = sym (length-take-le _ _ (took-bytes _ _ c.in-Bytes.is c.read_source-read.ensures).0)
+slice_bounds-put_session-end c = sym (length-take-le _ _ (took-bytes _ _ c.in-Ok.is c.read_source-read.ensures).0)
 
 pub put_session-end-requires : goal.put_session-end-requires
-put_session-end-requires c = took-short _ _ (took-bytes _ _ c.in-Bytes.is c.read_source-read.ensures).0 (c.read_source-read.auto.out ∙ length-replicate {A = ℕ} 24582 0)
+put_session-end-requires c = took-short _ _ (took-bytes _ _ c.in-Ok.is c.read_source-read.ensures).0 (c.read_source-read.auto.out ∙ length-replicate {A = ℕ} 24582 0)
 
-pub shape_of-page-in-Unread : goal.shape_of-page-in-Unread
-shape_of-page-in-Unread c = c.write_unread.auto.page
+pub shape_of-page-in-Err : goal.shape_of-page-in-Err
+shape_of-page-in-Err c = c.write_unread.auto.page
 
-pub returns-in-Unread : goal.returns-in-Unread
-returns-in-Unread c =
+pub returns-in-Err : goal.returns-in-Err
+returns-in-Err c =
     told (λ a b. record { page = a; claims_len_bound = b })
-    (page-untook _ _ _ c.write_unread.result _ _ _ _ _ (lit≤ tt) c.in-Unread.is c.read_source-read.ensures (c.write_unread.ensures.page, c.write_unread.ensures.reason_len_bound))
+    (page-untook _ _ _ c.write_unread.result _ _ _ _ _ (lit≤ tt) c.in-Err.is c.read_source-read.ensures (c.write_unread.ensures.page, c.write_unread.ensures.unread_len_bound))
 
-pub shape_of-page-in-Bytes : goal.shape_of-page-in-Bytes
-shape_of-page-in-Bytes c = c.put_session-end.auto.page
+pub shape_of-page-in-Ok : goal.shape_of-page-in-Ok
+shape_of-page-in-Ok c = c.put_session-end.auto.page
 
-pub returns-in-Bytes : goal.returns-in-Bytes
-returns-in-Bytes c =
+pub returns-in-Ok : goal.returns-in-Ok
+returns-in-Ok c =
     told (λ a b. record { page = a; claims_len_bound = b })
-    (page-took _ _ _ c.finish.result _ _ _ _ _ c.in-Bytes.is c.read_source-read.ensures
-    (put-page (c.put_session-end.ensures.put, room _ _ c.put_session-end.ensures.other_len_bound (took-short _ _ (took-bytes _ _ c.in-Bytes.is c.read_source-read.ensures).0 (c.read_source-read.auto.out ∙ length-replicate {A = ℕ} 24582 0))) c.finish.ensures))
+    (page-took _ _ _ c.finish.result _ _ _ _ _ c.in-Ok.is c.read_source-read.ensures
+    (put-page (c.put_session-end.ensures.put, room _ _ c.put_session-end.ensures.other_len_bound (took-short _ _ (took-bytes _ _ c.in-Ok.is c.read_source-read.ensures).0 (c.read_source-read.auto.out ∙ length-replicate {A = ℕ} 24582 0))) c.finish.ensures))

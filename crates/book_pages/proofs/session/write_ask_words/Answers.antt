@@ -4,14 +4,14 @@ use Rattle.sentences.proofs.Tellings.{told, page-entry, page-wrong}
 use Rattle.book_pages.specs.AskText.{ask_words_text}
 use Rattle.book_pages.proofs.session.write_ask_words.Goals as goal
 
-pub returns-in-Wrong : goal.returns-in-Wrong
+pub returns-in-Err : goal.returns-in-Err
 unfolding ask_words_text
-returns-in-Wrong c =
+returns-in-Err c =
     told (λ a b. record { page = a; words_len_bound = b })
-    (page-wrong _ _ _ c.write_unread.result _ _ _ c.read_words-said.ensures (omega arith) c.in-Wrong.is (c.write_unread.ensures.page, c.write_unread.ensures.reason_len_bound))
+    (page-wrong _ _ _ c.write_unread.result _ _ _ c.read_words-said.ensures (omega arith) c.in-Err.is (c.write_unread.ensures.page, c.write_unread.ensures.unread_len_bound))
 
-pub returns-in-Entry : goal.returns-in-Entry
+pub returns-in-Ok : goal.returns-in-Ok
 unfolding ask_words_text
-returns-in-Entry c =
+returns-in-Ok c =
     told (λ a b. record { page = a; words_len_bound = b })
-    (page-entry _ _ _ c.write_about.result _ _ _ c.read_words-said.ensures c.in-Entry.is (rw c.six_bytes-six.ensures at c.write_about.ensures.page, rw c.six_bytes-six.ensures at c.write_about.ensures.source_len_bound))
+    (page-entry _ _ _ c.write_about.result _ _ _ c.read_words-said.ensures c.in-Ok.is (rw c.six_bytes-six.ensures at c.write_about.ensures.page, rw c.six_bytes-six.ensures at c.write_about.ensures.source_len_bound))

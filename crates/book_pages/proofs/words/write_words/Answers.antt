@@ -5,14 +5,14 @@ use Rattle.book_pages.specs.WordsText.{words_text}
 use Rattle.book_pages.proofs.ShowTexts.{put-none}
 use Rattle.book_pages.proofs.words.write_words.Goals as goal
 
-pub returns-in-Wrong : goal.returns-in-Wrong
+pub returns-in-Err : goal.returns-in-Err
 unfolding words_text
-returns-in-Wrong c =
+returns-in-Err c =
     told (λ a b. record { page = a; words_len_bound = b })
-    (page-wrong _ _ _ c.write_unread.result _ _ _ c.read_words-said.ensures (omega arith) c.in-Wrong.is (rw c.speaker-whom.ensures at c.write_unread.ensures.page, rw c.speaker-whom.ensures at c.write_unread.ensures.reason_len_bound))
+    (page-wrong _ _ _ c.write_unread.result _ _ _ c.read_words-said.ensures (omega arith) c.in-Err.is (rw c.speaker.ensures at c.write_unread.ensures.page, rw c.speaker.ensures at c.write_unread.ensures.unread_len_bound))
 
-pub returns-in-Entry : goal.returns-in-Entry
+pub returns-in-Ok : goal.returns-in-Ok
 unfolding words_text
-returns-in-Entry c =
+returns-in-Ok c =
     told (λ a b. record { page = a; words_len_bound = b })
-    (page-entry _ _ _ c.finish.result _ _ _ c.read_words-said.ensures c.in-Entry.is (put-page put-none c.finish.ensures))
+    (page-entry _ _ _ c.finish.result _ _ _ c.read_words-said.ensures c.in-Ok.is (put-page put-none c.finish.ensures))

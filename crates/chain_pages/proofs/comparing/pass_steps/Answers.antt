@@ -10,7 +10,7 @@ use Rattle.chain_pages.proofs.comparing.pass_steps.Goals as goal
 
 pub loop-i-init : goal.loop-i-init
 unfolding step_lines lines
-loop-i-init c = (passed_none _ _, search rules)
+loop-i-init c = passed_none _ _
 
 pub pass_step-end-requires : goal.pass_step-end-requires
 pass_step-end-requires c = narrow _ (λ j. (c.shared_slice_known-2-1.given j).fits) _ _ c.step_at.ensures (omega arith)
@@ -18,7 +18,7 @@ pass_step-end-requires c = narrow _ (λ j. (c.shared_slice_known-2-1.given j).fi
 pub loop-i-preserved : goal.loop-i-preserved
 unfolding step_lines
 loop-i-preserved c =
-    (passed-line _ _ (λ j. step_line j (step_at c.args.c.now j)) c.loop-i.i _ _ _ (ap (step_line c.loop-i.i) c.step_at.ensures) c.loop-i.invariant.0 c.pass_step-end.ensures, omega arith)
+    (passed-line _ _ (λ j. step_line j (step_at c.args.c.now j)) c.loop-i.i _ _ _ (ap (step_line c.loop-i.i) c.step_at.ensures) c.loop-i.invariant c.pass_step-end.ensures, omega arith)
 
 pub returns : goal.returns
-returns c = passed-all _ _ c.args.c.now c.loop-i.i _ (omega arith) c.loop-i.invariant.0
+returns c = passed-all _ _ c.args.c.now c.loop-i.i _ (omega arith) c.loop-i.invariant

@@ -6,7 +6,4 @@ use Rattle.chain_pages.specs.Begins.{Passed}
 use Rattle.chain_pages.proofs.comparing.pass_steps.Given as goal
 
 abbrev pub invariant-loop-i : goal.invariant-loop-i
-invariant-loop-i l = Passed l.page l.at (step_lines l.c l.i) l.end × (l.i ≤ steps l.c)
-
-abbrev pub decreases-loop-i : goal.decreases-loop-i
-decreases-loop-i l = steps l.c - l.i
+invariant-loop-i l = Passed l.page l.at (step_lines l.c l.i) l.end

@@ -11,15 +11,12 @@ use Rattle.chain_pages.proofs.lines.put_steps.Goals as goal
 
 pub loop-i-init : goal.loop-i-init
 unfolding step_lines
-loop-i-init c = (no_line _, search rules)
+loop-i-init c = no_line _
 
 pub loop-i-preserved : goal.loop-i-preserved
 unfolding step_lines
 loop-i-preserved c =
-    (next-line (λ j. step_line j (step_at c.args.c.now j)) c.loop-i.i c.loop-i.invariant.0 (put_as (ap (step_line c.loop-i.i) c.step_at-s.ensures) c.put_step-end.ensures), omega arith)
-
-pub shape_of-page : goal.shape_of-page
-shape_of-page c = c.loop-i.invariant.0.kept
+    next-line (λ j. step_line j (step_at c.args.c.now j)) c.loop-i.i c.loop-i.invariant (put_as (ap (step_line c.loop-i.i) c.step_at-s.ensures) c.put_step-end.ensures)
 
 pub returns : goal.returns
-returns c = put_as (ap (step_lines c.args.c.now) (omega arith)) c.loop-i.invariant.0
+returns c = put_as (ap (step_lines c.args.c.now) (omega arith)) c.loop-i.invariant

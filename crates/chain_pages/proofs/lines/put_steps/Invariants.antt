@@ -6,7 +6,4 @@ use Rattle.chain_pages.specs.StepLine.{step_lines}
 use Rattle.chain_pages.proofs.lines.put_steps.Given as goal
 
 abbrev pub invariant-loop-i : goal.invariant-loop-i
-invariant-loop-i l = Put l.initial.page l.at (step_lines l.c l.i) l.page l.end × (l.i ≤ steps l.c)
-
-abbrev pub decreases-loop-i : goal.decreases-loop-i
-decreases-loop-i l = steps l.c - l.i
+invariant-loop-i l = Put l.initial.page l.at (step_lines l.c l.i) l.page l.end

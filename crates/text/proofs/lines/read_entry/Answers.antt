@@ -1,10 +1,11 @@
 -- `text::lines::read_entry` meets its contract. Assumes nothing.
 use mathlib.Core.Path.{◌∙◌}
+use Rattle.std.proofs.lemmas.Result.{err_from_is_err_and}
 use Rattle.text.proofs.Said.{number-no, number-yes, logged-is}
 use Rattle.text.proofs.lines.read_entry.Goals as goal
 
-pub returns-in_default : goal.returns-in_default
-returns-in_default c = number-no c.number_at-n.ensures _ c.in_default.is ∙ logged-is _
+pub returns-in_err-a : goal.returns-in_err-a
+returns-in_err-a c = let p = err_from_is_err_and c.from_residual.result c.from_residual.ensures.1 in rw (p.1, p.2) (number-no _ c.in_err-a.ensures.missing ∙ logged-is _)
 
 pub returns : goal.returns
-returns c = c.read_last.ensures ∙ number-yes c.number_at-n.ensures _ _ c.in-Value.is ∙ logged-is _
+returns c = c.read_last.ensures ∙ number-yes _ c.in_ok-a.ensures.found ∙ logged-is _

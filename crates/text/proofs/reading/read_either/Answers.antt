@@ -4,7 +4,6 @@ use Rattle.text.proofs.Lents.{lent-short, lent-text, lent-kept}
 use Prim.Native.Nat.{min}
 use mathlib.Core.Path.{sym, ap, ◌∙◌}
 use lib.ListN.{length}
-use lib.Seq.{length-take-le}
 use Rattle.text.proofs.reading.read_either.Goals as goal
 
 pub returns-then-as_text : goal.returns-then-as_text
@@ -14,13 +13,6 @@ returns-then-as_text c =
 pub returns-then-out-most : goal.returns-then-out-most
 returns-then-out-most c = lent-short c.args.form _ c.args.out.now (omega (arith, c.bytes_most-most.ensures))
 
-pub slice_bounds-copy_to-end : goal.slice_bounds-copy_to-end
-slice_bounds-copy_to-end c = sym (length-take-le c.smaller_of-n.result c.args.s.now (omega (arith, c.smaller_of-n.ensures)))
-
-pub copy_to-requires : goal.copy_to-requires
-copy_to-requires c =
-    omega (arith, length-take-le c.smaller_of-n.result c.args.s.now (omega (arith, c.smaller_of-n.ensures)), c.smaller_of-n.ensures)
-
 pub returns : goal.returns
 returns c =
-    lent-kept c.args.form c.args.s.now c.args.out.now (omega (arith, c.bytes_most-most.ensures)) (sym c.as_text.ensures ∙ c.if-as_text.false) _ _ (c.smaller_of-n.ensures ∙ ap (min (length c.args.s.now)) c.bytes_most-most.ensures) c.copy_to.ensures
+    lent-kept c.args.form c.args.s.now c.args.out.now (omega (arith, c.bytes_most-most.ensures)) (sym c.as_text.ensures ∙ c.if-as_text.false) _ _ (c.min-n.ensures ∙ ap (min (length c.args.s.now)) c.bytes_most-most.ensures) c.copy_from_slice.ensures.after

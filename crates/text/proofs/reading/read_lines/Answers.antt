@@ -29,16 +29,16 @@ slice_bounds-take_line-end c =
     let ended : (c.loop-at.at ≤ c.run_end-end.result) × (c.run_end-end.result ≤ length c.args.text.now) = ends-in (of_sort Inner) _ _ _ (omega arith) c.run_end-end.ensures in
     omega (arith, ended)
 
-pub take_line-next-requires : goal.take_line-next-requires
-take_line-next-requires c =
+pub take_line-requires : goal.take_line-requires
+take_line-requires c =
     fits_one _ _ _ _ _ _ _ _ _ c.loop-at.invariant.0.1 (λ e. c.if-done-most.false (e ∙ sym c.bytes_most-most.ensures)) (omega (arith, c.requires, c.loop-at.invariant.0.1.long))
 
-pub shape_of-out-in-Stop : goal.shape_of-out-in-Stop
-shape_of-out-in-Stop c = c.take_line-next.auto.out ∙ c.loop-at.invariant.0.1.long
+pub shape_of-out-in-Err : goal.shape_of-out-in-Err
+shape_of-out-in-Err c = c.take_line.auto.out ∙ c.loop-at.invariant.0.1.long
 
-pub returns-in-Stop : goal.returns-in-Stop
-returns-in-Stop c =
-    going-stop _ _ _ _ _ _ _ _ _ c.loop-at.invariant.0.1 (λ e. c.if-done-most.false (e ∙ sym c.bytes_most-most.ensures)) _ (omega arith) c.run_end-end.ensures _ _ c.take_line-next.ensures c.take_line-next.auto.out _ c.in-Stop.is
+pub returns-in-Err : goal.returns-in-Err
+returns-in-Err c =
+    going-stop _ _ _ _ _ _ _ _ _ c.loop-at.invariant.0.1 (λ e. c.if-done-most.false (e ∙ sym c.bytes_most-most.ensures)) _ (omega arith) c.run_end-end.ensures _ _ c.take_line.ensures c.take_line.auto.out _ c.in-Err.is
 
 pub overflow_add-at : goal.overflow_add-at
 overflow_add-at c =
@@ -53,7 +53,7 @@ loop-at-smaller c =
 pub loop-at-preserved : goal.loop-at-preserved
 loop-at-preserved c =
     let ended : (c.loop-at.at ≤ c.run_end-end.result) × (c.run_end-end.result ≤ length c.args.text.now) = ends-in (of_sort Inner) _ _ _ (omega arith) c.run_end-end.ensures in
-    (going_on _ _ _ _ _ _ _ _ _ c.loop-at.invariant.0.1 (λ e. c.if-done-most.false (e ∙ sym c.bytes_most-most.ensures)) _ (omega arith) c.run_end-end.ensures _ _ c.take_line-next.ensures c.take_line-next.auto.out _ c.in-Go.is, omega (arith, ended))
+    (going_on _ _ _ _ _ _ _ _ _ c.loop-at.invariant.0.1 (λ e. c.if-done-most.false (e ∙ sym c.bytes_most-most.ensures)) _ (omega arith) c.run_end-end.ensures _ _ c.take_line.ensures c.take_line.auto.out _ c.in-Ok.is, omega (arith, ended))
 
 pub shape_of-out : goal.shape_of-out
 shape_of-out c = c.loop-at.invariant.0.1.long

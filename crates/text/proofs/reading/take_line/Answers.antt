@@ -1,14 +1,14 @@
 -- `text::reading::take_line` meets its contract. Assumes nothing.
-use mathlib.Core.Path.{sym, ◌∙◌}
-use Rattle.text.proofs.Steps.{step-none, step-bad, step-entry}
+use mathlib.Core.Path.{sym, ap, ◌∙◌}
+use Rattle.std.specs.Prelude.{Ok}
+use Rattle.std.proofs.lemmas.Result.{err_from_is_err_and}
+use Rattle.text.proofs.Steps.{step-none, step-bad}
 use Rattle.text.proofs.reading.take_line.Goals as goal
 
-pub returns-in-Nothing : goal.returns-in-Nothing
-returns-in-Nothing c = step-none _ _ _ _ (sym c.in-Nothing.is ∙ c.read_line-line.ensures)
+pub returns-in_err-entry : goal.returns-in_err-entry
+returns-in_err-entry c =
+    let p = err_from_is_err_and c.from_residual.result c.from_residual.ensures.1 in
+    rw (p.1, p.2) (step-bad _ _ _ _ _ c.in_err-entry.ensures)
 
-pub returns-in-Bad : goal.returns-in-Bad
-returns-in-Bad c = step-bad _ _ _ _ _ (sym c.in-Bad.is ∙ c.read_line-line.ensures)
-
-pub returns-in-Entry : goal.returns-in-Entry
-returns-in-Entry c =
-    step-entry _ _ _ _ _ (sym c.in-Entry.is ∙ c.read_line-line.ensures) _ _ c.put_entry.ensures.0 c.put_entry.ensures.1
+pub returns-in_default : goal.returns-in_default
+returns-in_default c = step-none _ _ _ _ (sym (ap Ok c.in_default.is) ∙ c.in_ok-entry.ensures)

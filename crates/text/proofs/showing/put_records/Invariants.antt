@@ -1,7 +1,7 @@
 -- `text::showing::put_records` meets its contract. Assumes nothing.
-use Prim.Native.Nat.{ℕ, ◌-◌, ◌≤◌}
+use Prim.Native.Nat.{ℕ}
 use mathlib.Core.List.{List}
-use Rattle.records.specs.Record.{record_at, records}
+use Rattle.records.specs.Record.{record_at}
 use Rattle.pages.specs.Lines.{lines}
 use Rattle.pages.specs.Put.{Put}
 use Rattle.text.specs.Shown.{show_record}
@@ -12,7 +12,4 @@ abbrev pub line : List ℕ → List ℕ → ℕ → List ℕ
 line choice s i = show_record choice (record_at s i)
 
 abbrev pub invariant-loop-i : goal.invariant-loop-i
-invariant-loop-i l = Put l.initial.page 0 (lines (line l.choice l.s) l.i) l.page l.end × (l.i ≤ records l.s)
-
-abbrev pub decreases-loop-i : goal.decreases-loop-i
-decreases-loop-i l = records l.s - l.i
+invariant-loop-i l = Put l.initial.page 0 (lines (line l.choice l.s) l.i) l.page l.end

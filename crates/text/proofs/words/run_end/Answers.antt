@@ -1,25 +1,18 @@
--- `text::words::run_end` meets its contract: what is passed and what is left of the run make the whole. Assumes nothing.
-use mathlib.Core.Path.{refl, sym, ◌∙◌}
+-- `text::words::run_end` meets its contract. Assumes nothing.
+use Prim.Native.Nat.{◌+◌}
 use native.Mathlib.Omega.{arith}
-use borrow.Author.Rules.{rules}
-use Rattle.text.specs.Runs.{of_sort}
-use Rattle.text.proofs.Runs.{runs_on, runs-off, runs-out}
+use mathlib.Core.Path.{◌≡◌, ap, ◌∙◌}
+use lib.ListN.{length, drop, length-drop}
+use Rattle.text.specs.Runs.{of_sort, run}
+use Rattle.text.proofs.Runs.{run-found, run_short}
 use Rattle.text.proofs.words.run_end.Goals as goal
 
-pub loop-i-init : goal.loop-i-init
-loop-i-init c = (search rules, refl)
-
-pub returns-then-not-is_of : goal.returns-then-not-is_of
-returns-then-not-is_of c =
-    let off = runs-off (of_sort c.args.sort) c.args.l.now c.loop-i.i (search rules) (sym c.is_of.ensures ∙ c.if-not-is_of.true) in
-    omega arith
-
-pub loop-i-preserved : goal.loop-i-preserved
-loop-i-preserved c =
-    let on = runs_on (of_sort c.args.sort) c.args.l.now c.loop-i.i (search rules) (sym c.is_of.ensures ∙ c.if-not-is_of.false) in
-    (search rules, omega arith)
+pub overflow_add-result : goal.overflow_add-result
+overflow_add-result c =
+    let a = c.args in
+    let f = of_sort a.sort in
+    let e : c.unwrap_or.result ≡ length (run f (drop a.from a.l.now)) = c.unwrap_or.ensures ∙ run-found f a.l.now a.from _ c.requires c.first_other.ensures in
+    omega (arith, run_short f (drop a.from a.l.now), length-drop a.from a.l.now)
 
 pub returns : goal.returns
-returns c =
-    let out = runs-out (of_sort c.args.sort) c.args.l.now c.loop-i.i (omega arith) in
-    omega arith
+returns c = ap (λ n. c.args.from + n) (c.unwrap_or.ensures ∙ run-found (of_sort c.args.sort) _ _ _ c.requires c.first_other.ensures)
