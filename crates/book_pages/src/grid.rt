@@ -12,7 +12,6 @@ ghost use Rattle.book_pages.specs.Rooms.{GRID-ROOM};
 ghost use Rattle.grids.specs.Sizes.{SIDE};
 
 use grids::GridAnswer;
-use grids::rounds::Grid;
 use grids::rounds::{Grid, Grids};
 use sentences::Whom;
 use text::Form;
