@@ -13,7 +13,6 @@ ghost use Rattle.numbers.specs.Sizes.{SHORT-VALUES};
 
 use index::{DatasetId, TreeId};
 use numbers::shorts;
-use parentheses::Found;
 pub use within::contents;
 
 pub mod within;
@@ -92,7 +91,7 @@ fn end_of(parens: &[u8], ranks: &[u16], q: TreeId, p: usize) -> TreeId
     if is_leaf(parens, p) {
         return TreeId(place + 1);
     }
-    let Found::At(close) = parentheses::find_close_by(parens, ranks, p) else {
+    let Some(close) = parentheses::find_close_by(parens, ranks, p) else {
         return TreeId(parentheses::ones_before(parens, parens.len() * parentheses::BYTE_BITS));
     };
     TreeId(place + (close - p + 1) / 2)

@@ -1,12 +1,10 @@
 -- Answers as C gets them. Assumes nothing.
-use Rattle.std.specs.Prelude.{ℕ, ◌≡◌}
-use Rattle.parentheses.specs.declared.Found.{Found}
-use Rattle.parentheses.specs.declared.Found.TheVariants.{At, Nothing}
+use Rattle.std.specs.Prelude.{ℕ, ◌≡◌, Option, Some, None}
 
 -- a position that may be missing
-abbrev pub position_of : ℕ → Found → ℕ
-position_of end (At p) = p
-position_of end Nothing = end
+abbrev pub position_of : ℕ → Option ℕ → ℕ
+position_of end (Some p) = p
+position_of end None = end
 
 -- r is x where D holds, and y elsewhere
 abbrev pub Either : {A : Type 0} → Type 0 → A → A → A → Type 0

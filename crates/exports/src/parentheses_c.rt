@@ -11,8 +11,6 @@ ghost use Rattle.parentheses.specs.Found.{found_below};
 ghost use Rattle.exports.specs.Positions.{position_of, Either};
 ghost use Rattle.index.specs.Sizes.{PARENTHESES-BYTES};
 
-use parentheses::Found;
-
 #[unsafe(no_mangle)]
 pub extern "C" fn parentheses_ones_before(bytes: &[u8], k: usize) -> usize
     ensures { Either ((length bytes.now ≤ PARENTHESES-BYTES) × (k ≤ bit_count bytes.now)) result (rank (bits bytes.now) k) 0 }
@@ -33,7 +31,7 @@ pub extern "C" fn parentheses_select(bytes: &[u8], j: usize) -> usize
     if bytes.len() > index::PARENTHESES_BYTES {
         return 0;
     }
-    let Found::At(position) = parentheses::select(bytes, j) else {
+    let Some(position) = parentheses::select(bytes, j) else {
         return bytes.len() * parentheses::BYTE_BITS;
     };
     position
@@ -52,7 +50,7 @@ pub extern "C" fn parentheses_find_close(bytes: &[u8], open: usize) -> usize
     if !parentheses::get(bytes, open) {
         return 0;
     }
-    let Found::At(close) = parentheses::find_close(bytes, open) else {
+    let Some(close) = parentheses::find_close(bytes, open) else {
         return bytes.len() * parentheses::BYTE_BITS;
     };
     close
@@ -74,7 +72,7 @@ pub extern "C" fn parentheses_find_close_by(bytes: &[u8], open: usize) -> usize
     }
     let mut ranks = [0u16; index::PARENTHESES_BYTES + 1];
     parentheses::rank_bytes(bytes, &mut ranks);
-    let Found::At(close) = parentheses::find_close_by(bytes, &ranks, open) else {
+    let Some(close) = parentheses::find_close_by(bytes, &ranks, open) else {
         return bytes.len() * parentheses::BYTE_BITS;
     };
     close
@@ -90,7 +88,7 @@ pub extern "C" fn parentheses_enclose(bytes: &[u8], open: usize) -> usize
     if open > bytes.len() * parentheses::BYTE_BITS {
         return 0;
     }
-    let Found::At(position) = parentheses::enclose(bytes, open) else {
+    let Some(position) = parentheses::enclose(bytes, open) else {
         return bytes.len() * parentheses::BYTE_BITS;
     };
     position

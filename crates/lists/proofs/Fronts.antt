@@ -1,10 +1,13 @@
 -- Buffers of which the front is written, piece by piece. Assumes nothing.
 use Prim.Native.Nat.{ℕ, suc, ◌+◌, ◌-◌, ◌≤◌, ◌<◌}
 use mathlib.Core.Path.{◌≡◌, refl, sym, ap, ◌∙◌}
-use mathlib.Core.List.{List, [], ◌∷◌, ◌++◌, append-nil}
+use mathlib.Core.List.{List, [], ◌∷◌, ◌++◌, append-nil, append_assoc}
 use native.Mathlib.Nat.{add-zero, zero-add, add-suc, suc-add}
 use native.Mathlib.Numerals.{add-one}
 use native.Mathlib.Omega.{arith}
+use borrow.Rule.Slice.PartMut.{put_mid}
+use Rattle.std.proofs.lemmas.Slice.{put_mid-paste}
+use Rattle.std.proofs.lemmas.List.Edits.{paste_all}
 use lib.ListN.{length, take, drop, get_or, set, length-append, length-drop, take-append-drop, get_or-append}
 use lib.Seq.{take-append_seam, take_all, take-suc, length-take-le, drop-append-add, drop-drop, sets, sets-eq, get_or-take, get_or-drop, get_or-append-add}
 use Rattle.lists.specs.Front.{front, placed}
@@ -68,6 +71,11 @@ module _ {A : Type 0} where
   unfolding placed
   placed-length xs l i h =
       let t : length (take i l) ≡ i = length-take-le i l (omega arith) in simp (length-append, length-drop) (omega (arith, t))
+
+  -- after `l[i..e].copy_from_slice(xs)`: k is e - i, and ys is what that part holds
+  pub put_mid_placed : (i k : ℕ) (l ys xs : List A) → ys ≡ xs → k ≡ length xs → put_mid i k l ys ≡ placed i xs l
+  unfolding placed
+  put_mid_placed i k l ys xs e n = put_mid-paste i k l ys xs k e refl n ∙ paste_all l i xs k n ∙ simp (n, append_assoc)
 
   pub placed_first : (xs l : List A) → placed 0 xs l ≡ front xs l
   unfolding placed front

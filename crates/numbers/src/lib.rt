@@ -17,7 +17,7 @@ pub const BYTE: u64 = 256;
 pub fn wide(x: u8) -> usize
     ensures { (result ≡ x) × (result < BYTE-VALUES) }
 {
-    x as usize
+    usize::from(x)
 }
 
 // The low byte of a number.
@@ -30,13 +30,13 @@ pub fn low(n: usize) -> u8
 pub fn smaller_of(x: usize, y: usize) -> usize
     ensures { result ≡ min x y }
 {
-    if x < y { x } else { y }
+    x.min(y)
 }
 
 pub fn larger_of(x: usize, y: usize) -> usize
     ensures { result ≡ max x y }
 {
-    if x < y { y } else { x }
+    x.max(y)
 }
 
 // The one reader of 16-bit numbers, low byte first.
@@ -44,28 +44,21 @@ pub fn number_at(s: &[u8], at: usize) -> usize
     requires { at + 2 ≤ length s.now }
     ensures { (result ≡ get_or s.now at 0 + BYTE-VALUES * get_or s.now (at + 1) 0) × (result < SHORT-VALUES) }
 {
-    wide(s[at]) + BYTE_VALUES * wide(s[at + 1])
+    usize::from(u16::from_le_bytes([s[at], s[at + 1]]))
 }
 
 // All bytes become 0.
 pub fn clear(bytes: &mut [u8])
     ensures { bytes.new ≡ replicate (length bytes.old) 0 }
 {
-    let mut i: usize = 0;
-    while i < bytes.len() {
-        bytes[i] = 0;
-        i += 1;
-    }
+    bytes.fill(0);
 }
 
 // Copies bytes to place `at`.
+#[tactic(auto, using(lists::proofs::Fronts::put_mid_placed))]
 pub fn copy_to(from: &[u8], out: &mut [u8], at: usize)
     requires { at + length from.now ≤ length out.old }
     ensures { out.new ≡ placed at from.now out.old }
 {
-    let mut i: usize = 0;
-    while i < from.len() {
-        out[at + i] = from[i];
-        i += 1;
-    }
+    out[at..at + from.len()].copy_from_slice(from);
 }

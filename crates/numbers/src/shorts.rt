@@ -6,7 +6,7 @@ ghost use Rattle.numbers.specs.Sizes.{SHORT-VALUES};
 pub fn wide(x: u16) -> usize
     ensures { (result ≡ x) × (result < SHORT-VALUES) }
 {
-    x as usize
+    usize::from(x)
 }
 
 pub fn narrow(x: usize) -> u16
@@ -20,9 +20,5 @@ pub fn narrow(x: usize) -> u16
 pub fn fill(list: &mut [u16], v: u16)
     ensures { list.new ≡ replicate (length list.old) v }
 {
-    let mut done: usize = 0;
-    while done < list.len() {
-        list[done] = v;
-        done += 1;
-    }
+    list.fill(v);
 }

@@ -1,7 +1,7 @@
 pub mod Masks
 pub mod PackedLaws
 pub mod Ranks
-pub mod Lanes
+pub mod Ones
 pub mod Margins
 pub mod Unpacked
 pub mod Paddeds

@@ -14,7 +14,7 @@ use Rattle.parentheses.specs.Ranked.{Ranked}
 use Rattle.parentheses.proofs.Ranks.{num-le, rank-zero, rank-suc, rank_mono}
 
 -- d bits have at most d ones
-rank-near : (bs : List Bool) (i d : ℕ) → rank bs (i + d) ≤ rank bs i + d
+pub rank-near : (bs : List Bool) (i d : ℕ) → rank bs (i + d) ≤ rank bs i + d
 rank-near bs i zero = omega (arith, ap (rank bs) (add-zero i))
 rank-near bs i (suc d) =
     let e : i + suc d ≡ i + d + 1 = omega arith in

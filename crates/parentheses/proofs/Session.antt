@@ -11,7 +11,7 @@ use Rattle.parentheses.specs.Rank.{rank, select}
 use Rattle.parentheses.specs.Close.{excess, balanced, close}
 use Rattle.parentheses.specs.Subtree.{after}
 use Rattle.parentheses.specs.Enclose.{last, opens, enclosing}
-use Rattle.parentheses.specs.declared.Found.TheVariants.{At, Nothing}
+use Rattle.std.specs.Prelude.{Some, None}
 use Rattle.parentheses.specs.Tables.{ones_of, lower, lowest, lowest_of}
 
 -- ones and the lowest excess of 55 and 6: 5 and 1, 2 and -4
@@ -44,6 +44,6 @@ unfolding rank select balanced close first after
 ranges = (refl, refl, refl, refl, refl, refl, refl)
 
 -- what encloses the nodes that open at 0, 5 and 10
-encloses : (enclosing session 0 ≡ Nothing) × (enclosing session 5 ≡ At 4) × (enclosing session 10 ≡ At 9)
+encloses : (enclosing session 0 ≡ None) × (enclosing session 5 ≡ Some 4) × (enclosing session 10 ≡ Some 9)
 unfolding rank enclosing last opens
 encloses = (refl, refl, refl)

@@ -9,8 +9,5 @@ use Rattle.parentheses.proofs.above_lowest.Given as goal
 
 abbrev pub invariant-loop-m : goal.invariant-loop-m
 invariant-loop-m l =
-    (l.i + l.m ≤ length l.bytes) × (0 < l.floor) × (l.floor ≤ 64 + l.m) × (l.floor + 8 * l.m + 2 * rank (bits l.bytes) (8 * l.i) ≤ l.depth + 2 * rank (bits l.bytes) (8 * l.i + 8 * l.m))
+    (0 < l.floor) × (l.floor ≤ 64 + l.m) × (l.floor + 8 * l.m + 2 * rank (bits l.bytes) (8 * l.i) ≤ l.depth + 2 * rank (bits l.bytes) (8 * l.i + 8 * l.m))
     × Stays (bits l.bytes) (8 * l.i) (8 * l.m) l.depth
-
-abbrev pub decreases-loop-m : goal.decreases-loop-m
-decreases-loop-m l = length l.bytes - (l.i + l.m)

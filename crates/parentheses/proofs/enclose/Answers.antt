@@ -19,17 +19,8 @@ returns-then-shut-one c =
     let p = c.loop-p.p in
     let s = c.loop-p.shut in
     let inv = c.loop-p.invariant in
-    let n = bool-num c.get-one.result ∙ ap num c.get-one.ensures in
+    let n = c.from-one.ensures ∙ bool-num c.get.result ∙ ap num c.get.ensures in
     bit-opens bs o p s inv.1 (omega arith) inv.2 (omega arith)
-
-pub overflow_sub-shut : goal.overflow_sub-shut
-overflow_sub-shut c = omega (arith, bool_le c.get-one.result)
-
-pub overflow_add-shut : goal.overflow_add-shut
-overflow_add-shut c = omega (arith, bool_le c.get-one.result)
-
-pub overflow_sub-shut-in-loop-p : goal.overflow_sub-shut-in-loop-p
-overflow_sub-shut-in-loop-p c = omega (arith, bool_le c.get-one.result)
 
 pub loop-p-preserved : goal.loop-p-preserved
 loop-p-preserved c =
@@ -38,7 +29,7 @@ loop-p-preserved c =
     let p = c.loop-p.p in
     let s = c.loop-p.shut in
     let inv = c.loop-p.invariant in
-    let n = bool-num c.get-one.result ∙ ap num c.get-one.ensures in (
+    let n = c.from-one.ensures ∙ bool-num c.get.result ∙ ap num c.get.ensures in (
       omega arith,
       rw n (bit-shut bs o p s inv.1 (omega arith) inv.2 (omega arith)),
       bit-left bs o p s inv.1 (omega arith) inv.2 (omega arith),

@@ -7,6 +7,3 @@ use Rattle.parentheses.proofs.enclose.Given as goal
 
 abbrev pub invariant-loop-p : goal.invariant-loop-p
 invariant-loop-p l = (l.shut + l.p ≤ l.open) × Shut (bits l.bytes) l.open l.p l.shut × Left (bits l.bytes) l.open l.p
-
-abbrev pub decreases-loop-p : goal.decreases-loop-p
-decreases-loop-p l = l.p

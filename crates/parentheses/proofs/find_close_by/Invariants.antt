@@ -11,7 +11,4 @@ use Rattle.parentheses.proofs.find_close_by.Given as goal
 
 abbrev pub invariant-loop-p : goal.invariant-loop-p
 invariant-loop-p l =
-    (l.next < length l.bytes) × (l.p ≤ 8 * l.next + 8) × (0 < l.depth) × (l.depth + l.open ≤ l.p) × (closing (bits l.bytes) l.p l.depth ≡ close (bits l.bytes) l.open)
-
-abbrev pub decreases-loop-p : goal.decreases-loop-p
-decreases-loop-p l = 8 * length l.bytes - l.p
+    (0 < l.depth) × (l.depth + l.open ≤ l.p) × (closing (bits l.bytes) l.p l.depth ≡ close (bits l.bytes) l.open)

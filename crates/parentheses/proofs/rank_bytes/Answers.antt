@@ -10,40 +10,31 @@ use Rattle.parentheses.proofs.Rankings.{counted_none, counted-more, counted-all}
 use Rattle.parentheses.proofs.rank_bytes.Goals as goal
 
 pub loop-i-init : goal.loop-i-init
-loop-i-init c = (omega arith, refl, sym (rank-zero _), counted_none c.args.bytes.now c.args.ranks.now (omega arith))
+loop-i-init c = (sym (rank-zero _), counted_none c.args.bytes.now c.args.ranks.now (omega arith))
 
 pub ones_in-ones-requires : goal.ones_in-ones-requires
 ones_in-ones-requires c = (omega arith, omega arith, omega arith)
 
 pub overflow_add-ones : goal.overflow_add-ones
 overflow_add-ones c =
-    let sum : c.loop-i.ones + c.ones_in-ones.result ≡ rank (bits c.args.bytes.now) (8 * (c.loop-i.i + 1)) = omega (arith, c.loop-i.invariant.2, c.ones_in-ones.ensures.0) in
+    let sum : c.loop-i.ones + c.ones_in-ones.result ≡ rank (bits c.args.bytes.now) (8 * (c.loop-i.i + 1)) = omega (arith, c.loop-i.invariant.0, c.ones_in-ones.ensures.0) in
     let fit : c.loop-i.ones + c.ones_in-ones.result < 65536 = omega (arith, sum, rank-le (bits c.args.bytes.now) (8 * (c.loop-i.i + 1))) in
     omega (arith, fit)
 
 pub overflow_cast-ranks : goal.overflow_cast-ranks
 overflow_cast-ranks c =
-    let sum : c.loop-i.ones + c.ones_in-ones.result ≡ rank (bits c.args.bytes.now) (8 * (c.loop-i.i + 1)) = omega (arith, c.loop-i.invariant.2, c.ones_in-ones.ensures.0) in
+    let sum : c.loop-i.ones + c.ones_in-ones.result ≡ rank (bits c.args.bytes.now) (8 * (c.loop-i.i + 1)) = omega (arith, c.loop-i.invariant.0, c.ones_in-ones.ensures.0) in
     let fit : c.loop-i.ones + c.ones_in-ones.result < 65536 = omega (arith, sum, rank-le (bits c.args.bytes.now) (8 * (c.loop-i.i + 1))) in
     omega (arith, fit)
 
-pub bounds-ranks-i : goal.bounds-ranks-i
-bounds-ranks-i c =
-    let long : c.loop-i.i + 1 < length c.loop-i.ranks = omega (arith, c.loop-i.invariant.1, length-set c.args.ranks.now 0 0) in
-    omega (arith, long)
-
 pub loop-i-preserved : goal.loop-i-preserved
 loop-i-preserved c =
-    let sum : c.loop-i.ones + c.ones_in-ones.result ≡ rank (bits c.args.bytes.now) (8 * (c.loop-i.i + 1)) = omega (arith, c.loop-i.invariant.2, c.ones_in-ones.ensures.0) in
-    let long : c.loop-i.i + 1 < length c.loop-i.ranks = omega (arith, c.loop-i.invariant.1, length-set c.args.ranks.now 0 0) in
+    let sum : c.loop-i.ones + c.ones_in-ones.result ≡ rank (bits c.args.bytes.now) (8 * (c.loop-i.i + 1)) = omega (arith, c.loop-i.invariant.0, c.ones_in-ones.ensures.0) in
     let L = c.loop-i in
-    (omega arith, length-set L.ranks (L.i + 1) (L.ones + c.ones_in-ones.result) ∙ L.invariant.1, sum, counted-more c.args.bytes.now L.ranks L.i (L.ones + c.ones_in-ones.result) (omega (arith, long)) sum L.invariant.3)
-
-pub shape_of-ranks : goal.shape_of-ranks
-shape_of-ranks c = c.loop-i.invariant.1 ∙ length-set c.args.ranks.now 0 0
+    (sum, counted-more c.args.bytes.now L.ranks L.i (L.ones + c.ones_in-ones.result) (omega (arith, L.auto.ranks, length-set c.args.ranks.now 0 0)) sum L.invariant.1)
 
 pub returns : goal.returns
 returns c =
     let L = c.loop-i in
     let e : L.i ≡ length c.args.bytes.now = omega arith in
-    counted-all _ _ (rw e at L.invariant.3)
+    counted-all _ _ (rw e at L.invariant.1)

@@ -9,7 +9,4 @@ use Rattle.parentheses.proofs.rank_bytes.Given as goal
 
 abbrev pub invariant-loop-i : goal.invariant-loop-i
 invariant-loop-i l =
-    (l.i ≤ length l.bytes) × (length l.ranks ≡ length l.initial.ranks) × (l.ones ≡ rank (bits l.bytes) (8 * l.i)) × Counted l.bytes l.ranks l.i
-
-abbrev pub decreases-loop-i : goal.decreases-loop-i
-decreases-loop-i l = length l.bytes - l.i
+    (l.ones ≡ rank (bits l.bytes) (8 * l.i)) × Counted l.bytes l.ranks l.i

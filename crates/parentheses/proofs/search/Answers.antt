@@ -20,7 +20,7 @@ use Rattle.parentheses.specs.Search.{closing, Stays}
 use Rattle.parentheses.specs.Tables.{lower, lowest, lowest_of}
 use Rattle.parentheses.proofs.Masks.{low3}
 use Rattle.parentheses.proofs.Ranks.{num-le}
-use Rattle.parentheses.proofs.Founds.{found_at, found_nothing}
+use Rattle.parentheses.proofs.Founds.{found_some, found_none}
 use Rattle.parentheses.proofs.Closes.{bit_found, bit-passed, run-above, run-passed, none_left}
 use Rattle.parentheses.proofs.search.Goals as goal
 
@@ -185,7 +185,7 @@ returns-then-d-eq0 c =
     let q = c.loop-q.q in
     let here : q < 8 * length l = in-bits in
     rw (← c.loop-q.invariant.3, bit_found l q c.loop-q.d c.after_bit-d.result here c.after_bit-d.ensures c.if-d-eq0.true)
-    (sym (found_at (8 * length l) q here))
+    (sym (found_some (8 * length l) q here))
 
 pub overflow_add-q-in-loop-q : goal.overflow_add-q-in-loop-q
 overflow_add-q-in-loop-q c =
@@ -215,4 +215,4 @@ pub returns : goal.returns
 returns c =
     let l = c.args.bytes.now in
     let past : c.loop-q.q ≡ 8 * length l = omega (arith, c.loop-q-test.false, c.loop-q.invariant.0) in
-    rw (← c.loop-q.invariant.3, none_left l c.loop-q.q c.loop-q.d past) (sym (found_nothing (8 * length l) (8 * length l) (le_refl (8 * length l))))
+    rw (← c.loop-q.invariant.3, none_left l c.loop-q.q c.loop-q.d past) (sym (found_none (8 * length l) (8 * length l) (le_refl (8 * length l))))

@@ -14,9 +14,9 @@ use Rattle.parentheses.specs.Rank.{rank, select}
 use Rattle.parentheses.specs.Tables.{ones_of}
 use Rattle.parentheses.proofs.PackedLaws.{bits-length}
 use Rattle.parentheses.proofs.Ranks.{rank-zero, rank-whole, rank-byte}
-use Rattle.parentheses.specs.declared.Found.TheVariants.{At, Nothing}
+use Rattle.std.specs.Prelude.{Some, None}
 use Rattle.parentheses.specs.Found.{found_below}
-use Rattle.parentheses.proofs.Founds.{found_at, found_nothing}
+use Rattle.parentheses.proofs.Founds.{found_some, found_none}
 use Rattle.parentheses.proofs.Selects.{select-is, select-none}
 use Rattle.parentheses.proofs.select.Goals as goal
 
@@ -49,7 +49,7 @@ place i n s h k g = (omega arith, omega arith, omega arith)
 hit :
     (l : List ℕ) (j i left s : ℕ) → i < length l → 8 * length l < 2 ^ 64 → left + rank (bits l) (8 * i) ≡ j → s < 8
     → rank (bits (get_or l i 0 ∷ [])) s ≡ left → rank (bits (get_or l i 0 ∷ [])) (s + 1) ≡ left + 1
-    → At (i * 8 % 2 ^ 64 + s) ≡ found_below (8 * length l) (select (bits l) j)
+    → Some (i * 8 % 2 ^ 64 + s) ≡ found_below (8 * length l) (select (bits l) j)
 hit l j i left s h k e g f t =
     let a = place i (length l) s h k g in
     let n : suc (8 * i + s) ≡ 8 * i + (s + 1) = omega arith in
@@ -58,13 +58,13 @@ hit l j i left s h k e g f t =
       select-is (bits l) j (8 * i + s) (omega (arith, bits-length l, a.2)) (omega (arith, rank-byte l i s h (omega (arith, g))))
           (omega (arith, ap (rank (bits l)) n, rank-byte l i (s + 1) h (omega (arith, g)))),
     )
-    (sym (found_at (8 * length l) (8 * i + s) a.2))
+    (sym (found_some (8 * length l) (8 * i + s) a.2))
 
 -- past the last byte there is none
-missed : (l : List ℕ) (j i left : ℕ) → length l ≤ i → i ≤ length l → left + rank (bits l) (8 * i) ≡ j → Nothing ≡ found_below (8 * length l) (select (bits l) j)
+missed : (l : List ℕ) (j i left : ℕ) → length l ≤ i → i ≤ length l → left + rank (bits l) (8 * i) ≡ j → None ≡ found_below (8 * length l) (select (bits l) j)
 missed l j i left h k e =
     let n : length (bits l) ≡ 8 * i = omega (arith, bits-length l) in
-    rw (select-none (bits l) j (omega (arith, ap (rank (bits l)) n)), bits-length l) (sym (found_nothing (8 * length l) (8 * length l) (le_refl (8 * length l))))
+    rw (select-none (bits l) j (omega (arith, ap (rank (bits l)) n)), bits-length l) (sym (found_none (8 * length l) (8 * length l) (le_refl (8 * length l))))
 
 passed : (left ones a b j : ℕ) → left + a ≡ j → a + ones ≡ b → ones ≤ left → left - ones + b ≡ j
 passed left ones a b j e f h = omega arith

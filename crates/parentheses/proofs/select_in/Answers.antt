@@ -13,9 +13,6 @@ use Rattle.parentheses.proofs.select_in.Goals as goal
 pub loop-at-init : goal.loop-at-init
 loop-at-init c = omega (arith, rank-zero (bits (c.args.b ∷ [])))
 
-pub overflow_cast-bit-in-loop-at : goal.overflow_cast-bit-in-loop-at
-overflow_cast-bit-in-loop-at c = omega (arith, mask_lt (c.args.b / 2 ^ c.loop-at.at) 1)
-
 pub returns-then-left-bit : goal.returns-then-left-bit
 returns-then-left-bit c =
     let b = c.args.b in

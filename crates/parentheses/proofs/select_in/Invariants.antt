@@ -8,7 +8,4 @@ use Rattle.parentheses.specs.Rank.{rank}
 use Rattle.parentheses.proofs.select_in.Given as goal
 
 abbrev pub invariant-loop-at : goal.invariant-loop-at
-invariant-loop-at l = (l.at ≤ 8) × (l.left + rank (bits (l.b ∷ [])) l.at ≡ l.j)
-
-abbrev pub decreases-loop-at : goal.decreases-loop-at
-decreases-loop-at l = 8 - l.at
+invariant-loop-at l = l.left + rank (bits (l.b ∷ [])) l.at ≡ l.j

@@ -1,44 +1,40 @@
--- `packed::ones_in` meets its contract: `n` is the count of the bytes passed.
+-- `parentheses::packed::ones_in` meets its contract: the ones of the words, and those of the bytes behind all words.
 -- Assumes nothing.
-use mathlib.Core.Path.{◌≡◌, ap}
-use mathlib.Core.List.{List}
-use Prim.Native.Nat.{ℕ, ◌+◌, ◌*◌, ◌≤◌, ◌<◌}
-use lib.ListN.{get_or, length}
+use mathlib.Core.Path.{◌≡◌, ap, ◌∙◌}
+use mathlib.Core.List.{List, []}
+use Prim.Native.Nat.{ℕ, ◌+◌, ◌*◌, ◌-◌}
+use native.Mathlib.Omega.{arith}
+use lib.Seq.{take_all}
+use Rattle.std.specs.List.{sum_by}
+use Rattle.std.proofs.lemmas.List.Sums.{sum_by_more, sum_by_more_le}
 use Rattle.parentheses.specs.Bits.{bits}
 use Rattle.parentheses.specs.Rank.{rank}
-use Rattle.parentheses.specs.Tables.{ones_of}
 use Rattle.parentheses.specs.Words.{ones_in}
-use Rattle.parentheses.proofs.Ranks.{rank-whole, ones-le}
-use Rattle.parentheses.proofs.Lanes.{rank-word, one_byte}
-use native.Mathlib.Omega.{arith}
+use Rattle.parentheses.proofs.Ones.{word_ones, counted}
+use Rattle.parentheses.proofs.Ranks.{rank-le}
+use Rattle.parentheses.proofs.Rankings.{rank-near}
 use Rattle.parentheses.proofs.packed.ones_in.Goals as goal
 
--- one byte more
-byte_more : (l : List ℕ) (i w r : ℕ) → i < length l → w ≡ get_or l i 0 → w < 256 → r ≡ ones_in 8 w → (r ≤ 8) × (rank (bits l) (8 * (i + 1)) ≡ rank (bits l) (8 * i) + r)
-byte_more l i w r g e h d =
-    let all = one_byte w h in
-    (omega (arith, all, d, ones-le w), omega (arith, all, d, rank-whole l i g, ap ones_of e))
-
-pub overflow_add-n : goal.overflow_add-n
-overflow_add-n c =
+pub overflow_add-ones : goal.overflow_add-ones
+overflow_add-ones c =
     let l = c.args.bytes.now in
-    let m = byte_more l c.loop-i.i c.wide.result c.ones_of-n.result (omega arith) c.wide.ensures.0 c.wide.ensures.1 c.ones_of-n.ensures.0 in
-    record { fits = omega (arith, m.0) }
-
-pub loop-i-preserved-then-to-i-lt-WORD_BYTES : goal.loop-i-preserved-then-to-i-lt-WORD_BYTES
-loop-i-preserved-then-to-i-lt-WORD_BYTES c =
-    let l = c.args.bytes.now in
-    let m = byte_more l c.loop-i.i c.wide.result c.ones_of-n.result (omega arith) c.wide.ensures.0 c.wide.ensures.1 c.ones_of-n.ensures.0 in
-    omega (arith, m.0, m.1)
-
-pub loop-i-preserved : goal.loop-i-preserved
-loop-i-preserved c =
-    let l = c.args.bytes.now in
-    let i = c.loop-i.i in
-    omega (arith, rank-word l (λ j. (c.shared_slice_known-1.given j).fits) i (omega arith), c.ones_of-n-in-loop-i.ensures.0, ap (ones_in 8) c.word_at.ensures)
+    let words = c.as_chunks.result.0.now in
+    let i = c.loop-word.word-index in
+    let all = counted l c.args.from c.args.to (omega arith) (omega arith) (λ i g. (c.type_inv.bytes i).fits) in
+    let rest = ap (sum_by (ones_in 8)) c.as_chunks.ensures.back in
+    let front = ap (sum_by word_ones) c.as_chunks.ensures.front in
+    let word = ap (ones_in 8) c.from_le_bytes.ensures in
+    let more = sum_by_more_le word_ones words i [] (omega arith) in
+    record { fits = omega (arith, all, rest, front, word, more, rank-le (bits l) (8 * c.args.to)) }
 
 pub returns : goal.returns
 returns c =
     let l = c.args.bytes.now in
-    let e : c.loop-i.i ≡ c.args.to = omega arith in
-    omega (arith, ap (λ (x : ℕ). rank (bits l) (8 * x)) e)
+    let words = c.as_chunks.result.0.now in
+    let all = counted l c.args.from c.args.to (omega arith) (omega arith) (λ i g. (c.type_inv.bytes i).fits) in
+    let rest = ap (sum_by (ones_in 8)) c.as_chunks.ensures.back in
+    let front = ap (sum_by word_ones) c.as_chunks.ensures.front in
+    let whole = ap (sum_by word_ones) (take_all c.loop-word.word-index words (omega arith)) in
+    let sum : rank (bits l) (8 * c.args.from) + c.loop-word.ones ≡ rank (bits l) (8 * c.args.to) = omega (arith, all, rest, front, whole) in
+    let end : 8 * c.args.from + 8 * (c.args.to - c.args.from) ≡ 8 * c.args.to = omega arith in
+    (sum, omega (arith, sum, rank-near (bits l) (8 * c.args.from) (8 * (c.args.to - c.args.from)), ap (rank (bits l)) end))

@@ -1,14 +1,11 @@
--- `packed::ones_in` meets its contract: `n` is the count of the bytes passed.
+-- `parentheses::packed::ones_in` meets its contract: the ones of the words before the index are counted, and those of the bytes behind all words.
 -- Assumes nothing.
 use mathlib.Core.Path.{◌≡◌}
-use Prim.Native.Nat.{◌+◌, ◌-◌, ◌*◌, ◌≤◌}
-use Rattle.parentheses.specs.Bits.{bits}
-use Rattle.parentheses.specs.Rank.{rank}
+use Prim.Native.Nat.{◌+◌}
+use lib.ListN.{take}
+use Rattle.std.specs.List.{sum_by}
+use Rattle.parentheses.proofs.Ones.{word_ones}
 use Rattle.parentheses.proofs.packed.ones_in.Given as goal
 
-abbrev pub invariant-loop-i : goal.invariant-loop-i
-invariant-loop-i l =
-    (l.from ≤ l.i) × (l.i ≤ l.to) × (l.n ≤ 8 * (l.i - l.from)) × (rank (bits l.bytes) (8 * l.from) + l.n ≡ rank (bits l.bytes) (8 * l.i))
-
-abbrev pub decreases-loop-i : goal.decreases-loop-i
-decreases-loop-i l = l.to - l.i
+abbrev pub invariant-loop-word : goal.invariant-loop-word
+invariant-loop-word l = l.ones ≡ l.initial.ones + sum_by word_ones (take l.word-index l.words)
