@@ -3,7 +3,7 @@
 #![tactic(auto)]
 
 ghost use Rattle.std.specs.Prelude.{◌≡◌, map};
-ghost use Rattle.commands.specs.Named.{row, found, of_book, of_words, of_files, rows_for, command_of};
+ghost use Rattle.commands.specs.Named.{row, found, of_book, of_words, of_files, command_of};
 
 // A session with a book: its counts, the answer to the claim in the words, or the answers to the claims of standard input.
 #[derive(Clone, Copy)]
@@ -127,22 +127,15 @@ fn of_files(word: &[u8]) -> Option<Command>
     )
 }
 
-// The command of the word's row, by how many arguments there are.
-#[tactic(auto, using(crate::proofs::Names::few, crate::proofs::Names::three, crate::proofs::Names::four, crate::proofs::Names::more))]
-fn of_count(word: &[u8], count: usize) -> Option<Command>
-    ensures { result ≡ found (rows_for count) word.now }
+#[tactic(auto, using(crate::proofs::Names::answered, crate::proofs::Names::few, crate::proofs::Names::three, crate::proofs::Names::four, crate::proofs::Names::more))]
+pub fn command_of(word: &[u8], count: usize) -> Command
+    ensures { result ≡ command_of word.now count }
 {
-    match count {
+    let command = match count {
         0..3 => None,
         3 => of_one(word),
         4 => of_files(word).or(of_words(word)),
         _ => of_words(word),
-    }
-}
-
-#[tactic(auto, using(crate::proofs::Names::answered))]
-pub fn command_of(word: &[u8], count: usize) -> Command
-    ensures { result ≡ command_of word.now count }
-{
-    of_count(word, count).unwrap_or(Command::Task(Task::Help))
+    };
+    command.unwrap_or(Command::Task(Task::Help))
 }

@@ -62,7 +62,7 @@ pub fn read_input(rt: &HostRuntime, buf: &mut [u8]) -> Result<usize, Told>
     read_all(&mut rt.stdin(), buf).map_err(|e| fail(rt, b"standard input", &e))
 }
 
-// Writes the first n bytes, or answers why that could not be done.
+// Writes the first n bytes, or answers why that could not be done. The end of a page is tested here: with a slice the caller of each page would prove it.
 pub fn write_front<W: Write>(out: &mut W, bytes: &[u8], n: usize) -> io::Result<()> {
     let Some(front) = bytes.get(..n) else {
         return Err(Error::from(ErrorKind::InvalidInput));

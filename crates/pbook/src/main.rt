@@ -13,11 +13,28 @@ use files::Told;
 use std::env::Env;
 
 // The list of commands.
-fn help(rt: &HostRuntime) -> Result<(), Told> {
-    let text =
-        b"pbook check BOOK\npbook ask BOOK [KIND a b [FACTS]]\npbook why BOOK [KIND a b [FACTS]]\npbook verify BOOK CHAIN\npbook inside BOOK g\npbook touching BOOK g\npbook apart BOOK g\npbook grid BOOK\npbook replicates BOOK\npbook compare BOOK OTHER\npbook show BOOK\npbook new BOOK\npbook pack BOOK OUT\npbook convert OLD OUT\npbook add BOOK KIND a b [ORIGIN]\npbook add BOOK void a [ORIGIN]\npbook withdraw BOOK n\npbook help\n";
+fn help(rt: &HostRuntime) {
+    let text = b"\
+pbook check BOOK
+pbook ask BOOK [KIND a b [FACTS]]
+pbook why BOOK [KIND a b [FACTS]]
+pbook verify BOOK CHAIN
+pbook inside BOOK g
+pbook touching BOOK g
+pbook apart BOOK g
+pbook grid BOOK
+pbook replicates BOOK
+pbook compare BOOK OTHER
+pbook show BOOK
+pbook new BOOK
+pbook pack BOOK OUT
+pbook convert OLD OUT
+pbook add BOOK KIND a b [ORIGIN]
+pbook add BOOK void a [ORIGIN]
+pbook withdraw BOOK n
+pbook help
+";
     files::write_page(rt, text, text.len());
-    Ok(())
 }
 
 // The longest word that names a command is shorter.
@@ -63,7 +80,10 @@ fn run(
         Task::Edit(which) => changes::change(rt, which, source, short),
         Task::Write(which) => changes::export(rt, which, source, short),
         Task::New => changes::new(rt, short),
-        Task::Help => help(rt),
+        Task::Help => {
+            help(rt);
+            Ok(())
+        }
     }
 }
 
