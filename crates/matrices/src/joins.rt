@@ -5,22 +5,17 @@ ghost use Rattle.matrices.specs.Led.{Led, Pooled, Shared};
 ghost use Rattle.matrices.specs.Matrix.{bit_of, Gathered, Multiplied, IsMatrix};
 ghost use Rattle.matrices.specs.Sizes.{ROWS};
 
-use crate::relation;
-use numbers::shorts;
+use crate::{ROWS, relation};
 
 // Row r of the product of a and b is put into row r of dst.
 pub fn gather(dst: &mut [u64], a: &[u64], r: usize, b: &[u64])
     requires { (IsMatrix dst.old) × (IsMatrix a.now) × (IsMatrix b.now) × (r < ROWS) }
     ensures { Gathered dst.old dst.new a.now r b.now }
 {
-    let mut from: usize = 0;
-    while from < crate::ROWS {
-        let x = relation::next_bit(a, r, from);
-        if crate::ROWS <= x {
-            return;
-        }
+    let mut x = relation::next_bit(a, r, 0);
+    while x < ROWS {
         relation::union_row(dst, r, b, x);
-        from = x + 1;
+        x = relation::next_bit(a, r, x + 1);
     }
 }
 
@@ -29,10 +24,8 @@ pub fn product(dst: &mut [u64], a: &[u64], b: &[u64], n: usize)
     requires { (IsMatrix dst.old) × (IsMatrix a.now) × (IsMatrix b.now) × (n ≤ ROWS) }
     ensures { Multiplied dst.old dst.new a.now b.now n }
 {
-    let mut r: usize = 0;
-    while r < n {
+    for r in 0..n {
         gather(dst, a, r, b);
-        r += 1;
     }
 }
 
@@ -41,14 +34,10 @@ fn pull(e: &[u64], h: usize, m: &mut [u64])
     requires { (IsMatrix e.now) × (IsMatrix m.old) × (h < ROWS) × (bit_of e.now h h ≡ false) }
     ensures { Gathered m.old m.new e.now h m.old }
 {
-    let mut from: usize = 0;
-    while from < crate::ROWS {
-        let p = relation::next_bit(e, h, from);
-        if crate::ROWS <= p {
-            return;
-        }
+    let mut p = relation::next_bit(e, h, 0);
+    while p < ROWS {
         relation::union_within(m, h, p);
-        from = p + 1;
+        p = relation::next_bit(e, h, p + 1);
     }
 }
 
@@ -57,14 +46,10 @@ fn push(e: &[u64], h: usize, m: &mut [u64])
     requires { (IsMatrix e.now) × (IsMatrix m.old) × (h < ROWS) × (bit_of e.now h h ≡ false) }
     ensures { Pushed e.now m.old m.new h }
 {
-    let mut from: usize = 0;
-    while from < crate::ROWS {
-        let p = relation::next_bit(e, h, from);
-        if crate::ROWS <= p {
-            return;
-        }
+    let mut p = relation::next_bit(e, h, 0);
+    while p < ROWS {
         relation::union_within(m, p, h);
-        from = p + 1;
+        p = relation::next_bit(e, h, p + 1);
     }
 }
 
@@ -74,11 +59,9 @@ pub fn join_along(e: &[u64], order: &[u16], n: usize, m: &mut [u64])
     requires { (IsMatrix e.now) × (IsMatrix m.old) × (n ≤ ROWS) × Sorted e.now n order.now }
     ensures { (r : ℕ → ℕ → Bool) → Reached (along e.now) n r → Carried r n m.old m.new }
 {
-    let mut i: usize = 0;
-    while i < n {
-        let h = shorts::wide(order[i]);
+    for i in 0..n {
+        let h = usize::from(order[i]);
         pull(e, h, m);
-        i += 1;
     }
 }
 
@@ -87,10 +70,8 @@ pub fn join_against(e: &[u64], order: &[u16], n: usize, m: &mut [u64])
     requires { (IsMatrix e.now) × (IsMatrix m.old) × (n ≤ ROWS) × Sorted e.now n order.now }
     ensures { (r : ℕ → ℕ → Bool) → Reached (against e.now) n r → Carried r n m.old m.new }
 {
-    let mut i = n;
-    while 0 < i {
-        i -= 1;
-        let h = shorts::wide(order[i]);
+    for i in (0..n).rev() {
+        let h = usize::from(order[i]);
         push(e, h, m);
     }
 }
@@ -100,15 +81,11 @@ pub fn pool_rows(lead: &[u16], n: usize, m: &mut [u64])
     requires { (IsMatrix m.old) × (n ≤ ROWS) × Led n lead.now }
     ensures { Pooled n lead.now m.old m.new }
 {
-    let mut i: usize = 0;
-    while i < n {
-        let g = i;
-        i += 1;
-        let h = shorts::wide(lead[g]);
-        if h == g {
-            continue;
+    for g in 0..n {
+        let h = usize::from(lead[g]);
+        if h != g {
+            relation::union_within(m, h, g);
         }
-        relation::union_within(m, h, g);
     }
 }
 
@@ -117,14 +94,10 @@ pub fn share_rows(lead: &[u16], n: usize, m: &mut [u64])
     requires { (IsMatrix m.old) × (n ≤ ROWS) × Led n lead.now }
     ensures { Shared n lead.now m.old m.new }
 {
-    let mut i: usize = 0;
-    while i < n {
-        let g = i;
-        i += 1;
-        let h = shorts::wide(lead[g]);
-        if h == g {
-            continue;
+    for g in 0..n {
+        let h = usize::from(lead[g]);
+        if h != g {
+            relation::union_within(m, g, h);
         }
-        relation::union_within(m, g, h);
     }
 }

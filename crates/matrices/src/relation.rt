@@ -4,12 +4,30 @@ ghost use Rattle.lists.specs.First.{first};
 ghost use Rattle.matrices.specs.Matrix.{bit_of, common, Blank, Inserted, United, IsMatrix};
 ghost use Rattle.matrices.specs.Sizes.{ROW-WORDS, ROWS, WORD-BITS};
 
+use crate::{ROW_WORDS, ROWS, WORD_BITS};
+
+// Whether bit i of row r is set, in any run of rows.
+fn bit_at(rows: &[u64], r: usize, i: usize) -> bool
+    requires { (r < ROWS) × (i < ROWS) × (r * ROW-WORDS + ROW-WORDS ≤ length rows.now) }
+    ensures { result ≡ bit_of rows.now r i }
+{
+    (rows[r * ROW_WORDS + i / WORD_BITS] >> (i % WORD_BITS)) & 1 == 1
+}
+
+// Sets bit i of row r, in any run of rows.
+fn set_bit(rows: &mut [u64], r: usize, i: usize)
+    requires { (r < ROWS) × (i < ROWS) × (r * ROW-WORDS + ROW-WORDS ≤ length rows.old) }
+    ensures { Inserted rows.old rows.new r i }
+{
+    rows[r * ROW_WORDS + i / WORD_BITS] |= 1 << (i % WORD_BITS);
+}
+
 // Whether bit i of row r is set.
 pub fn test(m: &[u64], r: usize, i: usize) -> bool
     requires { (IsMatrix m.now) × (r < ROWS) × (i < ROWS) }
     ensures { result ≡ bit_of m.now r i }
 {
-    (m[r * crate::ROW_WORDS + i / crate::WORD_BITS] >> (i % crate::WORD_BITS)) & 1 == 1
+    bit_at(m, r, i)
 }
 
 // Whether bit i of a row that stands alone is set.
@@ -17,7 +35,7 @@ pub fn has(row: &[u64], i: usize) -> bool
     requires { (length row.now ≡ ROW-WORDS) × (i < ROWS) }
     ensures { result ≡ bit_of row.now 0 i }
 {
-    (row[i / crate::WORD_BITS] >> (i % crate::WORD_BITS)) & 1 == 1
+    bit_at(row, 0, i)
 }
 
 // Sets bit i of row r.
@@ -25,8 +43,7 @@ pub fn insert(m: &mut [u64], r: usize, i: usize)
     requires { (IsMatrix m.old) × (r < ROWS) × (i < ROWS) }
     ensures { Inserted m.old m.new r i }
 {
-    let w = r * crate::ROW_WORDS + i / crate::WORD_BITS;
-    m[w] = m[w] | (1 << (i % crate::WORD_BITS));
+    set_bit(m, r, i);
 }
 
 // Sets bit i of a row that stands alone.
@@ -34,8 +51,7 @@ pub fn put(row: &mut [u64], i: usize)
     requires { (length row.old ≡ ROW-WORDS) × (i < ROWS) }
     ensures { Inserted row.old row.new 0 i }
 {
-    let w = i / crate::WORD_BITS;
-    row[w] = row[w] | (1 << (i % crate::WORD_BITS));
+    set_bit(row, 0, i);
 }
 
 // Puts row s of src into row d of dst. Two words a turn, both read before either is written: such a pair is one vector.
@@ -43,16 +59,10 @@ pub fn union_row(dst: &mut [u64], d: usize, src: &[u64], s: usize)
     requires { (IsMatrix dst.old) × (IsMatrix src.now) × (d < ROWS) × (s < ROWS) }
     ensures { United dst.old dst.new d src.now s }
 {
-    let a = d * crate::ROW_WORDS;
-    let b = s * crate::ROW_WORDS;
-    let mut i: usize = 0;
-    while i < crate::ROW_WORDS {
-        let j = i + 1;
-        let x = dst[a + i] | src[b + i];
-        let y = dst[a + j] | src[b + j];
-        dst[a + i] = x;
-        dst[a + j] = y;
-        i += 2;
+    let a = d * ROW_WORDS;
+    let b = s * ROW_WORDS;
+    for i in 0..ROW_WORDS {
+        dst[a + i] |= src[b + i];
     }
 }
 
@@ -61,12 +71,10 @@ pub fn union_within(m: &mut [u64], d: usize, s: usize)
     requires { (IsMatrix m.old) × (d < ROWS) × (s < ROWS) }
     ensures { United m.old m.new d m.old s }
 {
-    let a = d * crate::ROW_WORDS;
-    let b = s * crate::ROW_WORDS;
-    let mut i: usize = 0;
-    while i < crate::ROW_WORDS {
-        m[a + i] = m[a + i] | m[b + i];
-        i += 1;
+    let a = d * ROW_WORDS;
+    let b = s * ROW_WORDS;
+    for i in 0..ROW_WORDS {
+        m[a + i] |= m[b + i];
     }
 }
 
@@ -75,14 +83,12 @@ pub fn meet(m: &[u64], r: usize, n: &[u64], s: usize) -> bool
     requires { (IsMatrix m.now) × (IsMatrix n.now) × (r < ROWS) × (s < ROWS) }
     ensures { result ≡ common m.now r n.now s }
 {
-    let a = r * crate::ROW_WORDS;
-    let b = s * crate::ROW_WORDS;
-    let mut i: usize = 0;
-    while i < crate::ROW_WORDS {
+    let a = r * ROW_WORDS;
+    let b = s * ROW_WORDS;
+    for i in 0..ROW_WORDS {
         if m[a + i] & n[b + i] != 0 {
             return true;
         }
-        i += 1;
     }
     false
 }
@@ -91,11 +97,7 @@ pub fn meet(m: &[u64], r: usize, n: &[u64], s: usize) -> bool
 pub fn clear(m: &mut [u64])
     ensures { m.new ≡ replicate (length m.old) 0 }
 {
-    let mut i: usize = 0;
-    while i < m.len() {
-        m[i] = 0;
-        i += 1;
-    }
+    m.fill(0);
 }
 
 // Clears the rows below n.
@@ -103,12 +105,7 @@ pub fn clear_rows(m: &mut [u64], n: usize)
     requires { (IsMatrix m.old) × (n ≤ ROWS) }
     ensures { Blank n m.new }
 {
-    let end = n * crate::ROW_WORDS;
-    let mut i: usize = 0;
-    while i < end {
-        m[i] = 0;
-        i += 1;
-    }
+    clear(&mut m[..n * ROW_WORDS]);
 }
 
 // The first set bit of row r from word w on; 2,048 where there is none.
@@ -116,16 +113,14 @@ fn next_word(m: &[u64], r: usize, w: usize) -> usize
     requires { (IsMatrix m.now) × (r < ROWS) × (w ≤ ROW-WORDS) }
     ensures { result ≡ first (bit_of m.now r) (w * WORD-BITS) (ROWS - w * WORD-BITS) }
 {
-    let a = r * crate::ROW_WORDS;
-    let mut i = w;
-    while i < crate::ROW_WORDS {
+    let a = r * ROW_WORDS;
+    for i in w..ROW_WORDS {
         let x = m[a + i];
         if x != 0 {
-            return i * crate::WORD_BITS + u64::trailing_zeros(x) as usize;
+            return i * WORD_BITS + x.trailing_zeros() as usize;
         }
-        i += 1;
     }
-    crate::ROWS
+    ROWS
 }
 
 // The first set bit of row r from column `from` on; 2,048 where there is none. Words that are 0 are passed over whole.
@@ -133,12 +128,12 @@ pub fn next_bit(m: &[u64], r: usize, from: usize) -> usize
     requires { (IsMatrix m.now) × (r < ROWS) × (from ≤ ROWS) }
     ensures { result ≡ first (bit_of m.now r) from (ROWS - from) }
 {
-    if crate::ROWS <= from {
-        return crate::ROWS;
+    if ROWS <= from {
+        return ROWS;
     }
-    let x = m[r * crate::ROW_WORDS + from / crate::WORD_BITS] >> (from % crate::WORD_BITS);
+    let x = m[r * ROW_WORDS + from / WORD_BITS] >> (from % WORD_BITS);
     if x != 0 {
-        return from + u64::trailing_zeros(x) as usize;
+        return from + x.trailing_zeros() as usize;
     }
-    next_word(m, r, from / crate::WORD_BITS + 1)
+    next_word(m, r, from / WORD_BITS + 1)
 }

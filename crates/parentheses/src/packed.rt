@@ -44,7 +44,7 @@ fn lowest_of(table: &[i8; numbers::BYTE_VALUES], b: u8) -> i8
     requires { table.now ≡ tab lowest_of 0 BYTE-VALUES }
     ensures { result ≡ lowest_of b }
 {
-    table[b as usize]
+    table[usize::from(b)]
 }
 
 // Eight more than the lowest running excess of b, so that it is not negative.

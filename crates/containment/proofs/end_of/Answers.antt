@@ -10,7 +10,7 @@ use Rattle.parentheses.specs.Subtree.{after}
 use Rattle.parentheses.specs.Close.{close}
 use Rattle.parentheses.proofs.Ranks.{rank-le}
 use Rattle.parentheses.proofs.PackedLaws.{bits-length}
-use Rattle.parentheses.proofs.Founds.{at-found, nothing-found}
+use Rattle.parentheses.proofs.Founds.{some-found, none-found}
 use Rattle.containment.proofs.Ends.{end-closed, end-unclosed, end-leaf}
 use Rattle.containment.proofs.end_of.Goals as goal
 
@@ -28,29 +28,29 @@ pub returns-in_default : goal.returns-in_default
 returns-in_default c =
     let in-bits : c.args.p < length (bits c.args.parens.now) = omega (arith, c.requires.0, bits-length c.args.parens.now) in
     let l = c.args.parens.now in
-    let u = nothing-found (8 * length l) (close (bits l) c.args.p) (sym c.find_close_by.ensures ∙ c.in_default.is) in
+    let u = none-found (8 * length l) (close (bits l) c.args.p) (sym c.find_close_by.ensures ∙ c.in_default.is) in
     let e : length l * 8 ≡ length (bits l) = omega (arith, bits-length l) in
     c.ones_before.ensures ∙ ap (rank (bits l)) e ∙ end-unclosed (bits l) c.args.p in-bits c.requires.2 c.args.q.0 c.requires.3 (omega (arith, bits-length l))
 
 pub overflow_sub-result : goal.overflow_sub-result
 overflow_sub-result c =
     let in-bits : c.args.p < length (bits c.args.parens.now) = omega (arith, c.requires.0, bits-length c.args.parens.now) in
-    let shut : (c.args.p < c.in-At.close) × (c.in-At.close < 65536)
-    × (c.args.q.0 + (c.in-At.close - c.args.p + 1) / 2
+    let shut : (c.args.p < c.in-Some.close) × (c.in-Some.close < 65536)
+    × (c.args.q.0 + (c.in-Some.close - c.args.p + 1) / 2
     ≡ after (bits c.args.parens.now) c.args.q.0) = let l = c.args.parens.now in
-    let u = at-found (8 * length l) (close (bits l) c.args.p) c.in-At.close (sym c.find_close_by.ensures ∙ c.in-At.is) in
-    let e = end-closed (bits l) c.args.p in-bits c.requires.2 c.args.q.0 c.in-At.close c.requires.3 u.0 (omega (arith, bits-length l)) in
+    let u = some-found (8 * length l) (close (bits l) c.args.p) c.in-Some.close (sym c.find_close_by.ensures ∙ c.in-Some.is) in
+    let e = end-closed (bits l) c.args.p in-bits c.requires.2 c.args.q.0 c.in-Some.close c.requires.3 u.0 (omega (arith, bits-length l)) in
     (e.0, omega (arith, c.requires.1), e.1) in
     omega (arith, shut.0)
 
 pub overflow_add-result-2 : goal.overflow_add-result-2
 overflow_add-result-2 c =
     let in-bits : c.args.p < length (bits c.args.parens.now) = omega (arith, c.requires.0, bits-length c.args.parens.now) in
-    let shut : (c.args.p < c.in-At.close) × (c.in-At.close < 65536)
-    × (c.args.q.0 + (c.in-At.close - c.args.p + 1) / 2
+    let shut : (c.args.p < c.in-Some.close) × (c.in-Some.close < 65536)
+    × (c.args.q.0 + (c.in-Some.close - c.args.p + 1) / 2
     ≡ after (bits c.args.parens.now) c.args.q.0) = let l = c.args.parens.now in
-    let u = at-found (8 * length l) (close (bits l) c.args.p) c.in-At.close (sym c.find_close_by.ensures ∙ c.in-At.is) in
-    let e = end-closed (bits l) c.args.p in-bits c.requires.2 c.args.q.0 c.in-At.close c.requires.3 u.0 (omega (arith, bits-length l)) in
+    let u = some-found (8 * length l) (close (bits l) c.args.p) c.in-Some.close (sym c.find_close_by.ensures ∙ c.in-Some.is) in
+    let e = end-closed (bits l) c.args.p in-bits c.requires.2 c.args.q.0 c.in-Some.close c.requires.3 u.0 (omega (arith, bits-length l)) in
     (e.0, omega (arith, c.requires.1), e.1) in
     omega (arith, shut.1)
 
@@ -58,21 +58,21 @@ pub overflow_add-result-3 : goal.overflow_add-result-3
 overflow_add-result-3 c =
     let small : c.args.q.0 < 65536 = omega (arith, rank-le (bits c.args.parens.now) c.args.p, c.requires.0, c.requires.1, c.requires.3) in
     let in-bits : c.args.p < length (bits c.args.parens.now) = omega (arith, c.requires.0, bits-length c.args.parens.now) in
-    let shut : (c.args.p < c.in-At.close) × (c.in-At.close < 65536)
-    × (c.args.q.0 + (c.in-At.close - c.args.p + 1) / 2
+    let shut : (c.args.p < c.in-Some.close) × (c.in-Some.close < 65536)
+    × (c.args.q.0 + (c.in-Some.close - c.args.p + 1) / 2
     ≡ after (bits c.args.parens.now) c.args.q.0) = let l = c.args.parens.now in
-    let u = at-found (8 * length l) (close (bits l) c.args.p) c.in-At.close (sym c.find_close_by.ensures ∙ c.in-At.is) in
-    let e = end-closed (bits l) c.args.p in-bits c.requires.2 c.args.q.0 c.in-At.close c.requires.3 u.0 (omega (arith, bits-length l)) in
+    let u = some-found (8 * length l) (close (bits l) c.args.p) c.in-Some.close (sym c.find_close_by.ensures ∙ c.in-Some.is) in
+    let e = end-closed (bits l) c.args.p in-bits c.requires.2 c.args.q.0 c.in-Some.close c.requires.3 u.0 (omega (arith, bits-length l)) in
     (e.0, omega (arith, c.requires.1), e.1) in
     omega (arith, shut.1, small)
 
 pub returns : goal.returns
 returns c =
     let in-bits : c.args.p < length (bits c.args.parens.now) = omega (arith, c.requires.0, bits-length c.args.parens.now) in
-    let shut : (c.args.p < c.in-At.close) × (c.in-At.close < 65536)
-    × (c.args.q.0 + (c.in-At.close - c.args.p + 1) / 2
+    let shut : (c.args.p < c.in-Some.close) × (c.in-Some.close < 65536)
+    × (c.args.q.0 + (c.in-Some.close - c.args.p + 1) / 2
     ≡ after (bits c.args.parens.now) c.args.q.0) = let l = c.args.parens.now in
-    let u = at-found (8 * length l) (close (bits l) c.args.p) c.in-At.close (sym c.find_close_by.ensures ∙ c.in-At.is) in
-    let e = end-closed (bits l) c.args.p in-bits c.requires.2 c.args.q.0 c.in-At.close c.requires.3 u.0 (omega (arith, bits-length l)) in
+    let u = some-found (8 * length l) (close (bits l) c.args.p) c.in-Some.close (sym c.find_close_by.ensures ∙ c.in-Some.is) in
+    let e = end-closed (bits l) c.args.p in-bits c.requires.2 c.args.q.0 c.in-Some.close c.requires.3 u.0 (omega (arith, bits-length l)) in
     (e.0, omega (arith, c.requires.1), e.1) in
     shut.2

@@ -2,12 +2,9 @@
 -- Assumes nothing.
 use mathlib.Core.Path.{◌≡◌, ap}
 use mathlib.Core.List.{List}
-use Prim.Native.Nat.{ℕ, min, ◌+◌, ◌-◌, ◌*◌, ◌^◌, ◌≤◌, ◌<◌}
-use native.Mathlib.Nat.{add-zero}
+use Prim.Native.Nat.{ℕ, ◌+◌, ◌-◌, ◌*◌, ◌≤◌, ◌<◌}
 use native.Mathlib.Omega.{arith}
 use lib.ListN.{get_or, length}
-use mir.Syntax.{w64}
-use mir.Val.{Fits}
 use Rattle.parentheses.specs.Bits.{bits}
 use Rattle.parentheses.specs.Rank.{rank}
 use Rattle.parentheses.specs.Search.{Stays}
@@ -35,11 +32,6 @@ stays_on l i m floor depth r h e g f stays =
     let bits-more : 8 * (m + 1) ≡ 8 * m + 8 = omega arith in
     let more : Stays (bits l) (8 * i + 8 * m) 8 floor = rw here (stays-byte l (i + m) floor h (omega (arith, e, g))) in
     rw bits-more (stays-more (bits l) (8 * i) (8 * m) 8 depth floor f stays more)
-
-pub loop-m-init : goal.loop-m-init
-loop-m-init c =
-    let e : 8 * c.args.i + 8 * 0 ≡ 8 * c.args.i = add-zero (8 * c.args.i) in
-    (omega arith, omega arith, omega (arith, ap (rank (bits c.args.bytes.now)) e), λ j g. absurd (omega arith))
 
 pub overflow_add-after : goal.overflow_add-after
 overflow_add-after c =

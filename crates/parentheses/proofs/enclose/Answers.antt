@@ -5,7 +5,7 @@ use native.Mathlib.Omega.{arith}
 use Rattle.parentheses.specs.Bits.{bits}
 use Rattle.lists.specs.Tally.{num}
 use Rattle.parentheses.specs.Enclose.{opens}
-use Rattle.parentheses.proofs.Ranks.{bool-num, bool_le}
+use Rattle.parentheses.proofs.Ranks.{bool-num}
 use Rattle.parentheses.proofs.Encloses.{all_left, bit-opens, bit-shut, bit-left, last_none}
 use Rattle.parentheses.proofs.enclose.Goals as goal
 

@@ -1,14 +1,12 @@
 -- `parentheses::find_close_by` meets its contract: `depth` is the excess from `open` to before `p`, and what closes `open` is what a search from
 -- there finds.
 -- Assumes nothing.
-use mathlib.Core.Path.{◌≡◌, sym, ap, ◌∙◌}
+use mathlib.Core.Path.{sym, ◌∙◌}
 use mathlib.Core.Bool.{false}
-use Prim.Native.Nat.{ℕ, ◌+◌, ◌*◌, ◌/◌, ◌<◌}
+use Prim.Native.Nat.{◌+◌, ◌*◌, ◌<◌}
 use native.Mathlib.Omega.{arith}
 use lib.ListN.{get_or, length}
 use Rattle.parentheses.specs.Bits.{bits}
-use Rattle.parentheses.specs.Found.{found_below}
-use Rattle.parentheses.specs.Search.{closing}
 use Rattle.parentheses.proofs.Ranks.{num-le}
 use Rattle.parentheses.proofs.Founds.{found_some, found_none}
 use Rattle.parentheses.proofs.Closes.{opened, bit_found, bit-passed, none_left}
@@ -46,9 +44,3 @@ loop-p-preserved c =
       omega arith,
       sym (bit-passed l p c.loop-p.depth c.after_bit-depth.result (omega arith) c.after_bit-depth.ensures more) ∙ c.loop-p.invariant.2,
     )
-
-pub returns : goal.returns
-returns c =
-    let bs = bits c.args.bytes.now in
-    let end : ((c.args.«open» + 1) / 8 + 1) * 8 ≡ c.loop-p.p = omega arith in
-    c.search.ensures ∙ ap (λ (x : ℕ). found_below (8 * length c.args.bytes.now) (closing bs x c.loop-p.depth)) end ∙ ap (found_below (8 * length c.args.bytes.now)) c.loop-p.invariant.2

@@ -2,8 +2,7 @@
 -- there finds.
 -- Assumes nothing.
 use mathlib.Core.Path.{◌≡◌}
-use Prim.Native.Nat.{◌+◌, ◌-◌, ◌*◌, ◌≤◌, ◌<◌}
-use lib.ListN.{length}
+use Prim.Native.Nat.{◌+◌, ◌≤◌, ◌<◌}
 use Rattle.parentheses.specs.Bits.{bits}
 use Rattle.parentheses.specs.Close.{close}
 use Rattle.parentheses.specs.Search.{closing}

@@ -5,24 +5,14 @@ use mathlib.Core.List.{[], ◌∷◌}
 use Prim.Native.Nat.{ℕ, ◌-◌, ◌*◌, ◌%◌, ◌^◌}
 use native.Mathlib.Omega.{arith}
 use lib.Bits.{bit_and, and_mask}
-use lib.Pow.{pow_pos}
 use Rattle.parentheses.specs.Bits.{bits}
 use Rattle.parentheses.specs.Rank.{rank}
-use Rattle.parentheses.proofs.Masks.{low3, one_shl}
+use Rattle.parentheses.proofs.Masks.{one_shl}
 use Rattle.parentheses.proofs.Ranks.{byte-ones, rank-zero, rank-le, rank-low}
 use Rattle.parentheses.proofs.low_ones.Goals as goal
 
 masked : (b k : ℕ) → rank (bits (bit_and b (1 * 2 ^ bit_and k 7 % 256 - 1) ∷ [])) 8 ≡ rank (bits (b ∷ [])) (k % 8)
 masked b k = rw (one_shl, and_mask b (k % 8)) (byte-ones (b % 2 ^ (k % 8)) ∙ rank-low b (k % 8) (omega arith))
-
-pub overflow_cast-low : goal.overflow_cast-low
-overflow_cast-low c = omega (arith, low3 c.args.k)
-
-pub overflow_shl-low : goal.overflow_shl-low
-overflow_shl-low c = omega (arith, low3 c.args.k)
-
-pub overflow_sub-low : goal.overflow_sub-low
-overflow_sub-low c = rw one_shl (pow_pos (c.args.k % 8))
 
 pub returns : goal.returns
 returns c =

@@ -16,9 +16,6 @@ returns-then-k-eq0 c =
     let e : 8 * (k / 8) ≡ k = omega (arith, low3 k) in
     omega (arith, c.ones_in-n.ensures, rank-zero (bits l), ap (rank (bits l)) e)
 
-pub bounds-bytes-whole : goal.bounds-bytes-whole
-bounds-bytes-whole c = omega (arith, low3 c.args.k)
-
 pub returns : goal.returns
 returns c =
     let l = c.args.bytes.now in

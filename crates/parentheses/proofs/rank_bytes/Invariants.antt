@@ -1,7 +1,6 @@
 -- `parentheses::rank_bytes` meets its contract: as many entries are right as bytes were counted. Assumes nothing.
 use mathlib.Core.Path.{◌≡◌}
-use Prim.Native.Nat.{◌-◌, ◌*◌, ◌≤◌}
-use lib.ListN.{length}
+use Prim.Native.Nat.{◌*◌}
 use Rattle.parentheses.specs.Bits.{bits}
 use Rattle.parentheses.specs.Rank.{rank}
 use Rattle.parentheses.proofs.Rankings.{Counted}

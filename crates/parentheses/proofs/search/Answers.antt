@@ -10,7 +10,6 @@ use native.Mathlib.Omega.{arith}
 use lib.ListN.{get_or, length}
 use mir.Syntax.{w64}
 use mir.Val.{Fits}
-use Rattle.lists.proofs.Bounds.{closer}
 use Rattle.lists.specs.Tab.{tab}
 use Rattle.lists.specs.Tally.{num}
 use Rattle.parentheses.specs.Bits.{bits, bit_of, digit}
@@ -68,12 +67,6 @@ run-asks q n m h s = (omega arith, omega arith, omega arith)
 in-byte : (q n : ℕ) → q < 8 * n → q / 8 < n
 in-byte q n h = omega arith
 
-deeper : (q d n : ℕ) → q < n → d ≤ q → n < 2 ^ 64 → d + 1 < 2 ^ 64
-deeper q d n h k s = omega arith
-
-fits_next : (q n : ℕ) → q < n → n < 2 ^ 64 → Fits w64 (q + 1)
-fits_next q n h s = omega arith
-
 next : (q n : ℕ) → q < n → q + 1 ≤ n
 next q n h = omega arith
 
@@ -83,85 +76,11 @@ positive r h = omega arith
 after-low : (r d q x : ℕ) → r + 1 ≡ d + 2 * x → x ≤ 1 → d ≤ q → r ≤ q + 1
 after-low r d q x e h k = omega arith
 
-pub loop-q-init : goal.loop-q-init
-loop-q-init c = let p = c.requires in (p.0, p.2, p.3, refl)
-
 pub passable-m-requires : goal.passable-m-requires
 unfolding lowest_of lowest lower excess rank bits bit_of digit tab
 passable-m-requires c =
     let in-bits : c.loop-q.q < 8 * length c.args.bytes.now = omega (arith, c.loop-q-test.true) in
     (in-byte c.loop-q.q (length c.args.bytes.now) in-bits, c.requires.1, c.loop-q.invariant.1, refl)
-
-pub overflow_add-i : goal.overflow_add-i
-overflow_add-i c = (run-asks c.loop-q.q (length c.args.bytes.now) c.passable-m.result c.passable-m.ensures.0 c.requires.1).0
-
-pub ones_between-ones-requires : goal.ones_between-ones-requires
-ones_between-ones-requires c =
-    let a = run-asks c.loop-q.q (length c.args.bytes.now) c.passable-m.result c.passable-m.ensures.0 c.requires.1 in
-    (a.1, c.passable-m.ensures.0, a.2, c.requires.4)
-
-pub overflow_add-d : goal.overflow_add-d
-overflow_add-d c =
-    let run : Run c.args.bytes.now c.loop-q.q
-    c.loop-q.d c.passable-m.result c.ones_between-ones.result = let p = c.passable-m in
-    run_of c.args.bytes.now c.loop-q.q c.loop-q.d p.result c.ones_between-ones.result
-    (sym (low3 c.loop-q.q) ∙ c.if-q-eq0.true) p.ensures.0 c.requires.1 c.if-m-gt0.true
-    c.loop-q.invariant.2 c.ones_between-ones.ensures.1 p.ensures.1 c.ones_between-ones.ensures.0 in
-    run.rises
-
-pub overflow_mul-d : goal.overflow_mul-d
-overflow_mul-d c =
-    let run : Run c.args.bytes.now c.loop-q.q
-    c.loop-q.d c.passable-m.result c.ones_between-ones.result = let p = c.passable-m in
-    run_of c.args.bytes.now c.loop-q.q c.loop-q.d p.result c.ones_between-ones.result
-    (sym (low3 c.loop-q.q) ∙ c.if-q-eq0.true) p.ensures.0 c.requires.1 c.if-m-gt0.true
-    c.loop-q.invariant.2 c.ones_between-ones.ensures.1 p.ensures.1 c.ones_between-ones.ensures.0 in
-    run.long
-
-pub overflow_sub-d : goal.overflow_sub-d
-overflow_sub-d c =
-    let run : Run c.args.bytes.now c.loop-q.q
-    c.loop-q.d c.passable-m.result c.ones_between-ones.result = let p = c.passable-m in
-    run_of c.args.bytes.now c.loop-q.q c.loop-q.d p.result c.ones_between-ones.result
-    (sym (low3 c.loop-q.q) ∙ c.if-q-eq0.true) p.ensures.0 c.requires.1 c.if-m-gt0.true
-    c.loop-q.invariant.2 c.ones_between-ones.ensures.1 p.ensures.1 c.ones_between-ones.ensures.0 in
-    run.few
-
-pub overflow_sub-d-then-m-gt0 : goal.overflow_sub-d-then-m-gt0
-overflow_sub-d-then-m-gt0 c =
-    let run : Run c.args.bytes.now c.loop-q.q
-    c.loop-q.d c.passable-m.result c.ones_between-ones.result = let p = c.passable-m in
-    run_of c.args.bytes.now c.loop-q.q c.loop-q.d p.result c.ones_between-ones.result
-    (sym (low3 c.loop-q.q) ∙ c.if-q-eq0.true) p.ensures.0 c.requires.1 c.if-m-gt0.true
-    c.loop-q.invariant.2 c.ones_between-ones.ensures.1 p.ensures.1 c.ones_between-ones.ensures.0 in
-    run.deep
-
-pub overflow_mul-q : goal.overflow_mul-q
-overflow_mul-q c =
-    let run : Run c.args.bytes.now c.loop-q.q
-    c.loop-q.d c.passable-m.result c.ones_between-ones.result = let p = c.passable-m in
-    run_of c.args.bytes.now c.loop-q.q c.loop-q.d p.result c.ones_between-ones.result
-    (sym (low3 c.loop-q.q) ∙ c.if-q-eq0.true) p.ensures.0 c.requires.1 c.if-m-gt0.true
-    c.loop-q.invariant.2 c.ones_between-ones.ensures.1 p.ensures.1 c.ones_between-ones.ensures.0 in
-    run.long
-
-pub overflow_add-q : goal.overflow_add-q
-overflow_add-q c =
-    let run : Run c.args.bytes.now c.loop-q.q
-    c.loop-q.d c.passable-m.result c.ones_between-ones.result = let p = c.passable-m in
-    run_of c.args.bytes.now c.loop-q.q c.loop-q.d p.result c.ones_between-ones.result
-    (sym (low3 c.loop-q.q) ∙ c.if-q-eq0.true) p.ensures.0 c.requires.1 c.if-m-gt0.true
-    c.loop-q.invariant.2 c.ones_between-ones.ensures.1 p.ensures.1 c.ones_between-ones.ensures.0 in
-    run.past
-
-pub loop-q-smaller-then-m-gt0 : goal.loop-q-smaller-then-m-gt0
-loop-q-smaller-then-m-gt0 c =
-    let run : Run c.args.bytes.now c.loop-q.q
-    c.loop-q.d c.passable-m.result c.ones_between-ones.result = let p = c.passable-m in
-    run_of c.args.bytes.now c.loop-q.q c.loop-q.d p.result c.ones_between-ones.result
-    (sym (low3 c.loop-q.q) ∙ c.if-q-eq0.true) p.ensures.0 c.requires.1 c.if-m-gt0.true
-    c.loop-q.invariant.2 c.ones_between-ones.ensures.1 p.ensures.1 c.ones_between-ones.ensures.0 in
-    run.nearer
 
 pub loop-q-preserved-then-m-gt0 : goal.loop-q-preserved-then-m-gt0
 loop-q-preserved-then-m-gt0 c =
@@ -173,11 +92,6 @@ loop-q-preserved-then-m-gt0 c =
     let r = run in
     (r.within, r.above, r.low, sym r.same ∙ c.loop-q.invariant.3)
 
-pub after_bit-d-requires : goal.after_bit-d-requires
-after_bit-d-requires c =
-    let in-bits : c.loop-q.q < 8 * length c.args.bytes.now = omega (arith, c.loop-q-test.true) in
-    (in-bits, c.loop-q.invariant.1, deeper c.loop-q.q c.loop-q.d _ in-bits c.loop-q.invariant.2 c.requires.1)
-
 pub returns-then-d-eq0 : goal.returns-then-d-eq0
 returns-then-d-eq0 c =
     let in-bits : c.loop-q.q < 8 * length c.args.bytes.now = omega (arith, c.loop-q-test.true) in
@@ -186,16 +100,6 @@ returns-then-d-eq0 c =
     let here : q < 8 * length l = in-bits in
     rw (← c.loop-q.invariant.3, bit_found l q c.loop-q.d c.after_bit-d.result here c.after_bit-d.ensures c.if-d-eq0.true)
     (sym (found_some (8 * length l) q here))
-
-pub overflow_add-q-in-loop-q : goal.overflow_add-q-in-loop-q
-overflow_add-q-in-loop-q c =
-    let in-bits : c.loop-q.q < 8 * length c.args.bytes.now = omega (arith, c.loop-q-test.true) in
-    fits_next c.loop-q.q _ in-bits c.requires.1
-
-pub loop-q-smaller : goal.loop-q-smaller
-loop-q-smaller c =
-    let in-bits : c.loop-q.q < 8 * length c.args.bytes.now = omega (arith, c.loop-q-test.true) in
-    closer c.loop-q.q (8 * length c.args.bytes.now) in-bits
 
 pub loop-q-preserved : goal.loop-q-preserved
 loop-q-preserved c =

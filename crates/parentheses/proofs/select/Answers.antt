@@ -4,7 +4,7 @@ use mathlib.Core.Path.{◌≡◌, sym, ap}
 use mathlib.Core.Bool.{Bool}
 use mathlib.Core.List.{List, [], ◌∷◌}
 use Prim.Native.Nat.{ℕ, suc, min, max, ◌+◌, ◌-◌, ◌*◌, ◌/◌, ◌%◌, ◌^◌, ◌≤◌, ◌<◌, zero-le}
-use native.Mathlib.Nat.{le_refl, le-add_right}
+use native.Mathlib.Nat.{le_refl}
 use native.Mathlib.Omega.{arith}
 use lib.ListN.{get_or, length}
 use mir.Syntax.{w64}
@@ -27,12 +27,6 @@ record Taken (n i r : ℕ) : Type 0 where
   within : i + r ≤ n
   small : 8 * (i + r) < 2 ^ 64
   nearer : n - (i + r) < n - i
-
-some : (n i left r : ℕ) → i < n → r ≡ min (n - i) (max 1 (left / 8)) → (0 < r) × (i + r ≤ n)
-some n i left r h e = (omega arith, omega arith)
-
-taken_of : (n i r : ℕ) → 8 * n < 2 ^ 64 → (0 < r) × (i + r ≤ n) → Taken n i r
-taken_of n i r s e = record { fits = omega arith; on = le-add_right i r; within = e.1; small = omega arith; nearer = omega arith }
 
 -- where they have more ones than are left to pass, they are one byte
 only_one : (n i left r ones : ℕ) → i < n → r ≡ min (n - i) (max 1 (left / 8)) → left < ones → ones ≤ 8 * (i + r - i) → r ≡ 1
@@ -66,32 +60,11 @@ missed l j i left h k e =
     let n : length (bits l) ≡ 8 * i = omega (arith, bits-length l) in
     rw (select-none (bits l) j (omega (arith, ap (rank (bits l)) n)), bits-length l) (sym (found_none (8 * length l) (8 * length l) (le_refl (8 * length l))))
 
-passed : (left ones a b j : ℕ) → left + a ≡ j → a + ones ≡ b → ones ≤ left → left - ones + b ≡ j
-passed left ones a b j e f h = omega arith
-
 none_yet : (bs : List Bool) (j : ℕ) → j + rank bs 0 ≡ j
 none_yet bs j = omega (arith, rank-zero bs)
 
 pub loop-i-init : goal.loop-i-init
 loop-i-init c = (zero-le, none_yet (bits c.args.bytes.now) c.args.j)
-
-pub overflow_sub-bytes : goal.overflow_sub-bytes
-overflow_sub-bytes c = c.loop-i.invariant.0
-
-pub overflow_add-i : goal.overflow_add-i
-overflow_add-i c =
-    let taken : Taken (length c.args.bytes.now) c.loop-i.i c.run-m.result = let n = length c.args.bytes.now in
-    taken_of n c.loop-i.i c.run-m.result c.requires (some n c.loop-i.i c.loop-i.left c.run-m.result c.loop-i-test.true c.run-m.ensures) in
-    taken.fits
-
-pub ones_in-ones-requires : goal.ones_in-ones-requires
-ones_in-ones-requires c =
-    let taken : Taken (length c.args.bytes.now) c.loop-i.i c.run-m.result = let n = length c.args.bytes.now in
-    taken_of n c.loop-i.i c.run-m.result c.requires (some n c.loop-i.i c.loop-i.left c.run-m.result c.loop-i-test.true c.run-m.ensures) in
-    let t = taken in (t.on, t.within, t.small)
-
-pub bounds-bytes-i : goal.bounds-bytes-i
-bounds-bytes-i c = c.loop-i-test.true
 
 pub select_in-requires : goal.select_in-requires
 select_in-requires c =
@@ -100,34 +73,11 @@ select_in-requires c =
     one_byte c.args.bytes.now c.loop-i.i c.loop-i.left r.result c.ones_in-ones.result here c.if-left-ones.true
     (only_one _ c.loop-i.i c.loop-i.left r.result c.ones_in-ones.result here r.ensures c.if-left-ones.true c.ones_in-ones.ensures.1) c.ones_in-ones.ensures.0
 
-pub overflow_add-result : goal.overflow_add-result
-overflow_add-result c =
-    (place c.loop-i.i (length c.args.bytes.now) c.select_in.result c.loop-i-test.true c.requires c.select_in.ensures.0).0
-
 pub returns-then-left-ones : goal.returns-then-left-ones
 returns-then-left-ones c =
     let s = c.select_in in
     hit c.args.bytes.now c.args.j c.loop-i.i c.loop-i.left s.result c.loop-i-test.true c.requires
     c.loop-i.invariant.1 s.ensures.0 s.ensures.1 s.ensures.2
-
-pub overflow_add-i-in-loop-i : goal.overflow_add-i-in-loop-i
-overflow_add-i-in-loop-i c =
-    let taken : Taken (length c.args.bytes.now) c.loop-i.i c.run-m.result = let n = length c.args.bytes.now in
-    taken_of n c.loop-i.i c.run-m.result c.requires (some n c.loop-i.i c.loop-i.left c.run-m.result c.loop-i-test.true c.run-m.ensures) in
-    taken.fits
-
-pub loop-i-smaller : goal.loop-i-smaller
-loop-i-smaller c =
-    let taken : Taken (length c.args.bytes.now) c.loop-i.i c.run-m.result = let n = length c.args.bytes.now in
-    taken_of n c.loop-i.i c.run-m.result c.requires (some n c.loop-i.i c.loop-i.left c.run-m.result c.loop-i-test.true c.run-m.ensures) in
-    taken.nearer
-
-pub loop-i-preserved : goal.loop-i-preserved
-loop-i-preserved c =
-    let taken : Taken (length c.args.bytes.now) c.loop-i.i c.run-m.result = let n = length c.args.bytes.now in
-    taken_of n c.loop-i.i c.run-m.result c.requires (some n c.loop-i.i c.loop-i.left c.run-m.result c.loop-i-test.true c.run-m.ensures) in
-    let n = c.ones_in-ones in
-    (taken.within, passed c.loop-i.left n.result _ _ _ c.loop-i.invariant.1 n.ensures.0 c.if-left-ones.false)
 
 pub returns : goal.returns
 returns c =

@@ -1,13 +1,7 @@
-use mathlib.Core.Path.{◌≡◌}
-use Prim.Native.Nat.{◌≤◌}
-use lib.ListN.{length}
 use Rattle.matrices.specs.Flow.{Sorted}
 use Rattle.matrices.proofs.Flows.{Sent}
 use Rattle.matrices.proofs.joins.join_against.Given as goal
 
 abbrev pub invariant-loop-i : goal.invariant-loop-i
 invariant-loop-i l =
-    (l.i ≤ l.n) × (length l.m ≡ length l.initial.m) × ((R : Sorted l.e l.n l.order) → Sent l.e l.n R.at l.initial.m l.m l.i)
-
-abbrev pub decreases-loop-i : goal.decreases-loop-i
-decreases-loop-i l = l.i
+    (R : Sorted l.e l.n l.order) → Sent l.e l.n R.at l.initial.m l.m l.i

@@ -1,41 +1,17 @@
 -- `joins::pool_rows` meets its contract: the invariant is that the rows passed are in their leaders'. Assumes nothing.
-use mathlib.Core.Path.{◌≡◌, refl}
-use Prim.Native.Nat.{◌<◌}
 use native.Mathlib.Omega.{arith}
-use lib.ListN.{get_or}
 use borrow.Author.Rules.{rules}
-use Rattle.matrices.proofs.Leads.{pool-none, pool-skip, pool-more, pool-all}
+use Rattle.matrices.proofs.Leads.{pool-none, pool-skip, pool-more}
 use Rattle.matrices.proofs.joins.pool_rows.Goals as goal
+use Rattle.matrices.proofs.joins.pool_rows.Goals.{then-h-g, else-h-g}
 
-pub loop-i-init : goal.loop-i-init
-loop-i-init c = (omega arith, refl, pool-none _ _)
+pub loop-g-init : goal.loop-g-init
+loop-g-init c = pool-none _ _
 
-pub bounds-lead-g : goal.bounds-lead-g
-bounds-lead-g c = omega (arith, c.requires.2.room)
-
-pub loop-i-smaller-then-h-g : goal.loop-i-smaller-then-h-g
-loop-i-smaller-then-h-g c = omega arith
-
-pub loop-i-preserved-then-h-g : goal.loop-i-preserved-then-h-g
-loop-i-preserved-then-h-g c =
-    let L = c.loop-i in
-    let e : get_or c.args.lead.now L.i 0 ≡ L.i = omega (arith, c.wide-h.ensures.0) in
-    (omega arith, search rules, pool-skip _ _ _ _ L.invariant.2 e)
-
-pub union_within-requires : goal.union_within-requires
-union_within-requires c =
-    let L = c.loop-i in
-    let h : c.wide-h.result < 2048 = omega (arith, c.wide-h.ensures.0, c.requires.2.below L.i (omega arith)) in
-    (search rules, omega (arith, h), omega (arith, h))
-
-pub loop-i-smaller : goal.loop-i-smaller
-loop-i-smaller c = omega arith
-
-pub loop-i-preserved : goal.loop-i-preserved
-loop-i-preserved c =
-    let L = c.loop-i in
-    let h = c.wide-h in
-    (omega arith, search rules, pool-more _ _ _ _ L.invariant.2 _ _ _ c.requires.2 (search rules) (omega arith) h.ensures.0 (λ q. omega arith) c.union_within.ensures)
-
-pub returns : goal.returns
-returns c = pool-all _ _ _ _ _ (omega arith) c.loop-i.invariant.2
+pub loop-g-preserved : goal.loop-g-preserved
+loop-g-preserved c =
+    let L = c.loop-g in
+    elim c.if-h-g.branch [
+      | then-h-g w ↦ rw w.m-is (pool-more _ _ _ _ L.invariant _ _ _ c.requires.2 (search rules) (omega arith) c.from-h.ensures (λ q. omega arith) w.union_within.ensures)
+      | else-h-g w ↦ rw w.m-is (pool-skip _ _ _ _ L.invariant (omega arith))
+    ]

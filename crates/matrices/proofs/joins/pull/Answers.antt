@@ -1,33 +1,26 @@
 use borrow.Author.Rules.{rules}
 use native.Mathlib.Omega.{arith}
-use mathlib.Core.Path.{refl}
+use Prim.Native.Nat.{◌+◌}
 use Rattle.matrices.specs.Matrix.{bit_of}
 use Rattle.lists.proofs.Searches.{Sought, sought-next}
-use Rattle.matrices.proofs.Products.{gather_none, gather-more, gather-done, gather-all}
+use Rattle.matrices.proofs.Products.{gather_none, gather-more, gather-done}
 use Rattle.matrices.proofs.Flows.{from_start, elsewhere}
 use Rattle.matrices.proofs.joins.pull.Goals as goal
 
-pub loop-from-init : goal.loop-from-init
-loop-from-init c = (search rules, refl, gather_none _ _ _ _)
+pub loop-p-init : goal.loop-p-init
+loop-p-init c = (0, sought-next _ 0 2048 _ (omega arith) c.next_bit-p.ensures, gather_none _ _ _ _)
 
-pub returns-then-p-ge-ROWS : goal.returns-then-p-ge-ROWS
-returns-then-p-ge-ROWS c =
-    let seek : Sought (bit_of c.args.e.now c.args.h) c.loop-from.from 2048 c.next_bit-p.result = sought-next _ _ 2048 _ (omega arith) c.next_bit-p.ensures in
-    gather-done _ _ _ _ _ seek _ _ (omega arith) c.loop-from.invariant.2
+pub loop-p-smaller : goal.loop-p-smaller
+loop-p-smaller c =
+    let next : Sought (bit_of c.args.e.now c.args.h) (c.loop-p.p + 1) 2048 c.next_bit-p-in-loop-p.result = sought-next _ _ 2048 _ (omega arith) c.next_bit-p-in-loop-p.ensures in
+    omega (arith, next.from)
 
-pub loop-from-smaller : goal.loop-from-smaller
-loop-from-smaller c =
-    let seek : Sought (bit_of c.args.e.now c.args.h) c.loop-from.from 2048 c.next_bit-p.result = sought-next _ _ 2048 _ (omega arith) c.next_bit-p.ensures in
-    omega (arith, seek.from)
-
-pub loop-from-preserved : goal.loop-from-preserved
-loop-from-preserved c =
-    let seek : Sought (bit_of c.args.e.now c.args.h) c.loop-from.from 2048 c.next_bit-p.result = sought-next _ _ 2048 _ (omega arith) c.next_bit-p.ensures in
-    let J = c.loop-from.invariant.2 in (
-      search rules,
-      search rules,
-      gather-more _ _ _ _ _ seek _ _ _ (omega arith) J (from_start _ _ _ _ _ _ (elsewhere _ _ _ _ seek (omega arith) (search rules)) J c.union_within.ensures),
-    )
+pub loop-p-preserved : goal.loop-p-preserved
+loop-p-preserved c =
+    let L = c.loop-p in
+    let seek = L.invariant.1 in
+    let next : Sought (bit_of c.args.e.now c.args.h) (c.loop-p.p + 1) 2048 c.next_bit-p-in-loop-p.result = sought-next _ _ 2048 _ (omega arith) c.next_bit-p-in-loop-p.ensures in
+    (L.p + 1, next, gather-more _ _ _ _ _ seek _ _ _ (omega arith) L.invariant.2 (from_start _ _ _ _ _ _ (elsewhere _ _ _ _ seek (omega arith) (search rules)) L.invariant.2 c.union_within.ensures))
 
 pub returns : goal.returns
-returns c = gather-all _ _ _ _ _ _ (omega arith) c.loop-from.invariant.2
+returns c = let I = c.loop-p.invariant in gather-done _ _ _ _ _ I.1 _ _ (omega arith) I.2

@@ -1,6 +1,6 @@
 use Rattle.matrices.specs.Matrix.{bit_of}
 use Rattle.matrices.proofs.Laws.{and_one}
-use Rattle.matrices.proofs.relation.test.Goals as goal
+use Rattle.matrices.proofs.relation.bit_at.Goals as goal
 
 pub returns : goal.returns
 unfolding bit_of
