@@ -1,10 +1,10 @@
 -- Which command some arguments name, by computation. Assumes nothing.
 use mathlib.Core.Path.{refl}
-use Rattle.commands.specs.Named.{same, named, rows_for, command_of}
+use Rattle.commands.specs.Named.{named, rows_for, command_of}
 use Rattle.commands.specs.Examples.{Commands}
 
 pub commands : Commands
-unfolding same named rows_for command_of
+unfolding named rows_for command_of
 commands =
     record {
       why-book = refl;

@@ -1,45 +1,20 @@
 -- A word against the rows of a table. Assumes nothing.
 use Prim.Native.Nat.{ℕ, ◌+◌, ◌≤◌, ◌<◌}
 use mathlib.Core.Path.{◌≡◌, refl}
-use mathlib.Core.Bool.{Bool, true, false, false≢true}
+use mathlib.Core.Bool.{Bool, true, false}
 use mathlib.Core.List.{List, [], ◌∷◌, ◌++◌}
-use lib.Dec.{eqb}
 use lib.ListN.{length, get_or, drop}
-use borrow.Author.Tests.{eqb-true, eq-eqb, ne_eqb, lt-ltb, le-ltb}
+use borrow.Author.Tests.{ne_eqb, lt-ltb, le-ltb}
 use Rattle.std.proofs.Common.{Bor, map, Option, Some, None}
 use native.Mathlib.Omega.{arith}
-use Rattle.std.specs.Bool.{Decides}
 use Rattle.std.specs.Option.{option_or, unwrap_or}
 use Rattle.std.specs.Str.{bytes_eq}
 use Rattle.std.proofs.lemmas.List.{drop_more, drop_all}
-use Rattle.std.proofs.lemmas.Slice.Eq.{bytes_eq-Decides}
-use Rattle.lists.proofs.Bools.{and_both, both-and, Known, is_true, is_false, known}
-use Rattle.text.specs.Tests.{if_true}
+use Rattle.std.specs.Prelude.{if◌then◌else◌}
 use Rattle.commands.specs.declared.Command.{Command}
 use Rattle.commands.specs.declared.Command.TheVariants.{Task}
 use Rattle.commands.specs.declared.Task.TheVariants.{Help}
 use Rattle.commands.specs.Named.{same, Row, row, named, found, of_book, of_words, of_files, rows_for, command_of}
-
-same_refl : (l : List ℕ) → same l l ≡ true
-unfolding same
-same_refl [] = refl
-same_refl (x ∷ xs) = both-and (eq-eqb x x refl) (same_refl xs)
-
-same-is : (a b : List ℕ) → same a b ≡ true → a ≡ b
-unfolding same
-same-is [] [] e = refl
-same-is [] (y ∷ ys) e = absurd (false≢true e)
-same-is (x ∷ xs) [] e = absurd (false≢true e)
-same-is (x ∷ xs) (y ∷ ys) e =
-    rw (eqb-true x y (and_both (eqb x y) (same xs ys) e).0, same-is xs ys (and_both (eqb x y) (same xs ys) e).1)
-
-told : (word name : List ℕ) (r : Bool) → Decides r (word ≡ name) → same word name ≡ r
-told word name true t = rw (t.0 refl) (same_refl name)
-told word name false t = by (known (same word name))
-  where
-    by : Known (same word name) → same word name ≡ false
-    by (is_true e) = absurd (false≢true (t.1 (same-is word name e)))
-    by (is_false e) = e
 
 -- what a table of the code says of a word
 abbrev pub said : List (Bor (List ℕ) × Command) → List ℕ → Option Command
@@ -47,22 +22,19 @@ said rows word = found (map (λ r. row r.0.now r.1) rows) word
 
 -- the row at i against the word, by what the test of them returned
 module _ (rows : List (Bor (List ℕ) × Command)) (i : ℕ) (d : Bor (List ℕ) × Command) (word : List ℕ) where
-  test : same word (get_or rows i d).0.now ≡ bytes_eq word (get_or rows i d).0.now
-  test = told word (get_or rows i d).0.now (bytes_eq word (get_or rows i d).0.now) (bytes_eq-Decides _ _)
-
   pub here : i < length rows → bytes_eq word (get_or rows i d).0.now ≡ true → said (drop i rows) word ≡ Some (get_or rows i d).1
   unfolding found
-  here l e = rw (drop_more rows i d l, test, e) refl
+  here l e = rw (drop_more rows i d l, e) refl
 
   pub beyond : i < length rows → bytes_eq word (get_or rows i d).0.now ≡ false → said (drop i rows) word ≡ said (drop (i + 1) rows) word
   unfolding found
-  beyond l e = rw (drop_more rows i d l, test, e) refl
+  beyond l e = rw (drop_more rows i d l, e) refl
 
 pub past : (rows : List (Bor (List ℕ) × Command)) (i : ℕ) (word : List ℕ) → length rows ≤ i → said (drop i rows) word ≡ None
 unfolding found
 past rows i word l = rw (drop_all i rows l) refl
 
-if_append : (b : Bool) (command : Command) (r s t : Option Command) → r ≡ option_or s t → if_true b (Some command) r ≡ option_or (if_true b (Some command) s) t
+if_append : (b : Bool) (command : Command) (r s t : Option Command) → r ≡ option_or s t → (if b then Some command else r) ≡ option_or (if b then Some command else s) t
 if_append true command r s t e = refl
 if_append false command r s t e = e
 
@@ -71,7 +43,7 @@ unfolding found
 found-append [] more word = refl
 found-append (row name command ∷ rows) more word = if_append (same word name) command _ _ _ (found-append rows more word)
 
-if_named : (b : Bool) (command x : Command) (r : Option Command) → x ≡ unwrap_or r (Task Help) → if_true b command x ≡ unwrap_or (if_true b (Some command) r) (Task Help)
+if_named : (b : Bool) (command x : Command) (r : Option Command) → x ≡ unwrap_or r (Task Help) → (if b then command else x) ≡ unwrap_or (if b then Some command else r) (Task Help)
 if_named true command x r e = refl
 if_named false command x r e = e
 

@@ -1,7 +1,7 @@
 -- Which command the arguments name, by document 03's table. Assumes nothing.
-use Rattle.std.specs.Prelude.{ℕ, Bool, true, false, ◌&&◌, List, [], ◌∷◌, ◌++◌, eqb, ltb, Option, Some, None}
+use Rattle.std.specs.Prelude.{ℕ, if◌then◌else◌, Bool, List, [], ◌∷◌, ◌++◌, eqb, ltb, Option, Some, None}
+use Rattle.std.specs.Str.{bytes_eq}
 use Rattle.pages.specs.Text.{ascii}
-use Rattle.text.specs.Tests.{if_true}
 use Rattle.commands.specs.declared.Command.{Command}
 use Rattle.commands.specs.declared.Command.TheVariants.{Session, Task}
 use Rattle.commands.specs.declared.Session.TheVariants.{Check, AskWords, AskInput}
@@ -12,11 +12,8 @@ use Rattle.commands.specs.declared.Change.TheVariants.{Add, Withdraw}
 use Rattle.commands.specs.declared.Export.TheVariants.{Pack, Convert}
 
 -- the same bytes: command words are exact
-unfoldable pub same : List ℕ → List ℕ → Bool
-same [] [] = true
-same [] (y ∷ ys) = false
-same (x ∷ xs) [] = false
-same (x ∷ xs) (y ∷ ys) = eqb x y && same xs ys
+abbrev pub same : List ℕ → List ℕ → Bool
+same word name = bytes_eq word name
 
 pub data Row : Type 0 where
   row : (name : List ℕ) → Command → Row
@@ -24,12 +21,12 @@ pub data Row : Type 0 where
 -- the command of a word's row, and help where it has none
 unfoldable pub named : List Row → (word : List ℕ) → Command
 named [] word = Task Help
-named (row name command ∷ rows) word = if_true (same word name) command (named rows word)
+named (row name command ∷ rows) word = if same word name then command else named rows word
 
 -- the command of a word's row
 unfoldable pub found : List Row → (word : List ℕ) → Option Command
 found [] word = None
-found (row name command ∷ rows) word = if_true (same word name) (Some command) (found rows word)
+found (row name command ∷ rows) word = if same word name then Some command else found rows word
 
 -- COMMAND BOOK
 abbrev pub of_book : List Row
@@ -66,7 +63,7 @@ of_files =
 
 -- the rows for so many arguments, the program's own name and the command among them
 unfoldable pub rows_for : ℕ → List Row
-rows_for count = if_true (ltb count 3) [] (if_true (eqb count 3) of_book (if_true (eqb count 4) (of_files ++ of_words) of_words))
+rows_for count = if ltb count 3 then [] else if eqb count 3 then of_book else if eqb count 4 then of_files ++ of_words else of_words
 
 unfoldable pub command_of : (word : List ℕ) → (count : ℕ) → Command
 command_of word count = named (rows_for count) word

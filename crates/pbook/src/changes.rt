@@ -1,4 +1,6 @@
 // The commands that write a file. The lock is made before the book is read, so that nobody else's change is lost.
+ghost use Rattle.std.specs.Prelude.{◌≤◌, length, IfOk};
+
 use crate::arguments::{BOOK, NEXT, path, said};
 use crate::desk;
 use commands::{Change, Export};
@@ -18,7 +20,9 @@ struct Plain<'a> {
 }
 
 // Reads the book that is to be changed, whose lock is made.
-fn read_plain<'a>(rt: &HostRuntime, name: &[u8], source: &'a mut [u8]) -> Result<Plain<'a>, Told> {
+fn read_plain<'a>(rt: &HostRuntime, name: &[u8], source: &'a mut [u8]) -> Result<Plain<'a>, Told>
+    ensures { IfOk result (λ plain. length plain.book.now ≤ length source.old) }
+{
     let Some(mode) = changing::look_at(rt, name)? else {
         return Err(files::fail(rt, name, &Error::from_raw_os_error(ENOENT)));
     };
