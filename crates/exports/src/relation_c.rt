@@ -9,33 +9,18 @@ pub extern "C" fn relation_union_within(m: &mut [u64], d: usize, s: usize)
     ensures inside { length m.old ≡ WORDS → d < ROWS → s < ROWS → United m.old m.new d m.old s }
     ensures outside { ((length m.old ≡ WORDS) × (d < ROWS) × (s < ROWS) → ⊥) → m.new ≡ m.old }
 {
-    if m.len() != matrices::WORDS {
-        return;
+    if m.len() == matrices::WORDS && d < matrices::ROWS && s < matrices::ROWS {
+        matrices::union_within(m, d, s);
     }
-    if matrices::ROWS <= d {
-        return;
-    }
-    if matrices::ROWS <= s {
-        return;
-    }
-    matrices::union_within(m, d, s);
 }
 
 #[unsafe(no_mangle)]
 pub extern "C" fn relation_meet(m: &[u64], r: usize, n: &[u64], s: usize) -> bool
     ensures { Either ((length m.now ≡ WORDS) × (length n.now ≡ WORDS) × (r < ROWS) × (s < ROWS)) result (common m.now r n.now s) false }
 {
-    if m.len() != matrices::WORDS {
-        return false;
-    }
-    if n.len() != matrices::WORDS {
-        return false;
-    }
-    if matrices::ROWS <= r {
-        return false;
-    }
-    if matrices::ROWS <= s {
-        return false;
-    }
-    matrices::meet(m, r, n, s)
+    m.len() == matrices::WORDS
+        && n.len() == matrices::WORDS
+        && r < matrices::ROWS
+        && s < matrices::ROWS
+        && matrices::meet(m, r, n, s)
 }
