@@ -29,7 +29,7 @@ pub fn product(dst: &mut [u64], a: &[u64], b: &[u64], n: usize)
     }
 }
 
-// Puts into row h of m the rows to which edges lead from h.
+// Puts into row h of m the rows to which edges lead from h. As `gather`, but within one matrix, which cannot be lent twice.
 fn pull(e: &[u64], h: usize, m: &mut [u64])
     requires { (IsMatrix e.now) × (IsMatrix m.old) × (h < ROWS) × (bit_of e.now h h ≡ false) }
     ensures { Gathered m.old m.new e.now h m.old }
@@ -41,7 +41,7 @@ fn pull(e: &[u64], h: usize, m: &mut [u64])
     }
 }
 
-// Puts row h of m into the rows to which edges lead from h.
+// Puts row h of m into the rows to which edges lead from h. As `pull` with the rows exchanged: one function for both would be no plainer.
 fn push(e: &[u64], h: usize, m: &mut [u64])
     requires { (IsMatrix e.now) × (IsMatrix m.old) × (h < ROWS) × (bit_of e.now h h ≡ false) }
     ensures { Pushed e.now m.old m.new h }
@@ -89,7 +89,8 @@ pub fn pool_rows(lead: &[u16], n: usize, m: &mut [u64])
     }
 }
 
-// Puts the leader's row into each row below n that follows it.
+// Puts the leader's row into each row below n that follows it. As `pool_rows` with the rows exchanged: one function for both would be no
+// plainer.
 pub fn share_rows(lead: &[u16], n: usize, m: &mut [u64])
     requires { (IsMatrix m.old) × (n ≤ ROWS) × Led n lead.now }
     ensures { Shared n lead.now m.old m.new }

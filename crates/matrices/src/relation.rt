@@ -72,7 +72,7 @@ pub fn union_row(dst: &mut [u64], d: usize, src: &[u64], s: usize)
     }
 }
 
-// Puts row s of m into row d of m.
+// Puts row s of m into row d of m: a function of its own, since m cannot be lent twice.
 pub fn union_within(m: &mut [u64], d: usize, s: usize)
     requires { (IsMatrix m.old) × (d < ROWS) × (s < ROWS) }
     ensures { United m.old m.new d m.old s }

@@ -1,9 +1,9 @@
 // Packed parentheses: their bits, ranks and matches; the count of ones, and the lowest excess of a byte by a table.
 ghost use Rattle.std.specs.Prelude.{◌≡◌, ◌+◌, ◌-◌, ◌*◌, ◌^◌, ◌<◌, ◌≤◌, pos, ◌+ℤ◌, length};
+ghost use Rattle.std.specs.List.{sum_by};
 ghost use Rattle.lists.specs.Tab.{tab};
 ghost use Rattle.parentheses.specs.Bits.{bits};
 ghost use Rattle.parentheses.specs.Rank.{rank};
-ghost use Rattle.std.specs.List.{sum_by};
 ghost use Rattle.parentheses.specs.Tables.{ones_of, lowest_of};
 ghost use Rattle.parentheses.specs.Words.{ones_in};
 ghost use Rattle.numbers.specs.Sizes.{BYTE-VALUES};
