@@ -1,5 +1,5 @@
 // D of an index: the row of each piece from the rows of its parts.
-ghost use Rattle.std.specs.Prelude.{◌≡◌, ◌+◌, ◌<◌, ◌≤◌, length, get_or};
+ghost use Rattle.std.specs.Prelude.{◌≡◌, ◌+◌, ◌<◌, ◌≤◌};
 ghost use Rattle.containment.specs.Filling.{Setting, Leads, Seeded, Fillable, From, All, Filled, FilledTo, Ready};
 ghost use Rattle.containment.specs.Contents.{Stored, Contents};
 ghost use Rattle.matrices.specs.Led.{Led};
