@@ -13,12 +13,14 @@ use Rattle.text.specs.declared.Form.{Form}
 use Rattle.text.specs.declared.Form.TheVariants.{Records, Log}
 use Rattle.text.specs.Entry.{six_bytes}
 use Rattle.text.specs.Either.{is_text}
-use Rattle.sentences.specs.Unread.{unread_line}
+use Rattle.sentences.specs.Unread.{whom_number, cause_number, unread_line}
 use Rattle.sentences.specs.Arguments.{words_of}
-use Rattle.sentences.specs.declared.sources.Words.{Words}
-use Rattle.sentences.specs.declared.sources.Words.TheVariants.{Entry, Wrong}
+use Rattle.std.specs.Prelude.{Result, Ok, Err}
+use Rattle.sentences.specs.declared.Cause.{Cause}
+use Rattle.sentences.specs.declared.Cause.TheVariants.{NotRecords}
+use Rattle.sentences.specs.declared.Whom.TheVariants.{Book, Words}
 use Rattle.change_pages.specs.declared.Order.{Order}
-use Rattle.change_pages.specs.declared.Order.TheVariants.{Edit, Unread}
+use Rattle.change_pages.specs.declared.NoOrder.{NoOrder}
 use Rattle.change_pages.specs.Change.{Kept}
 use Rattle.change_pages.specs.Changes.{judged, of_records, adding, without, withdrawn, withdrawing}
 use Rattle.change_pages.specs.Order.{Ordered}
@@ -32,45 +34,45 @@ taken source n i =
     ]
 
 module _ (form : Form) (source words : List ℕ) where
-  module _ (w : Words) (is : w ≡ words_of form words) where
-    pub order-wrong : (reason : ℕ) → w ≡ Wrong reason → Ordered form source words (Unread 4 reason)
-    order-wrong reason so make = rw (sym is ∙ so)
+  module _ (w : Result Record Cause) (is : w ≡ words_of form words) where
+    pub order-wrong : (cause : Cause) → w ≡ Err cause → Ordered form source words (Err (record { whom = Words; cause = cause }))
+    order-wrong cause so make = rw (sym is ∙ so)
 
-    module _ (r : Record) (so : w ≡ Entry r) where
-      pub order-text : is_text source ≡ true → Ordered form source words (Unread 0 6)
+    module _ (r : Record) (so : w ≡ Ok r) where
+      pub order-text : is_text source ≡ true → Ordered form source words (Err (record { whom = Book; cause = NotRecords }))
       unfolding of_records
       order-text t make = rw (sym is ∙ so, t)
 
-      pub order-edit : is_text source ≡ false → (n : ℕ) → n ≡ min (length source) 49158 → Ordered form source words (Edit r n)
+      pub order-edit : is_text source ≡ false → (n : ℕ) → n ≡ min (length source) 49158 → Ordered form source words (Ok (record { entry = r; length = n }))
       unfolding of_records
       order-edit t n i = (omega (arith, i), omega (arith, i), λ make. rw (taken source n i, sym is ∙ so, t))
 
-  pub edit-short : (r : Record) (n : ℕ) → Ordered form source words (Edit r n) → length (take n source) ≤ 49158
-  edit-short r n h = omega (arith, length-take-le n source h.0, h.1)
+  pub edit-short : (o : Order) → Ordered form source words (Ok o) → length (take o.length source) ≤ 49158
+  edit-short o h = omega (arith, length-take-le o.length source h.0, h.1)
 
-  module _ (o : Order) (does : Ordered form source words o) where
-    pub ordered-edit : (r : Record) (n : ℕ) → o ≡ Edit r n → Ordered form source words (Edit r n)
-    ordered-edit r n so = subst (Ordered form source words) so does
+  module _ (r : Result Order NoOrder) (does : Ordered form source words r) where
+    pub ordered-edit : (o : Order) → r ≡ Ok o → Ordered form source words (Ok o)
+    ordered-edit o so = subst (Ordered form source words) so does
 
-    pub ordered-unread : (whom reason : ℕ) → o ≡ Unread whom reason → Ordered form source words (Unread whom reason)
-    ordered-unread whom reason so = subst (Ordered form source words) so does
+    pub ordered-unread : (w : NoOrder) → r ≡ Err w → Ordered form source words (Err w)
+    ordered-unread w so = subst (Ordered form source words) so does
 
 module _ (source words : List ℕ) where
-  module _ (whom reason : ℕ) where
-    pub add-unread : Ordered Records source words (Unread whom reason) → Kept (unread_line whom 0 reason) ≡ adding source words
+  module _ (w : NoOrder) where
+    pub add-unread : Ordered Records source words (Err w) → Kept (unread_line (whom_number w.whom) 0 (cause_number w.cause)) ≡ adding source words
     unfolding adding
     add-unread h = h (λ r book. judged source (book ++ six_bytes r) (fresh_call (book ++ six_bytes r) []))
 
-    pub withdraw-unread : Ordered Log source words (Unread whom reason) → Kept (unread_line whom 0 reason) ≡ withdrawing source words
+    pub withdraw-unread : Ordered Log source words (Err w) → Kept (unread_line (whom_number w.whom) 0 (cause_number w.cause)) ≡ withdrawing source words
     unfolding withdrawing
     withdraw-unread h = h (λ r book. judged source (without book r.a) (withdrawn book r.a))
 
-  module _ (r : Record) (n : ℕ) where
-    pub added : Ordered Records source words (Edit r n) → (six : List ℕ) → six ≡ six_bytes r
-        → judged source (take n source ++ six) (fresh_call (take n source ++ six) []) ≡ adding source words
+  module _ (o : Order) where
+    pub added : Ordered Records source words (Ok o) → (six : List ℕ) → six ≡ six_bytes o.entry
+        → judged source (take o.length source ++ six) (fresh_call (take o.length source ++ six) []) ≡ adding source words
     unfolding adding
-    added h six e = ap (λ s. judged source (take n source ++ s) (fresh_call (take n source ++ s) [])) e ∙ h.2 (λ r book. judged source (book ++ six_bytes r) (fresh_call (book ++ six_bytes r) []))
+    added h six e = ap (λ s. judged source (take o.length source ++ s) (fresh_call (take o.length source ++ s) [])) e ∙ h.2 (λ r book. judged source (book ++ six_bytes r) (fresh_call (book ++ six_bytes r) []))
 
-    pub withdrawn-is : Ordered Log source words (Edit r n) → judged source (without (take n source) r.a) (withdrawn (take n source) r.a) ≡ withdrawing source words
+    pub withdrawn-is : Ordered Log source words (Ok o) → judged source (without (take o.length source) o.entry.a) (withdrawn (take o.length source) o.entry.a) ≡ withdrawing source words
     unfolding withdrawing
     withdrawn-is h = h.2 (λ r book. judged source (without book r.a) (withdrawn book r.a))

@@ -1,7 +1,7 @@
 -- The new books of `pack`, `convert`, `add` and `withdraw`, from the bytes of the file and the words. Assumes nothing.
 use Rattle.records.specs.Refused.{refused_at}
 use Rattle.outcomes.specs.Accepted.{Outcome}
-use Rattle.std.specs.Prelude.{ℕ, ◌+◌, ◌*◌, List, [], ◌++◌, leb, take, drop, Err, Ok}
+use Rattle.std.specs.Prelude.{ℕ, ◌+◌, ◌*◌, List, [], ◌++◌, Result, Ok, Err, leb, take, drop}
 use Rattle.records.specs.declared.Record.{Record}
 use Rattle.records.specs.Record.{records}
 use Rattle.records.specs.Refusal.{judge}
@@ -18,10 +18,9 @@ use Rattle.text.specs.Reason.{reason_number}
 use Rattle.text.specs.Text.{Reading, Entries, Broken}
 use Rattle.text.specs.Either.{is_text, read_either}
 use Rattle.sentences.specs.Refusals.{refused}
-use Rattle.sentences.specs.Unread.{unread_line}
+use Rattle.sentences.specs.Unread.{cause_number, unread_line}
 use Rattle.sentences.specs.Arguments.{words_of}
-use Rattle.sentences.specs.declared.sources.Words.{Words}
-use Rattle.sentences.specs.declared.sources.Words.TheVariants.{Entry, Wrong}
+use Rattle.sentences.specs.declared.Cause.{Cause}
 use Rattle.change_pages.specs.Change.{Change, New, Kept}
 
 -- a run that a fresh call accepts is the new book
@@ -50,9 +49,9 @@ converting source = if_read (read_either Records source) (λ book. by_conversion
 unfoldable pub of_records : (source : List ℕ) → (List ℕ → Change) → Change
 of_records source make = if_true (is_text source) (Kept (unread_line 0 0 6)) (make (take 49158 source))
 
-abbrev pub if_record : Words → (Record → Change) → Change
-if_record (Entry r) make = make r
-if_record (Wrong reason) make = Kept (unread_line 4 0 reason)
+abbrev pub if_record : Result Record Cause → (Record → Change) → Change
+if_record (Ok r) make = make r
+if_record (Err cause) make = Kept (unread_line 4 0 (cause_number cause))
 
 -- R-9: the record behind the others, judged by a fresh call
 unfoldable pub adding : (source words : List ℕ) → Change

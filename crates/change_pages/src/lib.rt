@@ -6,7 +6,7 @@ ghost use Rattle.outcomes.specs.Fresh.{fresh_call, uncounted};
 ghost use Rattle.convert.specs.Conversion.{conversion, Determined};
 ghost use Rattle.pages.specs.Written.{Page};
 ghost use Rattle.sentences.specs.Refusals.{refused};
-ghost use Rattle.sentences.specs.Unread.{unread_line};
+ghost use Rattle.sentences.specs.Unread.{whom_number, cause_number, unread_line};
 ghost use Rattle.change_pages.specs.Change.{New, Kept, new_line};
 ghost use Rattle.change_pages.specs.Changes.{judged, packing, by_conversion, converting, adding, withdrawing, withdrawn, without};
 ghost use Rattle.change_pages.specs.Made.{Made};
@@ -15,31 +15,36 @@ ghost use Rattle.change_pages.specs.Rooms.{OUT-BYTES};
 ghost use Rattle.sentences.specs.Rooms.{REFUSED-LINE};
 ghost use Rattle.text.specs.Rooms.{BOOK-ROOM};
 
-use pages::Written;
 use records::{Record, Refusal, Refused};
-use sentences::sources::{Source, Words};
+use sentences::{Cause, Unread, Whom};
 use text::Form;
 
 // The bytes of a new book: a record more than a book that is read.
 pub const OUT_BYTES: usize = 49164;
 
-// The page, how many bytes of the lent ones are the new book, and whether there is one.
-#[derive(Clone, Copy)]
+// The page, and how many of the lent bytes are the new book, where there is one.
+#[derive(Clone, Copy, Debug, PartialEq, Eq)]
 pub struct Changed {
-    pub written: Written,
-    pub bytes: usize,
-    pub changed: bool,
+    pub written: Option<usize>,
+    pub book: Option<usize>,
 }
 
-// What the words order: the record or the number in them, and how many bytes of the source are the book. Or whom to tell a reason.
+// What words order: the record or the number in them, and how many bytes of the source are the book.
 #[derive(Clone, Copy)]
-pub enum Order {
-    Edit(Record, usize),
-    Unread(usize, usize),
+pub struct Order {
+    pub entry: Record,
+    pub length: usize,
+}
+
+// Why nothing is ordered, and of whom that is told.
+#[derive(Clone, Copy, Debug, PartialEq, Eq)]
+pub struct NoOrder {
+    pub whom: Whom,
+    pub cause: Cause,
 }
 
 // The line of a new book, on a page of its own.
-fn write_line(page: &mut [u8], run: &[u8]) -> Written
+fn write_line(page: &mut [u8], run: &[u8]) -> Option<usize>
     ensures page { Page page.old (new_line run.now) page.new result }
     ensures run_len_bound { length (new_line run.now) ≤ REFUSED-LINE }
 {
@@ -51,7 +56,7 @@ fn write_line(page: &mut [u8], run: &[u8]) -> Written
 }
 
 // The page of an empty book that was made.
-pub fn write_new(page: &mut [u8]) -> Written
+pub fn write_new(page: &mut [u8]) -> Option<usize>
     ensures page { Page page.old (new_line []) page.new result }
     ensures new_line_len_bound { length (new_line []) ≤ REFUSED-LINE }
 {
@@ -60,15 +65,21 @@ pub fn write_new(page: &mut [u8]) -> Written
 }
 
 // What cannot be read.
-fn tell(page: &mut [u8], whom: usize, bad: usize, reason: usize) -> Changed
-    ensures { Made (Kept (unread_line whom bad reason)) [] page.old page.new result }
+fn tell(page: &mut [u8], whom: Whom, unread: Unread) -> Changed
+    ensures { Made (Kept (unread_line (whom_number whom) unread.line (cause_number unread.cause))) [] page.old page.new result }
 {
-    let written = sentences::write_unread(page, whom, bad, reason);
-    Changed {
-        written,
-        bytes: 0,
-        changed: false,
-    }
+    let written = sentences::write_unread(page, whom, unread);
+    let book = None;
+    Changed { written, book }
+}
+
+// What is not ordered: words have no line, and neither has a source that is text.
+fn tell_order(page: &mut [u8], wrong: NoOrder) -> Changed
+    ensures { Made (Kept (unread_line (whom_number wrong.whom) 0 (cause_number wrong.cause))) [] page.old page.new result }
+{
+    let line = 0;
+    let cause = wrong.cause;
+    tell(page, wrong.whom, Unread { line, cause })
 }
 
 // A refusal of the book.
@@ -77,11 +88,8 @@ fn refuse(page: &mut [u8], why: Refused, source: &[u8]) -> Changed
 {
     let end = sentences::put_refused_book(page, 0, why.refusal, why.place, source);
     let written = pages::finish(page.len(), end);
-    Changed {
-        written,
-        bytes: 0,
-        changed: false,
-    }
+    let book = None;
+    Changed { written, book }
 }
 
 // A new book, the first n of the lent bytes.
@@ -90,11 +98,8 @@ fn accept(page: &mut [u8], out: &[u8], n: usize) -> Changed
     ensures { Made (New (take n out.now)) out.now page.old page.new result }
 {
     let written = write_line(page, &out[..n]);
-    Changed {
-        written,
-        bytes: n,
-        changed: true,
-    }
+    let book = Some(n);
+    Changed { written, book }
 }
 
 // A fresh call on a run of records, which works in these matrices.
@@ -124,8 +129,8 @@ pub fn write_packed(source: &[u8], out: &mut [u8; OUT_BYTES], page: &mut [u8]) -
 {
     let read = sentences::sources::read_source(Form::Records, source, out);
     match read {
-        Source::Unread(bad, reason) => tell(page, sentences::BOOK, bad, reason),
-        Source::Bytes(n) => settle(page, source, out, n),
+        Err(unread) => tell(page, Whom::Book, unread),
+        Ok(n) => settle(page, source, out, n),
     }
 }
 
@@ -156,8 +161,8 @@ pub fn write_converted(source: &[u8], out: &mut [u8; OUT_BYTES], page: &mut [u8]
     let mut book = [0u8; text::BOOK_ROOM];
     let read = sentences::sources::read_source(Form::Records, source, &mut book);
     match read {
-        Source::Unread(bad, reason) => tell(page, sentences::BOOK, bad, reason),
-        Source::Bytes(n) => convert_book(page, source, &book[..n], out),
+        Err(unread) => tell(page, Whom::Book, unread),
+        Ok(n) => convert_book(page, source, &book[..n], out),
     }
 }
 
@@ -178,17 +183,22 @@ fn extend(
 }
 
 // What the words order and the bytes of the book that they order it of, or whom to tell what.
-fn read_order(form: Form, source: &[u8], words: &[u8]) -> Order
+fn read_order(form: Form, source: &[u8], words: &[u8]) -> Result<Order, NoOrder>
     ensures { Ordered form source.now words.now result }
 {
     let said = sentences::sources::read_words(form, words);
     match said {
-        Words::Wrong(reason) => Order::Unread(sentences::WORDS, reason),
-        Words::Entry(entry) => {
+        Err(cause) => {
+            let whom = Whom::Words;
+            Err(NoOrder { whom, cause })
+        }
+        Ok(entry) => {
             if text::is_text(source) {
-                return Order::Unread(sentences::BOOK, sentences::TOO_LONG);
+                let (whom, cause) = (Whom::Book, Cause::NotRecords);
+                return Err(NoOrder { whom, cause });
             }
-            Order::Edit(entry, numbers::smaller_of(source.len(), text::BOOK_ROOM))
+            let length = source.len().min(text::BOOK_ROOM);
+            Ok(Order { entry, length })
         }
     }
 }
@@ -202,11 +212,12 @@ pub fn write_added(
 ) -> Changed
     ensures { Made (adding source.now words.now) out.new page.old page.new result }
 {
-    let order = read_order(Form::Records, source, words);
-    match order {
-        Order::Unread(whom, reason) => tell(page, whom, 0, reason),
-        Order::Edit(record, n) => {
-            let six = sentences::sources::six_bytes(record);
+    let read = read_order(Form::Records, source, words);
+    match read {
+        Err(wrong) => tell_order(page, wrong),
+        Ok(order) => {
+            let n = order.length;
+            let six = sentences::sources::six_bytes(order.entry);
             extend(&source[..n], six, source, out, page)
         }
     }
@@ -247,9 +258,12 @@ pub fn write_withdrawn(
 ) -> Changed
     ensures { Made (withdrawing source.now words.now) out.new page.old page.new result }
 {
-    let order = read_order(Form::Log, source, words);
-    match order {
-        Order::Unread(whom, reason) => tell(page, whom, 0, reason),
-        Order::Edit(number, n) => withdraw(&source[..n], number.a, source, out, page),
+    let read = read_order(Form::Log, source, words);
+    match read {
+        Err(wrong) => tell_order(page, wrong),
+        Ok(order) => {
+            let n = order.length;
+            withdraw(&source[..n], order.entry.a, source, out, page)
+        }
     }
 }

@@ -6,15 +6,15 @@ use Rattle.change_pages.proofs.Orders.{ordered-edit, ordered-unread, edit-short,
 use Rattle.change_pages.proofs.write_added.Goals as goal
 
 pub slice_bounds-extend-end : goal.slice_bounds-extend-end
-slice_bounds-extend-end c = sym (length-take-le _ _ (ordered-edit _ _ _ _ c.read_order-order.ensures _ _ c.in-Edit.is).0)
+slice_bounds-extend-end c = sym (length-take-le _ _ (ordered-edit _ _ _ _ c.read_order-read.ensures _ c.in-Ok.is).0)
 
 pub extend-requires : goal.extend-requires
-extend-requires c = edit-short _ _ _ _ _ (ordered-edit _ _ _ _ c.read_order-order.ensures _ _ c.in-Edit.is)
+extend-requires c = edit-short _ _ _ _ (ordered-edit _ _ _ _ c.read_order-read.ensures _ c.in-Ok.is)
 
-pub returns-in-Unread : goal.returns-in-Unread
-returns-in-Unread c =
-    made_none _ _ _ _ _ (made_as (add-unread _ _ _ _ (ordered-unread _ _ _ _ c.read_order-order.ensures _ _ c.in-Unread.is)) c.tell.ensures)
+pub returns-in-Err : goal.returns-in-Err
+returns-in-Err c =
+    made_none _ _ _ _ _ (made_as (add-unread _ _ _ (ordered-unread _ _ _ _ c.read_order-read.ensures _ c.in-Err.is)) c.tell_order.ensures)
 
-pub returns-in-Edit : goal.returns-in-Edit
-returns-in-Edit c =
-    made_as (added _ _ _ _ (ordered-edit _ _ _ _ c.read_order-order.ensures _ _ c.in-Edit.is) _ c.six_bytes-six.ensures) c.extend.ensures
+pub returns-in-Ok : goal.returns-in-Ok
+returns-in-Ok c =
+    made_as (added _ _ _ (ordered-edit _ _ _ _ c.read_order-read.ensures _ c.in-Ok.is) _ c.six_bytes-six.ensures) c.extend.ensures
