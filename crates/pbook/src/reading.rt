@@ -5,11 +5,10 @@ use crate::arguments::{BOOK, NEXT, path, said};
 use crate::desk;
 use commands::{BookPage, Session, WordsPage};
 use files::Told;
-use pages::Written;
 use text::Form;
 
 // Writes a page, or nothing of one that has no room.
-fn print(rt: &HostRuntime, written: Written, page: &[u8]) {
+fn print(rt: &HostRuntime, written: Option<usize>, page: &[u8]) {
     files::write_page(rt, page, desk::end_of(written));
 }
 

@@ -3,7 +3,6 @@
 
 ghost use Rattle.std.specs.Prelude.{◌≤◌, length};
 
-use pages::Written;
 use std::fs;
 use std::io::Read;
 
@@ -34,7 +33,7 @@ fn main(rt: HostRuntime) {
     let mut claims = [0u8; report::CLAIMS_READ];
     let claims = read_full(&mut rt.stdin(), &mut claims);
     let mut page = [0u8; report::PAGE_BYTES];
-    if let Written::Text(end) = report::ask(book, claims, &mut page) {
+    if let Some(end) = report::ask(book, claims, &mut page) {
         files::write_page(&rt, &page, end);
     }
 }
