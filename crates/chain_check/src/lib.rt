@@ -8,6 +8,7 @@ ghost use Rattle.chain_check.specs.Call.{passes, Checked};
 ghost use Rattle.records.specs.Sizes.{RECORD-BYTES};
 
 use matrices::Matrix;
+use records::Refused;
 
 // The claim's rows and the steps, in an accepted book of n pieces.
 fn check_accepted(book: &[u8], n: usize, claim: &[u8], steps: &[u8]) -> bool
@@ -15,7 +16,7 @@ fn check_accepted(book: &[u8], n: usize, claim: &[u8], steps: &[u8]) -> bool
     ensures { Checked n book.now claim.now steps.now result }
 {
     match records::check_claims(claim, n) {
-        Err(_) => false,
+        Err(Refused { .. }) => false,
         Ok(()) => {
             let mut voids = [0u64; matrices::ROW_WORDS];
             closure::marking::mark_voids(book, &mut voids);

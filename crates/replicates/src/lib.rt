@@ -217,7 +217,7 @@ fn judge(
         Ok(index) => {
             let fit = check_part(Counts::of(n, index), window, log);
             match fit {
-                Err(refused) => refuse(refused, window),
+                Err(why) => refuse(why, window),
                 Ok(_) => {
                     find_aparts(book, n, &voids, e, &order, &lead, d, t, a);
                     Replicated {
