@@ -1,5 +1,5 @@
 // Which two pieces are certainly APART, one bit for each pair.
-ghost use Rattle.std.specs.Prelude.{◌≡◌, false, ◌<◌, ◌≤◌, length};
+ghost use Rattle.std.specs.Prelude.{◌≡◌, false, ◌≤◌, length};
 ghost use Rattle.rules.specs.Follows.{clash};
 ghost use Rattle.records.specs.Facts.{facts};
 ghost use Rattle.closure.specs.Void.{void_of, Voids};
