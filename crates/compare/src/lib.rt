@@ -125,7 +125,7 @@ fn check_rows(first: &[u8], second: &[u8], claims: &[u8]) -> BookCheck
             match two {
                 BookCheck::Refused(refusal, place) => BookCheck::Refused(refusal, place),
                 BookCheck::Accepted(other) => {
-                    let n = numbers::larger_of(own, other);
+                    let n = own.max(other);
                     let fit = records::check_claims(claims, n);
                     match fit {
                         ClaimsCheck::Refused(refusal, place) => BookCheck::Refused(refusal, place),

@@ -17,7 +17,7 @@ returns-in-Refused-fit c =
     let cs = c.args.claims.now in
     rows-refuse _ _ cs
     (rows-claims _ _ cs [] (sym c.check_book-one.ensures ∙ c.in-Accepted.is) (sym c.check_book-two.ensures ∙ c.in-Accepted-two.is)
-    (ap (λ (k : ℕ). claims_check k cs) (sym c.larger_of-n.ensures) ∙ sym c.check_claims-fit.ensures ∙ c.in-Refused-fit.is))
+    (ap (λ (k : ℕ). claims_check k cs) (sym c.max-n.ensures) ∙ sym c.check_claims-fit.ensures ∙ c.in-Refused-fit.is))
 
 pub returns-in-Accepted-fit : goal.returns-in-Accepted-fit
 returns-in-Accepted-fit c =
@@ -28,6 +28,6 @@ returns-in-Accepted-fit c =
       other = _;
       first = sym c.check_book-one.ensures ∙ c.in-Accepted.is;
       second = sym c.check_book-two.ensures ∙ c.in-Accepted-two.is;
-      larger = c.larger_of-n.ensures;
-      fit = ap (λ (k : ℕ). claims_check k cs) (sym c.larger_of-n.ensures) ∙ sym c.check_claims-fit.ensures ∙ c.in-Accepted-fit.is;
+      larger = c.max-n.ensures;
+      fit = ap (λ (k : ℕ). claims_check k cs) (sym c.max-n.ensures) ∙ sym c.check_claims-fit.ensures ∙ c.in-Accepted-fit.is;
     })
