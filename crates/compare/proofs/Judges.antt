@@ -1,6 +1,6 @@
 -- The steps of two books that are judged, among n pieces, the count of the larger. Assumes nothing.
 use Prim.Native.Nat.{ℕ, max, ◌*◌, ◌≤◌}
-use mathlib.Core.Path.{◌≡◌, sym, ap, ap₂, subst, ◌∙◌}
+use mathlib.Core.Path.{◌≡◌, sym, ap₂, subst, ◌∙◌}
 use mathlib.Core.Bool.{Bool, not}
 use mathlib.Core.List.{List, [], ◌++◌}
 use native.Mathlib.Omega.{arith}
