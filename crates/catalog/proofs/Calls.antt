@@ -27,7 +27,7 @@ use Rattle.outcomes.proofs.Buffers.{cut, put_back, left_back, Fitted}
 use Rattle.outcomes.proofs.Kept.{fitted}
 use Rattle.answers.proofs.Calls.{long}
 use Rattle.answers.proofs.Calls as calls
-use Rattle.catalog.specs.Lent.{Lent, lent, short_catalog}
+use Rattle.catalog.specs.Lent.{Lent, short_catalog}
 use Rattle.catalog.specs.Call.{counts_of, refuse_if, by_index, by_asked, by_book, outcome, left, Determined}
 use Rattle.catalog.specs.Filling.{refused_if, asked, Roomy, Asked, Filled, Ready, Judged}
 use Rattle.catalog.specs.declared.Counts.{Counts}

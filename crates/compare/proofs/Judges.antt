@@ -4,7 +4,7 @@ use Rattle.records.specs.Refused.{refused_at}
 use Rattle.outcomes.specs.Accepted.{Outcome, accepted_with}
 use Rattle.compare.specs.Refused.{refused_of}
 use Prim.Native.Nat.{ℕ, max, ◌*◌, ◌≤◌}
-use mathlib.Core.Path.{◌≡◌, sym, ap, ap₂, subst, ◌∙◌}
+use mathlib.Core.Path.{◌≡◌, sym, ap₂, subst, ◌∙◌}
 use mathlib.Core.Bool.{Bool, not}
 use mathlib.Core.List.{List, [], ◌++◌}
 use native.Mathlib.Omega.{arith}

@@ -1,7 +1,5 @@
 -- `clash::silence` meets its contract. Assumes nothing.
-use lib.ListN.{length-set}
 use native.Mathlib.Omega.{arith}
-use borrow.Author.Rules.{rules}
 use Rattle.clash.proofs.Silencing.{copied_more, copied_all}
 use Rattle.clash.proofs.silence.Goals as goal
 

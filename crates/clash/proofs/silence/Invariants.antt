@@ -1,7 +1,4 @@
 -- `clash::silence` meets its contract. Assumes nothing.
-use Prim.Native.Nat.{◌-◌, ◌≤◌}
-use mathlib.Core.Path.{◌≡◌}
-use lib.ListN.{length}
 use Rattle.clash.proofs.Silencing.{Sofar}
 use Rattle.clash.proofs.silence.Given as goal
 

@@ -1,6 +1,5 @@
 -- `convert::drop_trays` meets its contract: the front of the buffer is what the records passed leave. Assumes nothing.
-use Prim.Native.Nat.{◌-◌}
-use mathlib.Core.Path.{refl, ◌∙◌}
+use mathlib.Core.Path.{refl}
 use native.Mathlib.Omega.{arith}
 use Rattle.convert.specs.Converted.{no_tray}
 use Rattle.records.proofs.Keeps.{written_none, written-more, written-few}

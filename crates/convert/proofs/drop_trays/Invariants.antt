@@ -1,7 +1,5 @@
 -- `convert::drop_trays` meets its contract: the front of the buffer is what the records passed leave. Assumes nothing.
-use Prim.Native.Nat.{◌*◌, ◌-◌, ◌≤◌}
-use mathlib.Core.Path.{◌≡◌}
-use lib.ListN.{length}
+use Prim.Native.Nat.{◌*◌, ◌≤◌}
 use Rattle.convert.specs.Converted.{no_tray}
 use Rattle.records.proofs.Keeps.{Written}
 use Rattle.convert.proofs.drop_trays.Given as goal

@@ -1,7 +1,5 @@
 -- `certain::list_certain` meets its contract: the invariant is that the pieces below x are listed. Assumes nothing.
-use Prim.Native.Nat.{◌≤◌, ◌-◌}
-use mathlib.Core.Path.{◌≡◌}
-use lib.ListN.{length}
+use Prim.Native.Nat.{◌≤◌}
 use Rattle.closure.specs.Void.{void_of}
 use Rattle.catalog.specs.Tells.{told}
 use Rattle.areas.proofs.Lists.{Listed}

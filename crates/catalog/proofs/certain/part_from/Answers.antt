@@ -1,10 +1,6 @@
 -- `certain::part_from` meets its contract: the invariant is that row 0 has the bits of the records passed. Assumes nothing.
-use Prim.Native.Nat.{ℕ, ◌-◌, ◌/◌}
-use mathlib.Core.Path.{subst, ◌≡◌, refl}
 use native.Mathlib.Omega.{arith}
 use borrow.Author.Rules.{rules}
-use lib.ListN.{length}
-use Rattle.catalog.specs.Tells.{Parted}
 use Rattle.catalog.proofs.Telling.{parted-none, parted-more, apart-within}
 use Rattle.catalog.proofs.certain.part_from.Goals as goal
 

@@ -1,5 +1,4 @@
 -- `certain::part_from` meets its contract: the invariant is that row 0 has the bits of the records passed. Assumes nothing.
-use Prim.Native.Nat.{◌≤◌, ◌-◌, ◌/◌}
 use mathlib.Core.Path.{◌≡◌}
 use lib.ListN.{length}
 use Rattle.catalog.specs.Tells.{Parted}

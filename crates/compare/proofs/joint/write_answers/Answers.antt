@@ -1,10 +1,7 @@
 -- `joint::write_answers` meets its contract. Assumes nothing.
-use Prim.Native.Nat.{◌-◌}
-use mathlib.Core.Path.{◌≡◌, refl, ap, ◌∙◌}
+use mathlib.Core.Path.{refl}
 use native.Mathlib.Omega.{arith}
-use borrow.Author.Rules.{rules}
-use lib.ListN.{length, length-set}
-use Rattle.compare.proofs.Threes.{threes-long, threes-none, threes-more}
+use Rattle.compare.proofs.Threes.{threes-none, threes-more}
 use Rattle.compare.proofs.joint.write_answers.Goals as goal
 
 pub loop-i-init : goal.loop-i-init

@@ -1,7 +1,6 @@
 -- `joint::write_answers` meets its contract. Assumes nothing.
-use Prim.Native.Nat.{◌-◌, ◌≤◌}
 use mathlib.Core.Path.{◌≡◌}
-use lib.ListN.{length, get_or}
+use lib.ListN.{get_or}
 use Rattle.lists.specs.Front.{front}
 use Rattle.compare.specs.Agreement.{threes}
 use Rattle.compare.proofs.joint.write_answers.Given as goal

@@ -1,9 +1,6 @@
 -- `runs::write_runs` meets its contract. Assumes nothing.
 use Rattle.working.proofs.RunsLaws.{runs-written}
-use mathlib.Core.Path.{◌≡◌}
-use Prim.Native.Nat.{◌+◌, ◌-◌}
 use native.Mathlib.Omega.{arith}
-use lib.ListN.{length, replicate}
 use Rattle.std.proofs.lemmas.Grind.{common_steps}
 use Rattle.working.proofs.runs.write_runs.Goals as goal
 
