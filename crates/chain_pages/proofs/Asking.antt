@@ -4,16 +4,15 @@ use mathlib.Core.Path.{◌≡◌, sym, subst, ◌∙◌}
 use mathlib.Core.List.{List, []}
 use native.Mathlib.Omega.{arith}
 use Rattle.records.specs.declared.Record.{Record}
-use Rattle.std.specs.Prelude.{Option}
+use Rattle.std.specs.Prelude.{Option, Result, Ok, Err}
 use Rattle.text.specs.declared.Form.TheVariants.{Records, Claims}
 use Rattle.text.specs.Entry.{six_bytes}
 use Rattle.text.specs.Text.{Entries}
 use Rattle.text.specs.Either.{read_either}
-use Rattle.sentences.specs.Unread.{unread_line}
+use Rattle.sentences.specs.Unread.{cause_number, unread_line}
 use Rattle.sentences.specs.Sources.{Breaks}
 use Rattle.sentences.specs.Arguments.{words_of}
-use Rattle.sentences.specs.declared.sources.Words.{Words}
-use Rattle.sentences.specs.declared.sources.Words.TheVariants.{Entry, Wrong}
+use Rattle.sentences.specs.declared.Cause.{Cause}
 use Rattle.sentences.proofs.Tellings.{Paged, page-read, page-unread, page-entry, page-wrong}
 use Rattle.chain_pages.specs.Verified.{said}
 use Rattle.chain_pages.specs.WhyText.{why_text, why_page}
@@ -47,17 +46,17 @@ module _ (source : List ℕ) (entry : Record) {page page' : List ℕ} (r : Optio
 
 -- ---- words that say a claim, and words that do not
 
-module _ (source words : List ℕ) {page page' : List ℕ} (w : Words) (is : w ≡ words_of Claims words) (r : Option ℕ) where
-  pub words-wrong : (reason : ℕ) → w ≡ Wrong reason → Paged 95 page (unread_line 5 0 reason) page' r → Why source words page page' r
+module _ (source words : List ℕ) {page page' : List ℕ} (w : Result Record Cause) (is : w ≡ words_of Claims words) (r : Option ℕ) where
+  pub words-wrong : (cause : Cause) → w ≡ Err cause → Paged 95 page (unread_line 5 0 (cause_number cause)) page' r → Why source words page page' r
   unfolding why_page
-  words-wrong reason e t =
+  words-wrong cause e t =
       let p : Paged 852835 page (why_page source words []) page' r = page-wrong 852835 page page' r Claims words (λ s. text_of source s []) is (omega arith) e t in
       record { chain = []; bytes = no_bytes; behind = λ book claim a. absurd (other a.entry (sym e ∙ is ∙ a.worded)); page-is = p.0; short = p.1 }
     where
-      other : (s : Record) → Wrong reason ≡ Entry s → ⊥
+      other : (s : Record) → Err cause ≡ Ok s → ⊥
       other s f = let z : ◌≡◌ {A = ℕ} 0 1 = cc in omega (arith, z)
 
-  pub words-said : (entry : Record) → w ≡ Entry entry → OfSource source entry page page' r → Why source words page page' r
+  pub words-said : (entry : Record) → w ≡ Ok entry → OfSource source entry page page' r → Why source words page page' r
   unfolding why_page
   words-said entry e o =
       let p : Paged 852835 page (why_page source words o.chain) page' r =

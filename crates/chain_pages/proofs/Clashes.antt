@@ -16,7 +16,7 @@ use Rattle.clash.specs.Clash.{reply_of, reply, shown, Written}
 use Rattle.clash.specs.declared.Clash as call
 use Rattle.pages.specs.Put.{Put}
 use Rattle.pages.specs.Written.{written_at}
-use Rattle.pages.specs.declared.Written as laid
+use Rattle.std.specs.Prelude.{Option}
 use Rattle.pages.proofs.Puts.{chain}
 use Rattle.text.specs.declared.Form.TheVariants.{Records}
 use Rattle.text.specs.Text.{Entries}
@@ -99,7 +99,7 @@ module _ (source book : List ℕ) (o : Outcome) (comes : o ≡ fresh_call book [
 abbrev of : List ℕ → List ℕ → List ℕ → List ℕ
 of source c book = clash_text source (fresh_call book []) c
 
-module _ (source : List ℕ) {page page' : List ℕ} (x : laid.Written) where
+module _ (source : List ℕ) {page page' : List ℕ} (x : Option ℕ) where
   pub clash-unread : (l number : ℕ) → Breaks (read_either Records source) l number → Paged 95 page (unread_line 0 l number) page' x → Clash source page page' x
   unfolding clash_page
   clash-unread l number b t =

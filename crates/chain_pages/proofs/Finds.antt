@@ -1,7 +1,6 @@
 -- What the functions of the reader find, test by test. Assumes nothing.
 use Prim.Native.Nat.{ℕ, zero, suc, ◌+◌, ◌*◌, ◌-◌, ◌/◌, ◌%◌, ◌≤◌, ◌<◌}
 use mathlib.Core.Path.{◌≡◌, refl, sym, ap, ◌∙◌}
-use mathlib.Core.Bool.{Bool}
 use mathlib.Core.List.{List}
 use native.Mathlib.Numerals.{add-one}
 use native.Mathlib.Decide.{dec_lt}
@@ -15,13 +14,14 @@ use Rattle.verdicts.specs.declared.Answer.{Answer}
 use Rattle.verdicts.specs.declared.Answer.TheVariants.{Follows, Denied}
 use Rattle.text.specs.declared.words.Sort.TheVariants.{Digit, Gap}
 use Rattle.text.specs.Runs.{of_sort, run, behind}
-use Rattle.text.specs.declared.words.Number.{Number}
+use Rattle.std.specs.Prelude.{Option, not, ◌==◌}
+use Rattle.std.specs.Option.{unwrap_or}
 use Rattle.text.specs.Number.{number}
 use Rattle.lists.proofs.Parts.{here}
 use Rattle.text.proofs.Runs.{ends-in, between, beyond}
 use Rattle.chain_pages.specs.StepLine.{count}
-use Rattle.chain_pages.specs.Read.{digits_in, after, found, value_of, num, place_in, kind_by, rule_by, rule_in, origin_by, answer_by, step_in, left_in, claim_in, answer_in}
-use Rattle.chain_pages.specs.Found.{FoundAt, FoundIf, StepAt, HeadOf}
+use Rattle.chain_pages.specs.Read.{digits_in, after, found, num, place_in, kind_by, rule_by, rule_in, origin_by, answer_by, step_in, left_in, claim_in, answer_in}
+use Rattle.chain_pages.specs.Found.{DigitsAt, FoundAt, FoundIf, StepAt, HeadOf}
 
 -- ---- the place of a byte in a table
 
@@ -72,38 +72,42 @@ module _ (s : List ℕ) (at x y : ℕ) (is : x ≡ get_or s (at + 6) 0) (is' : y
 
 -- ---- numbers
 
-some_more : (from to k : ℕ) → to ≡ from + k → ltb from to ≡ ltb 0 k
-some_more from to k e =
+none_more : (from to k : ℕ) → to ≡ from + k → (from == to) ≡ not (ltb 0 k)
+none_more from to k e =
     elim (dec_lt 0 k) [
-      | yes h ↦ lt-ltb from to (omega arith) ∙ sym (lt-ltb 0 k h)
-      | no h ↦ le-ltb from to (omega arith) ∙ sym (le-ltb 0 k (omega arith))
+      | yes h ↦ rw (ne_eqb from to (λ z. omega arith), lt-ltb 0 k h)
+      | no h ↦ rw (eq-eqb from to (omega arith), le-ltb 0 k (omega arith))
     ]
 
 module _ (s : List ℕ) (at from to : ℕ) (h : at ≤ length s) (d : from ≡ at + length (run (of_sort Gap) (drop at s))) where
   pub gap-inside : from ≤ length s
   gap-inside = (ends-in (of_sort Gap) s at from h d).1
 
-  module _ (e : to ≡ from + length (run (of_sort Digit) (drop from s))) where
-    pub digits-inside : (from ≤ to) × (to ≤ length s)
-    digits-inside = ends-in (of_sort Digit) s from to gap-inside e
+  pub digits-at : to ≡ from + length (run (of_sort Digit) (drop from s)) → DigitsAt s at from to
+  unfolding digits_in after found
+  digits-at e =
+      let skipped : drop from s ≡ behind (of_sort Gap) (drop at s) = beyond (of_sort Gap) s at from h d in
+      let ends = ends-in (of_sort Digit) s from to gap-inside e in
+      record {
+        some = none_more from to _ e ∙ ap (λ (m : List ℕ). not (ltb 0 (length (run (of_sort Digit) m)))) skipped;
+        is = between (of_sort Digit) s from to gap-inside e ∙ ap (run (of_sort Digit)) skipped;
+        left = beyond (of_sort Digit) s from to gap-inside e ∙ ap (behind (of_sort Digit)) skipped;
+        ordered = ends.0;
+        inside = ends.1;
+      }
 
-    pub number-found : (n : Number) (v : ℕ) → n ≡ number (take (to - from) (drop from s)) → v ≡ value_of n → FoundAt s at (ltb from to) v to
-    unfolding digits_in after found num
-    number-found n v i j =
-        let skipped : drop from s ≡ behind (of_sort Gap) (drop at s) = beyond (of_sort Gap) s at from h d in
-        record {
-          some_is = some_more from to _ e ∙ ap (λ (m : List ℕ). ltb 0 (length (run (of_sort Digit) m))) skipped;
-          value-is = j ∙ ap value_of (i ∙ ap number (between (of_sort Digit) s from to gap-inside e ∙ ap (run (of_sort Digit)) skipped));
-          left = beyond (of_sort Digit) s from to gap-inside e ∙ ap (behind (of_sort Digit)) skipped;
-          inside = digits-inside.1;
-        }
+pub number-found : {s : List ℕ} {at from to : ℕ} (n : Option ℕ) (v : ℕ) → DigitsAt s at from to → n ≡ number (take (to - from) (drop from s)) → v ≡ unwrap_or n 0
+    → FoundAt s at v to
+unfolding num
+number-found n v w i j =
+    record { value-is = j ∙ ap (λ m. unwrap_or m 0) (i ∙ ap number w.is); left = w.left; inside = w.inside }
 
 module _ (n : ℕ) (s : List ℕ) (at : ℕ) where
   pub none-wanted : at ≤ length s → n ≡ 0 → FoundIf n s at 0 at
   none-wanted h e = rw e (record { value-is = refl; left = refl; inside = h })
 
-  pub one_wanted : (some : Bool) (v next : ℕ) → (n ≡ 0 → ⊥) → FoundAt s at some v next → FoundIf n s at v next
-  one_wanted some v next d f = go n d
+  pub one_wanted : (v next : ℕ) → (n ≡ 0 → ⊥) → FoundAt s at v next → FoundIf n s at v next
+  one_wanted v next d f = go n d
     where
       go : (k : ℕ) → (k ≡ 0 → ⊥) → FoundIf k s at v next
       go zero d = absurd (d refl)
@@ -111,8 +115,8 @@ module _ (n : ℕ) (s : List ℕ) (at : ℕ) where
 
 -- ---- a step, and the first line
 
-module _ (s : List ℕ) (at : ℕ) {some some' : Bool} {a na b nb f nf g next : ℕ} (x kind rule n : ℕ) where
-  pub step-found : x ≡ get_or s (at + 1) 0 → kind ≡ kind_by x → FoundAt s at some a na → FoundAt s na some' b nb → rule ≡ rule_in (drop nb s) → n ≡ count rule
+module _ (s : List ℕ) (at : ℕ) {a na b nb f nf g next : ℕ} (x kind rule n : ℕ) where
+  pub step-found : x ≡ get_or s (at + 1) 0 → kind ≡ kind_by x → FoundAt s at a na → FoundAt s na b nb → rule ≡ rule_in (drop nb s) → n ≡ count rule
       → FoundIf n s nb f nf → FoundIf (n / 2) s nf g next
       → StepAt s at (record { rule = rule; kind = kind; a = a; b = b; first = f; second = g }) next
   unfolding step_in left_in
@@ -124,8 +128,8 @@ module _ (s : List ℕ) (at : ℕ) {some some' : Bool} {a na b nb f nf g next : 
         inside = G.inside;
       }
 
-module _ (s : List ℕ) {some some' : Bool} {a na b nb : ℕ} (x kind y origin z : ℕ) (answer : Answer) where
-  pub head-found : x ≡ get_or s 0 0 → kind ≡ kind_by x → FoundAt s 0 some a na → FoundAt s na some' b nb → y ≡ get_or s (nb + 1) 0 → origin ≡ origin_by y
+module _ (s : List ℕ) {a na b nb : ℕ} (x kind y origin z : ℕ) (answer : Answer) where
+  pub head-found : x ≡ get_or s 0 0 → kind ≡ kind_by x → FoundAt s 0 a na → FoundAt s na b nb → y ≡ get_or s (nb + 1) 0 → origin ≡ origin_by y
       → z ≡ get_or s (nb + 1 + 7 * origin) 0 → answer ≡ answer_by z
       → HeadOf s (record { kind = kind; origin = origin; a = a; b = b }) answer nb
   unfolding claim_in answer_in

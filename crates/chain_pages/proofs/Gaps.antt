@@ -11,10 +11,11 @@ use Rattle.lists.proofs.Bools.{and_both, both-and}
 use Rattle.pages.specs.Decimal.{decimal}
 use Rattle.text.specs.declared.words.Sort.TheVariants.{Digit, Gap}
 use Rattle.text.specs.Runs.{of_sort, run, behind}
+use Rattle.std.specs.Option.{unwrap_or}
 use Rattle.text.specs.Number.{is_digit, digits, number}
 use Rattle.text.proofs.Runs.{run-yes, run-no, behind-yes, behind-no}
 use Rattle.text.proofs.Decimals.{decimal-spelled, number-decimal}
-use Rattle.chain_pages.specs.Read.{digits_in, after, found, value_of, num}
+use Rattle.chain_pages.specs.Read.{digits_in, after, found, num}
 
 -- no digits
 unfoldable pub gaps : List ℕ → Bool
@@ -85,7 +86,7 @@ module _ (x : ℕ) (r : List ℕ) (ends : is_digit x ≡ false) where
 
     pub num-is : n ≤ 65535 → num (g ++ (decimal n ++ (x ∷ r))) ≡ n
     unfolding num
-    num-is h = ap (λ (d : List ℕ). value_of (number d)) there ∙ ap value_of (number-decimal n h)
+    num-is h = ap (λ (d : List ℕ). unwrap_or (number d) 0) there ∙ ap (λ m. unwrap_or m 0) (number-decimal n h)
 
 pub found_none : (g : List ℕ) → gaps g ≡ true → found g ≡ false
 unfolding found digits_in run

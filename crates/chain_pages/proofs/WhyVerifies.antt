@@ -42,7 +42,7 @@ answer-of : (x : Reply) → shown x ≡ true → (a : Answer) × (x ≡ Ok a)
 answer-of (Ok a) h = (a, refl)
 answer-of (Err r) h = absurd (false≢true h)
 
-printed-text : (page text page' : List ℕ) (r : Option ℕ) (end : ℕ) → r ≡ Text end → Page page text page' r → take end page' ≡ text
+printed-text : (page text page' : List ℕ) (r : Option ℕ) (end : ℕ) → r ≡ Some end → Page page text page' r → take end page' ≡ text
 printed-text page text page' r end is p = (subst (Page page text page') is p).first
 
 module _ (source words book : List ℕ) (r : Record) (c : List ℕ) where

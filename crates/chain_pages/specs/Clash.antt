@@ -1,12 +1,11 @@
 -- What the page of `why` without a claim comes to. Assumes nothing.
 use Rattle.outcomes.specs.Accepted.{Outcome}
-use Rattle.std.specs.Prelude.{ℕ, ◌*◌, ◌≤◌, ◌≡◌, true, false, List, [], ◌++◌, length, take, Err, Ok}
+use Rattle.std.specs.Prelude.{ℕ, ◌*◌, ◌≤◌, ◌≡◌, true, false, Option, List, [], ◌++◌, length, take, Err, Ok}
 use Rattle.outcomes.specs.Fresh.{fresh_call}
 use Rattle.chain_format.specs.Step.{steps}
 use Rattle.clash.specs.Clash.{passes, reply_of, shown}
 use Rattle.pages.specs.Put.{Put}
 use Rattle.pages.specs.Written.{Page}
-use Rattle.std.specs.Prelude.{Option}
 use Rattle.text.specs.declared.Form.TheVariants.{Records}
 use Rattle.text.specs.Text.{Entries}
 use Rattle.text.specs.Either.{read_either}

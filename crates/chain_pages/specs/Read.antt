@@ -8,8 +8,7 @@ use Rattle.verdicts.specs.declared.Answer.{Answer}
 use Rattle.verdicts.specs.declared.Answer.TheVariants.{Follows, Denied}
 use Rattle.text.specs.declared.words.Sort.TheVariants.{Digit, Gap}
 use Rattle.text.specs.Runs.{of_sort, run, behind}
-use Rattle.text.specs.declared.words.Number.{Number}
-use Rattle.text.specs.declared.words.Number.TheVariants.{Value, NoNumber}
+use Rattle.std.specs.Option.{unwrap_or}
 use Rattle.text.specs.Number.{number}
 use Rattle.chain_pages.specs.StepLine.{count}
 
@@ -24,12 +23,9 @@ after l = behind (of_sort Digit) (behind (of_sort Gap) l)
 unfoldable pub found : List ℕ → Bool
 found l = ltb 0 (length (digits_in l))
 
-abbrev pub value_of : Number → ℕ
-value_of (Value n) = n
-value_of NoNumber = 0
-
+-- 0 where there is none
 unfoldable pub num : List ℕ → ℕ
-num l = value_of (number (digits_in l))
+num l = unwrap_or (number (digits_in l)) 0
 
 -- where one is wanted
 abbrev pub num_if : ℕ → List ℕ → ℕ

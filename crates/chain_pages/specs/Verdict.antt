@@ -1,9 +1,7 @@
 -- What the page of `verify` comes to. Assumes nothing.
-use Rattle.std.specs.Prelude.{ℕ, ◌≤◌, ◌<◌, ◌≡◌, Bool, true, false, List, length, take}
+use Rattle.std.specs.Prelude.{ℕ, ◌≤◌, ◌<◌, ◌≡◌, Bool, true, false, Option, Some, List, length, take}
 use Rattle.pages.specs.Text.{ascii}
 use Rattle.pages.specs.Written.{Page}
-use Rattle.std.specs.Prelude.{Option}
-use Rattle.pages.specs.declared.Written.TheVariants.{Text}
 use Rattle.text.specs.declared.Form.TheVariants.{Records}
 use Rattle.text.specs.Text.{Entries}
 use Rattle.text.specs.Either.{read_either}
@@ -30,8 +28,8 @@ pub record Verdict (source chain page page' : List ℕ) (r : Option ℕ) : Type 
 -- what `why` printed for FOLLOWS or DENIED, about the same source, passes
 abbrev pub WhyPasses : Type 0
 WhyPasses =
-    (source words book claim page page' out out' : List ℕ) (r r' : Written) (end : ℕ)
-    → Why source words page page' r → Asks source words book claim → shown (said book claim) ≡ true → r ≡ Text end
+    (source words book claim page page' out out' : List ℕ) (r r' : Option ℕ) (end : ℕ)
+    → Why source words page page' r → Asks source words book claim → shown (said book claim) ≡ true → r ≡ Some end
     → (v : Verdict source (take end page') out out' r') → v.passes ≡ true
 
 -- and nothing that is longer than every page of `why` does

@@ -1,19 +1,16 @@
 -- What the page of `why` with a claim comes to. Assumes nothing.
 use Rattle.chain_writing.specs.Reply.{Reply}
-use Rattle.std.specs.Prelude.{ℕ, ◌*◌, ◌≤◌, ◌≡◌, true, false, List, [], length, take, Ok}
+use Rattle.std.specs.Prelude.{ℕ, ◌*◌, ◌≤◌, ◌≡◌, true, false, Option, Some, Ok, List, [], length, take}
 use Rattle.records.specs.declared.Record.{Record}
 use Rattle.verdicts.specs.declared.Answer.{Answer}
 use Rattle.chain_check.specs.Call.{passes}
 use Rattle.chain_writing.specs.Call.{shown}
 use Rattle.chain_writing.specs.declared.Chain.{Chain}
 use Rattle.pages.specs.Written.{Page}
-use Rattle.std.specs.Prelude.{Option}
-use Rattle.pages.specs.declared.Written.TheVariants.{Text}
 use Rattle.text.specs.declared.Form.TheVariants.{Records, Claims}
 use Rattle.text.specs.Entry.{six_bytes}
 use Rattle.text.specs.Text.{Entries}
 use Rattle.text.specs.Either.{read_either}
-use Rattle.sentences.specs.declared.sources.Words.TheVariants.{Entry}
 use Rattle.sentences.specs.Sources.{of_book}
 use Rattle.sentences.specs.Arguments.{words_of}
 use Rattle.chain_pages.specs.ChainText.{Bytes}
@@ -29,7 +26,7 @@ pub record Behind (book claim chain : List ℕ) : Type 0 where
 pub record Asks (source words book claim : List ℕ) : Type 0 where
   pub read : read_either Records source ≡ Entries book
   pub entry : Record
-  pub worded : words_of Claims words ≡ Entry entry
+  pub worded : words_of Claims words ≡ Ok entry
   pub claim-is : claim ≡ six_bytes entry
 
 -- the page of the reply and of steps behind it; which of several chains they are is free
@@ -45,7 +42,7 @@ pub record Why (source words page page' : List ℕ) (r : Option ℕ) : Type 0 wh
 abbrev pub WhyVerifies : Type 0
 WhyVerifies =
     (source words book claim page page' : List ℕ) (r : Option ℕ) (end : ℕ)
-    → Why source words page page' r → Asks source words book claim → shown (said book claim) ≡ true → r ≡ Text end → Verified book (take end page')
+    → Why source words page page' r → Asks source words book claim → shown (said book claim) ≡ true → r ≡ Some end → Verified book (take end page')
 
 -- ---- what the inner functions promise each other
 

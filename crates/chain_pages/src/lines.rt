@@ -13,19 +13,13 @@ use chain_format::Step;
 use records::Record;
 use verdicts::Answer;
 
-// What a step can rest on: a record, or one of the rules.
-const GROUNDS: usize = 12;
-
 // How many numbers a step's line has behind its words.
 pub fn count(rule: u8) -> u8
     ensures { result ≡ on.count rule }
 {
     let counts = [1u8, 2, 2, 0, 0, 2, 2, 2, 2, 0, 1, 1];
-    let i = rule as usize;
-    if i < GROUNDS {
-        return counts[i];
-    }
-    0
+    let i = usize::from(rule);
+    if i < counts.len() { counts[i] } else { 0 }
 }
 
 // The words of a step's rule, and the byte behind them.
@@ -34,7 +28,7 @@ fn put_rule(page: &mut [u8], at: usize, rule: u8, last: u8) -> usize
 {
     let table =
         b"RECORD\nRULE a FROM\nRULE b FROM\nRULE c\nRULE f\nRULE a' FROM\nRULE b' FROM\nRULE c' FROM\nRULE d' FROM\nRULE e'\nRULE d RECORD\nRULE e RECORD\n";
-    pages::put_entry(page, at, table, rule as usize, last)
+    pages::put_entry(page, at, table, usize::from(rule), last)
 }
 
 // What a step rests on.

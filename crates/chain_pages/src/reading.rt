@@ -1,19 +1,18 @@
 // The page of `why` read back. This only guesses, from a few bytes of each line: what was guessed is held against the page.
 ghost use Rattle.std.specs.Prelude.{◌≡◌, ◌+◌, ◌*◌, ◌≤◌, ◌%◌, length, take, drop, get_or};
-ghost use Rattle.chain_pages.specs.Read.{value_of, place_in, kind_by, rule_in, origin_by, answer_by, steps_in};
-ghost use Rattle.chain_pages.specs.Found.{FoundAt, FoundIf, StepAt, HeadOf};
+ghost use Rattle.chain_pages.specs.Read.{place_in, kind_by, rule_in, origin_by, answer_by, steps_in};
+ghost use Rattle.chain_pages.specs.Found.{DigitsAt, FoundAt, FoundIf, StepAt, HeadOf};
 ghost use Rattle.chain_format.specs.Sizes.{CHAIN-BYTES, STEP-BYTES, STEPS};
 ghost use Rattle.numbers.specs.Sizes.{BYTE-VALUES};
 
 use chain_format::Step;
 use records::Record;
-use text::words::{Number, Sort};
+use text::words::{Sort, Word};
 use verdicts::Answer;
 
-// The next number, if there is one, and the place behind it.
-#[derive(Clone, Copy)]
+// A number, 0 where there is none, and the place behind it.
+#[derive(Clone, Copy, Debug, PartialEq, Eq)]
 pub struct Found {
-    pub some: bool,
     pub value: usize,
     pub next: usize,
 }
@@ -34,34 +33,27 @@ pub struct Head {
 fn byte(s: &[u8], i: usize) -> u8
     ensures { result ≡ get_or s.now i 0 }
 {
-    if i < s.len() {
-        return s[i];
-    }
-    0
+    s.get(i).copied().unwrap_or(0)
 }
 
-fn value_of(n: Number) -> usize
-    ensures { result ≡ value_of n }
-{
-    match n {
-        Number::Value(v) => v,
-        Number::NoNumber => 0,
-    }
-}
-
-// Passes over what is no digit.
-fn number_behind(s: &[u8], at: usize) -> Found
+// The next digits: what is no digit is passed over.
+fn digits_behind(s: &[u8], at: usize) -> Word
     requires { at ≤ length s.now }
-    ensures { FoundAt s.now at result.some result.value result.next }
+    ensures { DigitsAt s.now at result.from result.to }
 {
     let from = text::words::run_end(Sort::Gap, s, at);
     let to = text::words::run_end(Sort::Digit, s, from);
-    let number = text::words::read_number(&s[from..to]);
-    Found {
-        some: from < to,
-        value: value_of(number),
-        next: to,
-    }
+    Word { from, to }
+}
+
+// The next number.
+fn number_behind(s: &[u8], at: usize) -> Found
+    requires { at ≤ length s.now }
+    ensures { FoundAt s.now at result.value result.next }
+{
+    let Word { from, to } = digits_behind(s, at);
+    let value = text::words::read_number(&s[from..to]).unwrap_or(0);
+    Found { value, next: to }
 }
 
 // The next number where one is wanted.
@@ -70,11 +62,7 @@ fn number_if(n: usize, s: &[u8], at: usize) -> Found
     ensures { FoundIf n s.now at result.value result.next }
 {
     if n == 0 {
-        return Found {
-            some: false,
-            value: 0,
-            next: at,
-        };
+        return Found { value: 0, next: at };
     }
     number_behind(s, at)
 }
@@ -88,7 +76,7 @@ fn place_of(table: &[u8], x: u8) -> u8
             return numbers::low(i);
         }
     }
-    numbers::low(i)
+    numbers::low(table.len())
 }
 
 fn kind_by(x: u8) -> u8
@@ -118,7 +106,7 @@ fn read_step(s: &[u8], at: usize) -> StepFound
     let a = number_behind(s, at);
     let b = number_behind(s, a.next);
     let rule = rule_at(s, b.next);
-    let n = crate::lines::count(rule) as usize;
+    let n = usize::from(crate::lines::count(rule));
     let first = number_if(n, s, b.next);
     let second = number_if(n / 2, s, first.next);
     let step = Step {
@@ -141,37 +129,32 @@ pub fn read_steps(s: &[u8], at: usize, c: &mut [u8]) -> usize
     ensures { (result ≤ STEPS) × (take (STEP-BYTES * result) c.new ≡ steps_in STEPS (drop at s.now)) }
 {
     let mut at = at;
-    let mut n: usize = 0;
-    while n < chain_format::STEPS {
-        let i = number_behind(s, at);
-        if i.some {
-            let read = read_step(s, i.next);
-            chain_format::put_step(c, n, read.step);
-            at = read.next;
-            n += 1;
-        } else {
+    for n in 0..chain_format::STEPS {
+        let Word { from, to } = digits_behind(s, at);
+        if from == to {
             return n;
         }
+        let read = read_step(s, to);
+        chain_format::put_step(c, n, read.step);
+        at = read.next;
     }
-    n
+    chain_format::STEPS
 }
 
 fn origin_by(x: u8) -> u8
     ensures { result ≡ origin_by x }
 {
-    if x == b's' {
-        return 1;
-    }
-    0
+    if x == b's' { 1 } else { 0 }
 }
 
 fn answer_by(x: u8) -> Answer
     ensures { result ≡ answer_by x }
 {
     if x == b'F' {
-        return Answer::Follows;
+        Answer::Follows
+    } else {
+        Answer::Denied
     }
-    Answer::Denied
 }
 
 // The claim and its answer: `PART 5 2 sheets FOLLOWS`.
@@ -183,7 +166,7 @@ pub fn read_head(s: &[u8]) -> Head
     let b = number_behind(s, a.next);
     let next = b.next;
     let origin = origin_by(byte(s, next + 1));
-    let answer = answer_by(byte(s, next + 1 + 7 * origin as usize));
+    let answer = answer_by(byte(s, next + 1 + 7 * usize::from(origin)));
     let claim = Record {
         kind,
         origin,

@@ -1,5 +1,4 @@
 -- `comparing::pass_steps` meets its contract: the loop keeps that the first i lines are passed. Assumes nothing.
-use borrow.Author.Rules.{rules}
 use native.Mathlib.Omega.{arith}
 use Rattle.chain_format.specs.Step.{step_at}
 use Rattle.chain_pages.specs.StepLine.{step_line, step_lines}
@@ -18,7 +17,7 @@ pass_step-end-requires c = narrow _ (λ j. (c.shared_slice_known-2-1.given j).fi
 pub loop-i-preserved : goal.loop-i-preserved
 unfolding step_lines
 loop-i-preserved c =
-    (passed-line _ _ (λ j. step_line j (step_at c.args.c.now j)) c.loop-i.i _ _ _ (ap (step_line c.loop-i.i) c.step_at.ensures) c.loop-i.invariant c.pass_step-end.ensures, omega arith)
+    passed-line _ _ (λ j. step_line j (step_at c.args.c.now j)) c.loop-i.i _ _ _ (ap (step_line c.loop-i.i) c.step_at.ensures) c.loop-i.invariant c.pass_step-end.ensures
 
 pub returns : goal.returns
 returns c = passed-all _ _ c.args.c.now c.loop-i.i _ (omega arith) c.loop-i.invariant

@@ -1,6 +1,4 @@
 -- `comparing::pass_steps` meets its contract: the loop keeps that the first i lines are passed. Assumes nothing.
-use Prim.Native.Nat.{◌≤◌, ◌-◌}
-use Rattle.chain_format.specs.Step.{steps}
 use Rattle.chain_pages.specs.StepLine.{step_lines}
 use Rattle.chain_pages.specs.Begins.{Passed}
 use Rattle.chain_pages.proofs.comparing.pass_steps.Given as goal

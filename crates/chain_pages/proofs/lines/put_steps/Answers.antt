@@ -1,5 +1,4 @@
 -- `lines::put_steps` meets its contract: the loop keeps that the first i lines are put. Assumes nothing.
-use borrow.Author.Rules.{rules}
 use native.Mathlib.Omega.{arith}
 use mathlib.Core.Path.{ap}
 use Rattle.chain_format.specs.Step.{step_at}

@@ -1,6 +1,4 @@
 -- `lines::put_steps` meets its contract: the loop keeps that the first i lines are put. Assumes nothing.
-use Prim.Native.Nat.{◌≤◌, ◌-◌}
-use Rattle.chain_format.specs.Step.{steps}
 use Rattle.pages.specs.Put.{Put}
 use Rattle.chain_pages.specs.StepLine.{step_lines}
 use Rattle.chain_pages.proofs.lines.put_steps.Given as goal
