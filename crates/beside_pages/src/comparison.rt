@@ -173,7 +173,12 @@ fn write_second(
 }
 
 // Two books and the claims that both answer: 208,960 bytes always serve.
-pub fn write_comparison(source: &[u8], second: &[u8], claims: &[u8], page: &mut [u8]) -> Option<usize>
+pub fn write_comparison(
+    source: &[u8],
+    second: &[u8],
+    claims: &[u8],
+    page: &mut [u8],
+) -> Option<usize>
     ensures page { Page page.old (comparison_text source.now second.now claims.now) page.new result }
     ensures claims_len_bound { length (comparison_text source.now second.now claims.now) ≤ COMPARISON-ROOM }
 {

@@ -9,7 +9,6 @@ ghost use Rattle.beside_pages.specs.LogText.{entry_line, entry_lines, none, meas
 ghost use Rattle.beside_pages.specs.Rooms.{LOG-PAGE-ROOM};
 ghost use Rattle.text.specs.Rooms.{LOG-ROOM};
 
-
 use replicates::{Replicated, Window};
 use sentences::Whom;
 use text::Form;

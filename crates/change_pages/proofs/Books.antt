@@ -50,7 +50,7 @@ runs-size : (s : List ℕ) (n k : ℕ) → by_runs s n ≡ Ok k → k ≡ length
 unfolding by_runs
 runs-size s n k is = go (leb (shortest_clash unmarked n (entries s)) (records s)) is
   where
-    go : (b : Bool) → elim b [ true ↦ refused_at Contradiction (shortest_clash unmarked n (entries s) - 1) | false ↦ Ok (length (converted s)) ] ≡ Ok k
+    go : (b : Bool) → ◌≡◌ {A = Conversion} (elim b as (λ _. Conversion) [ true ↦ refused_at Contradiction (shortest_clash unmarked n (entries s) - 1) | false ↦ Ok (length (converted s)) ]) (Ok k)
         → k ≡ length (converted s)
     go true h = let z : ◌≡◌ {A = ℕ} 0 1 = cc in absurd (omega (arith, z))
     go false h = let z : length (converted s) ≡ k = cc in sym z
@@ -64,7 +64,7 @@ size_is : (s : List ℕ) (m k : ℕ) → conversion s m ≡ Ok k → k ≡ lengt
 unfolding conversion
 size_is s m k is = go (ltb m (length s)) is
   where
-    go : (b : Bool) → elim b [ true ↦ refused_at ShortBuffer 0 | false ↦ by_book s (former_check s) ] ≡ Ok k → k ≡ length (converted s)
+    go : (b : Bool) → ◌≡◌ {A = Conversion} (elim b as (λ _. Conversion) [ true ↦ refused_at ShortBuffer 0 | false ↦ by_book s (former_check s) ]) (Ok k) → k ≡ length (converted s)
     go true h = let z : ◌≡◌ {A = ℕ} 0 1 = cc in absurd (omega (arith, z))
     go false h = book-size s (former_check s) k h
 

@@ -11,15 +11,15 @@ use Rattle.change_pages.proofs.Books.{ragged, many, absent, left-run, standing-j
 use Rattle.change_pages.proofs.withdraw.Goals as goal
 
 pub returns-then-end-ne0 : goal.returns-then-end-ne0
-returns-then-end-ne0 c = made_none _ _ _ _ _ (made_as (refused-so _ _ _ _ (ragged _ _ c.if-end-ne0.true)) c.refuse.ensures)
+returns-then-end-ne0 c = made_none _ _ _ _ _ (made_as (refused-so _ _ _ _ (ragged _ _ c.if-end-ne0.true)) (rw c.at.ensures at c.refuse.ensures))
 
 pub returns-then-end-gt-RECORDS : goal.returns-then-end-gt-RECORDS
 returns-then-end-gt-RECORDS c =
-    made_none _ _ _ _ _ (made_as (refused-so _ _ _ _ (many _ _ c.if-end-ne0.false c.if-end-gt-RECORDS.true)) c.refuse-then-end-gt-RECORDS.ensures)
+    made_none _ _ _ _ _ (made_as (refused-so _ _ _ _ (many _ _ c.if-end-ne0.false c.if-end-gt-RECORDS.true)) (rw c.at-then-end-gt-RECORDS.ensures at c.refuse-then-end-gt-RECORDS.ensures))
 
 pub returns-then-end-i : goal.returns-then-end-i
 returns-then-end-i c =
-    made_none _ _ _ _ _ (made_as (refused-so _ _ _ _ (absent _ _ c.if-end-ne0.false c.if-end-gt-RECORDS.false c.if-end-i.true)) c.refuse-then-end-i.ensures)
+    made_none _ _ _ _ _ (made_as (refused-so _ _ _ _ (absent _ _ c.if-end-ne0.false c.if-end-gt-RECORDS.false c.if-end-i.true)) (rw c.at-then-end-i.ensures at c.refuse-then-end-i.ensures))
 
 pub overflow_mul-i : goal.overflow_mul-i
 overflow_mul-i c = omega (arith, c.if-end-i.false)

@@ -15,18 +15,18 @@ slice_bounds-put_entries-end c = sym (c.measure-made.auto.bytes ∙ length-repli
 pub put_entries-requires : goal.put_entries-requires
 put_entries-requires c = bytes-serve _ _ c.requires (c.measure-made.auto.bytes ∙ length-replicate {A = ℕ} 65538 0)
 
-pub shape_of-page-in-Refused : goal.shape_of-page-in-Refused
-shape_of-page-in-Refused c = c.put_refused.auto.page
+pub shape_of-page-in-Err : goal.shape_of-page-in-Err
+shape_of-page-in-Err c = c.put_refused.auto.page
 
-pub returns-in-Refused : goal.returns-in-Refused
-returns-in-Refused c =
+pub returns-in-Err : goal.returns-in-Err
+returns-in-Err c =
     told (λ a b. record { put = a; other_len_bound = b })
-    (refused _ _ _ _ _ _ c.measure-made.ensures _ _ c.in-Refused.is (c.put_refused.ensures.put, c.put_refused.ensures.other_len_bound))
+    (refused _ _ _ _ _ _ c.measure-made.ensures _ _ c.in-Err.is (c.put_refused.ensures.put, c.put_refused.ensures.other_len_bound))
 
-pub shape_of-page-in-Accepted : goal.shape_of-page-in-Accepted
-shape_of-page-in-Accepted c = c.put_entries.auto.page
+pub shape_of-page-in-Ok : goal.shape_of-page-in-Ok
+shape_of-page-in-Ok c = c.put_entries.auto.page
 
-pub returns-in-Accepted : goal.returns-in-Accepted
-returns-in-Accepted c =
+pub returns-in-Ok : goal.returns-in-Ok
+returns-in-Ok c =
     told (λ a b. record { put = a; other_len_bound = b })
-    (accepted _ _ _ _ _ _ c.measure-made.ensures _ _ _ c.in-Accepted.is (c.put_entries.ensures.put, c.put_entries.ensures.log_len_bound))
+    (accepted _ _ _ _ _ _ c.measure-made.ensures _ _ _ c.in-Ok.is (c.put_entries.ensures.put, c.put_entries.ensures.log_len_bound))

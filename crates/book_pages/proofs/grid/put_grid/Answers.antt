@@ -4,12 +4,12 @@ use Rattle.book_pages.proofs.GridTexts.{refused, refused-short, small, accepted,
 use Rattle.book_pages.proofs.grid.put_grid.Goals as goal
 
 pub put_lines-requires : goal.put_lines-requires
-put_lines-requires c = small _ c.args.source.now _ _ c.grid_of-made.ensures _ _ _ c.in-Accepted.is
+put_lines-requires c = small _ c.args.source.now _ _ c.grid_of-made.ensures _ _ _ c.in-Ok.is
 
-pub returns-in-Refused : goal.returns-in-Refused
-returns-in-Refused c =
-    record { put = put_as (refused _ _ _ _ c.grid_of-made.ensures _ _ c.in-Refused.is) c.put_refused_book.ensures.put; source_len_bound = refused-short _ _ _ _ c.grid_of-made.ensures _ _ c.in-Refused.is c.put_refused_book.ensures.book_len_bound }
+pub returns-in-Err : goal.returns-in-Err
+returns-in-Err c =
+    record { put = put_as (refused _ _ _ _ c.grid_of-made.ensures _ _ c.in-Err.is) c.put_refused_book.ensures.put; source_len_bound = refused-short _ _ _ _ c.grid_of-made.ensures _ _ c.in-Err.is c.put_refused_book.ensures.book_len_bound }
 
-pub returns-in-Accepted : goal.returns-in-Accepted
-returns-in-Accepted c =
-    record { put = put_as (accepted _ _ _ _ c.grid_of-made.ensures _ _ _ c.in-Accepted.is) c.put_lines.ensures; source_len_bound = accepted-short _ _ _ _ c.grid_of-made.ensures _ _ _ c.in-Accepted.is }
+pub returns-in-Ok : goal.returns-in-Ok
+returns-in-Ok c =
+    record { put = put_as (accepted _ _ _ _ c.grid_of-made.ensures _ _ _ c.in-Ok.is) c.put_lines.ensures; source_len_bound = accepted-short _ _ _ _ c.grid_of-made.ensures _ _ _ c.in-Ok.is }

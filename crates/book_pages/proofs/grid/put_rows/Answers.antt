@@ -15,9 +15,9 @@ pub loop-a-preserved : goal.loop-a-preserved
 unfolding rows row
 loop-a-preserved c =
     next-line _ c.loop-a.a c.loop-a.invariant
-        (chain (put_as (ap (λ x. x ∷ []) c.tens.ensures) c.put_byte-end.ensures)
-        (chain (chain (put_as (ap (λ x. x ∷ []) c.ones.ensures) c.put_byte-end-in-loop-a.ensures) c.put_byte-end-in-loop-a-2.ensures)
-        (chain c.put_signs-end.ensures c.put_byte-end-in-loop-a-3.ensures)))
+    (chain (put_as (ap (λ x. x ∷ []) c.tens.ensures) c.put_byte-end.ensures)
+    (chain (chain (put_as (ap (λ x. x ∷ []) c.ones.ensures) c.put_byte-end-in-loop-a.ensures) c.put_byte-end-in-loop-a-2.ensures)
+    (chain c.put_signs-end.ensures c.put_byte-end-in-loop-a-3.ensures)))
 
 pub returns : goal.returns
 returns c = put_as (ap (rows _ _) (omega arith)) c.loop-a.invariant
