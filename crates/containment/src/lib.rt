@@ -50,7 +50,8 @@ pub fn number_shadows(nodes: usize, marks: &[u8], shadows: &[u16], turned: &mut 
     let mut j: usize = 0;
     for q in 0..nodes {
         if parentheses::get(marks, q) {
-            turned[q] = turned[usize::from(shadows[j])];
+            let t = usize::from(shadows[j]);
+            turned[q] = turned[t];
             j += 1;
         }
     }

@@ -15,7 +15,7 @@ loop-q-preserved c =
       elim J.branch [ then-get w ↦ omega arith | else-get w ↦ omega arith ],
       J.auto.turned ∙ L.invariant.2,
       elim J.branch [
-        | then-get w ↦ rw (w.turned-is, w.j-is) (shadows-more c.args.nodes _ _ _ L.invariant.3 w.from.result c.requires.2 c.loop-q-test.true (omega (arith, L.auto.turned, c.requires.0, c.loop-q-test.true)) (sym c.get.ensures ∙ w.if-get.true) w.from.ensures)
+        | then-get w ↦ rw (w.turned-is, w.j-is) (shadows-more c.args.nodes _ _ _ L.invariant.3 w.from-t.result c.requires.2 c.loop-q-test.true (omega (arith, L.auto.turned, c.requires.0, c.loop-q-test.true)) (sym c.get.ensures ∙ w.if-get.true) w.from-t.ensures)
         | else-get w ↦ rw (w.turned-is, w.j-is) (shadows-node 0 _ _ _ L.invariant.3 (sym c.get.ensures ∙ w.if-get.false))
       ],
     )
