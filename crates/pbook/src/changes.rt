@@ -68,8 +68,8 @@ fn change_book(
     let made = crate::desk::change_page(which, &source[..n], words, &mut out, page);
     let written = made.written;
     let end = crate::desk::end_of(written);
-    if made.changed {
-        if changing::keep(rt, open.file, path, &out, made.bytes, open.mode) {
+    if let Some(bytes) = made.book {
+        if changing::keep(rt, open.file, path, &out, bytes, open.mode) {
             files::write_page(rt, page, end);
         }
         return;
@@ -129,8 +129,8 @@ fn export_book(
     let made = crate::desk::export_page(which, &source[..n], &mut out, page);
     let written = made.written;
     let end = crate::desk::end_of(written);
-    if made.changed {
-        if changing::keep_from(rt, open.file, target, &out, made.bytes, path) {
+    if let Some(bytes) = made.book {
+        if changing::keep_from(rt, open.file, target, &out, bytes, path) {
             files::write_page(rt, page, end);
         }
         return;

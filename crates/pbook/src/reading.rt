@@ -3,11 +3,10 @@ ghost use Rattle.io.specs.Counts.{IsPrefixLen};
 
 use commands::{BookPage, Session, WordsPage};
 use files::Got;
-use pages::Written;
 use text::Form;
 
 // Writes a page, or nothing of one that has no room.
-fn print(rt: &HostRuntime, written: Written, page: &[u8]) {
+fn print(rt: &HostRuntime, written: Option<usize>, page: &[u8]) {
     files::write_page(rt, page, crate::desk::end_of(written));
 }
 

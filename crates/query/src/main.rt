@@ -4,7 +4,6 @@
 ghost use Rattle.std.specs.Prelude.{◌≡◌, length};
 ghost use Rattle.io.specs.Counts.{IsPrefixLen};
 
-use pages::Written;
 use std::fs;
 use std::io::{Read, Write};
 
@@ -44,7 +43,7 @@ fn main(rt: HostRuntime) {
     let mut claims = [0u8; report::CLAIMS_READ];
     let asked = read_full(&mut rt.stdin(), &mut claims);
     let mut page = [0u8; report::PAGE_BYTES];
-    let Written::Text(end) = report::ask(&book[..taken], &claims[..asked], &mut page) else {
+    let Some(end) = report::ask(&book[..taken], &claims[..asked], &mut page) else {
         return;
     };
     if let Err(e) = rt.stdout().write_all(&page[..end]) {
