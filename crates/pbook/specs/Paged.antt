@@ -1,8 +1,6 @@
 -- The page of each command, and what its words are. Assumes nothing.
-use Rattle.std.specs.Prelude.{ℕ, ◌≤◌, List, length}
+use Rattle.std.specs.Prelude.{ℕ, ◌≤◌, Option, Some, None, List, length}
 use Rattle.pages.specs.Written.{Page}
-use Rattle.pages.specs.declared.Written.{Written}
-use Rattle.pages.specs.declared.Written.TheVariants.{Text, NoRoom}
 use Rattle.text.specs.declared.Form.{Form}
 use Rattle.text.specs.declared.Form.TheVariants.{Records, Claims, Log}
 use Rattle.book_pages.specs.AskText.{check_text, ask_text, ask_words_text}
@@ -25,31 +23,31 @@ use Rattle.commands.specs.declared.Export.{Export}
 use Rattle.commands.specs.declared.Export.TheVariants.{Pack, Convert}
 
 -- a text on the page; a page of `most` bytes has room for it
-pub record Served (text : List ℕ) (most : ℕ) (page page' : List ℕ) (r : Written) : Type 0 where
+pub record Served (text : List ℕ) (most : ℕ) (page page' : List ℕ) (r : Option ℕ) : Type 0 where
   pub page-is : Page page text page' r
   pub short : length text ≤ most
 
 -- of a session with a book: `asked` are the words, or the claims
-abbrev pub SessionPaged : Session → (source asked page page' : List ℕ) → Written → Type 0
+abbrev pub SessionPaged : Session → (source asked page page' : List ℕ) → Option ℕ → Type 0
 SessionPaged Check source asked page page' r = Served (check_text source) 142 page page' r
 SessionPaged AskWords source asked page page' r = Served (ask_words_text source asked) 175 page page' r
 SessionPaged AskInput source asked page page' r = Served (ask_text source asked) 135343 page page' r
 
 -- of a book alone
-abbrev pub BookPaged : BookPage → (source page page' : List ℕ) → Written → Type 0
+abbrev pub BookPaged : BookPage → (source page page' : List ℕ) → Option ℕ → Type 0
 BookPaged book.Why source page page' r = Clash source page page' r
 BookPaged book.Grid source page page' r = Served (grid_text source) 4498 page page' r
 BookPaged book.Show source page page' r = Served (show_text source) 229404 page page' r
 
 -- the kind of a list's claims, by document 01's numbers; a chain has none
-abbrev pub list_kind : WordsPage → ℕ
-list_kind words.Why = 0
-list_kind words.Inside = 1
-list_kind words.Touching = 3
-list_kind words.Apart = 2
+abbrev pub list_kind : WordsPage → Option ℕ
+list_kind words.Why = None
+list_kind words.Inside = Some 1
+list_kind words.Touching = Some 3
+list_kind words.Apart = Some 2
 
 -- of a book and the words behind it
-abbrev pub WordsPaged : WordsPage → (source words page page' : List ℕ) → Written → Type 0
+abbrev pub WordsPaged : WordsPage → (source words page page' : List ℕ) → Option ℕ → Type 0
 WordsPaged words.Why source said page page' r = Why source said page page' r
 WordsPaged words.Inside source said page page' r = Served (list_text source 1 said) 12300 page page' r
 WordsPaged words.Touching source said page page' r = Served (list_text source 3 said) 12300 page page' r
@@ -78,6 +76,6 @@ change_form Add = Records
 change_form Withdraw = Log
 
 -- where a page ends that is written; nothing of one that has no room
-abbrev pub end_of : Written → ℕ
-end_of (Text n) = n
-end_of NoRoom = 0
+abbrev pub end_of : Option ℕ → ℕ
+end_of (Some n) = n
+end_of None = 0

@@ -49,8 +49,8 @@ fn change_book(
     };
     let mut out = [0u8; change_pages::OUT_BYTES];
     let made = desk::change_page(which, book, words, &mut out, page);
-    if made.changed {
-        lock.keep(rt, &out[..made.bytes], mode)?;
+    if let Some(n) = made.book {
+        lock.keep(rt, &out[..n], mode)?;
     } else {
         lock.release(rt);
     }
@@ -88,8 +88,8 @@ fn export_book(
     };
     let mut out = [0u8; change_pages::OUT_BYTES];
     let made = desk::export_page(which, &source[..n], &mut out, page);
-    if made.changed {
-        lock.keep_from(rt, &out[..made.bytes], name)?;
+    if let Some(n) = made.book {
+        lock.keep_from(rt, &out[..n], name)?;
     } else {
         lock.release(rt);
     }

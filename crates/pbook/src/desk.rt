@@ -5,11 +5,10 @@ ghost use Rattle.pbook.specs.Paged.{SessionPaged, BookPaged, list_kind, WordsPag
 
 use change_pages::Changed;
 use commands::{BookPage, Change, Export, Session, WordsPage};
-use pages::Written;
 use text::Form;
 
 // What is asked are the words, or the claims of standard input.
-pub fn session_page(which: Session, source: &[u8], asked: &[u8], page: &mut [u8]) -> Written
+pub fn session_page(which: Session, source: &[u8], asked: &[u8], page: &mut [u8]) -> Option<usize>
     ensures { SessionPaged which source.now asked.now page.old page.new result }
 {
     match which {
@@ -19,7 +18,7 @@ pub fn session_page(which: Session, source: &[u8], asked: &[u8], page: &mut [u8]
     }
 }
 
-pub fn book_page(which: BookPage, source: &[u8], page: &mut [u8]) -> Written
+pub fn book_page(which: BookPage, source: &[u8], page: &mut [u8]) -> Option<usize>
     ensures { BookPaged which source.now page.old page.new result }
 {
     match which {
@@ -29,26 +28,25 @@ pub fn book_page(which: BookPage, source: &[u8], page: &mut [u8]) -> Written
     }
 }
 
-// The kind of a list's claims, and 0 for a chain.
-fn list_kind(which: WordsPage) -> usize
+// The kind of a list's claims; a chain has none.
+fn list_kind(which: WordsPage) -> Option<u8>
     ensures { result ≡ list_kind which }
 {
     match which {
-        WordsPage::Why => 0,
-        WordsPage::Inside => records::PART as usize,
-        WordsPage::Touching => records::MEETS as usize,
-        WordsPage::Apart => records::APART as usize,
+        WordsPage::Why => None,
+        WordsPage::Inside => Some(records::PART),
+        WordsPage::Touching => Some(records::MEETS),
+        WordsPage::Apart => Some(records::APART),
     }
 }
 
-pub fn words_page(which: WordsPage, source: &[u8], words: &[u8], page: &mut [u8]) -> Written
+pub fn words_page(which: WordsPage, source: &[u8], words: &[u8], page: &mut [u8]) -> Option<usize>
     ensures { WordsPaged which source.now words.now page.old page.new result }
 {
-    let kind = list_kind(which);
-    if kind == 0 {
+    let Some(kind) = list_kind(which) else {
         return chain_pages::write_why(source, words, page);
-    }
-    book_pages::listing::write_list(source, kind, words, page)
+    };
+    book_pages::listing::write_list(source, usize::from(kind), words, page)
 }
 
 // What the words of a page are.
@@ -103,11 +101,8 @@ pub fn export_page(
 }
 
 // Where a page ends. Each page here has the room that always serves.
-pub fn end_of(written: Written) -> usize
+pub fn end_of(written: Option<usize>) -> usize
     ensures { result ≡ end_of written }
 {
-    match written {
-        Written::Text(n) => n,
-        Written::NoRoom => 0,
-    }
+    written.unwrap_or(0)
 }

@@ -8,11 +8,10 @@ use lib.ListN.{drop, take-append-drop}
 use borrow.Author.Tests.{lt-ltb, le-ltb}
 use Rattle.lists.specs.Front.{front}
 use Rattle.pages.specs.Written.{Page}
-use Rattle.pages.specs.declared.Written.{Written}
-use Rattle.pages.specs.declared.Written.TheVariants.{Text, NoRoom}
+use Rattle.std.specs.Prelude.{Option, Some, None, Result}
 use Rattle.text.specs.declared.Form.{Form}
 use Rattle.text.specs.declared.Form.TheVariants.{Records, Claims, Log}
-use Rattle.text.specs.declared.reading.Read.{Read}
+use Rattle.text.specs.declared.reading.Unread.{Unread}
 use Rattle.text.specs.Text.{read_text}
 use Rattle.text.specs.Lent.{into, leaves}
 use Rattle.piecebook.specs.Texts.{Told, ReadAs, Reads, Handed, Shows}
@@ -20,9 +19,9 @@ use Rattle.piecebook.specs.declared.texts.PiecebookReading.{PiecebookReading}
 use Rattle.piecebook.specs.declared.texts.PiecebookShown.{PiecebookShown}
 
 pub read-so :
-    (form : Form) (text out : List ℕ) (o : Read) (out' : List ℕ) (r : PiecebookReading)
+    (form : Form) (text out : List ℕ) (o : Result ℕ Unread) (out' : List ℕ) (r : PiecebookReading)
     → (o ≡ into form (on.length out) (read_text form text)) × (out' ≡ leaves form (read_text form text) out) → Told o r → ReadAs form text out r out'
-read-so form text out o out' r p t = record { told = subst (λ (x : Read). Told x r) p.0 t; left_is = p.1 }
+read-so form text out o out' r p t = record { told = subst (λ (x : Result ℕ Unread). Told x r) p.0 t; left_is = p.1 }
 
 -- ## the forms by their numbers
 
@@ -46,9 +45,9 @@ reads_none (suc (suc (suc n))) text out a b c = record { number_is = refl; line-
 -- ## a shown page
 
 pub shows-so :
-    (text page page' : List ℕ) (w : Written) (r : PiecebookShown) → on.length page' ≡ on.length page → Page page text page' w → Handed w r → Shows text page r page'
+    (text page page' : List ℕ) (w : Option ℕ) (r : PiecebookShown) → on.length page' ≡ on.length page → Page page text page' w → Handed w r → Shows text page r page'
 unfolding front
-shows-so text page page' (Text e) r k p l =
+shows-so text page page' (Some e) r k p l =
     let m : on.length text ≡ e = ap on.length (sym p.first) ∙ sym p.counts.1 in
     let h : on.length text ≤ on.length page = omega (arith, m, k, p.counts.0) in
     record {
@@ -58,7 +57,7 @@ shows-so text page page' (Text e) r k p l =
           λ z. sym (take-append-drop e page') ∙ ap (λ (x : List ℕ). x ++ drop e page') p.first ∙ ap (λ (x : List ℕ). text ++ x) p.rest
           ∙ ap (λ (i : ℕ). text ++ drop i page) (sym m);
     }
-shows-so text page page' NoRoom r k p l =
+shows-so text page page' None r k p l =
     record {
       number_is = rw (lt-ltb (on.length page) (on.length text) p) l.number_is;
       length-is = rw (lt-ltb (on.length page) (on.length text) p) l.length-is;

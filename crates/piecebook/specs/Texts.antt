@@ -1,14 +1,12 @@
 -- What the calls of include/piecebook.h on text hand back: the promises of `text`, with document 03's numbers. Assumes nothing.
-use Rattle.std.specs.Prelude.{◌≡◌, List, ℕ, zero, suc, ltb}
+use Rattle.std.specs.Prelude.{◌≡◌, List, ℕ, zero, suc, Option, Some, None, Result, Ok, Err, ltb}
 use Rattle.std.proofs.Math.ListN as on
 use Rattle.lists.specs.Front.{front}
 use Rattle.lists.specs.Tally.{num}
-use Rattle.pages.specs.declared.Written.{Written}
-use Rattle.pages.specs.declared.Written.TheVariants.{Text, NoRoom}
 use Rattle.text.specs.declared.Form.{Form}
 use Rattle.text.specs.declared.Form.TheVariants.{Records, Claims, Log}
-use Rattle.text.specs.declared.reading.Read.{Read}
-use Rattle.text.specs.declared.reading.Read.TheVariants.{Whole, Unread, Short}
+use Rattle.text.specs.declared.reading.Unread.{Unread}
+use Rattle.text.specs.declared.reading.Unread.TheVariants.{BadLine, ShortBuffer}
 use Rattle.text.specs.Reason.{reason_number}
 use Rattle.text.specs.Text.{read_text}
 use Rattle.text.specs.Lent.{into, leaves}
@@ -17,22 +15,22 @@ use Rattle.piecebook.specs.declared.texts.PiecebookReading.{PiecebookReading}
 use Rattle.piecebook.specs.declared.texts.PiecebookShown.{PiecebookShown}
 
 -- document 03's number of the reason; 6 where too few bytes are lent
-abbrev pub number : Read → ℕ
-number (Whole n) = 0
-number (Unread line reason) = reason_number reason
-number Short = 6
+abbrev pub number : Result ℕ Unread → ℕ
+number (Ok n) = 0
+number (Err (BadLine line reason)) = reason_number reason
+number (Err ShortBuffer) = 6
 
-abbrev pub bad_line : Read → ℕ
-bad_line (Whole n) = 0
-bad_line (Unread line reason) = line
-bad_line Short = 0
+abbrev pub bad_line : Result ℕ Unread → ℕ
+bad_line (Ok n) = 0
+bad_line (Err (BadLine line reason)) = line
+bad_line (Err ShortBuffer) = 0
 
-abbrev pub size : Read → ℕ
-size (Whole n) = n
-size (Unread line reason) = 0
-size Short = 0
+abbrev pub size : Result ℕ Unread → ℕ
+size (Ok n) = n
+size (Err (BadLine line reason)) = 0
+size (Err ShortBuffer) = 0
 
-pub record Told (o : Read) (r : PiecebookReading) : Type 0 where
+pub record Told (o : Result ℕ Unread) (r : PiecebookReading) : Type 0 where
   pub number_is : r.number ≡ number o
   pub line-is : r.line ≡ bad_line o
   pub length-is : r.length ≡ size o
@@ -57,15 +55,15 @@ Reads (suc (suc zero)) text out r out' = ReadAs Log text out r out'
 Reads (suc (suc (suc n))) text out r out' = NotRead out r out'
 
 -- a page that is written, or is too short
-abbrev pub shortness : Written → ℕ
-shortness (Text end) = 0
-shortness NoRoom = 1
+abbrev pub shortness : Option ℕ → ℕ
+shortness (Some end) = 0
+shortness None = 1
 
-abbrev pub written : Written → ℕ
-written (Text end) = end
-written NoRoom = 0
+abbrev pub written : Option ℕ → ℕ
+written (Some end) = end
+written None = 0
 
-pub record Handed (w : Written) (r : PiecebookShown) : Type 0 where
+pub record Handed (w : Option ℕ) (r : PiecebookShown) : Type 0 where
   pub number_is : r.number ≡ shortness w
   pub length-is : r.length ≡ written w
 

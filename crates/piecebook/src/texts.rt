@@ -4,9 +4,8 @@ ghost use Rattle.text.specs.Place.{place_line};
 ghost use Rattle.text.specs.Shown.{show_book, show_claims};
 ghost use Rattle.piecebook.specs.Texts.{Told, ReadAs, Reads, Handed, Shows};
 
-use pages::Written;
 use text::Form;
-use text::reading::Read;
+use text::reading::Unread;
 
 // The numbers behind those of the reasons: a page that is too short, a form that is none.
 const SHORT_PAGE: usize = 6;
@@ -22,21 +21,21 @@ pub struct PiecebookReading {
     pub length: usize,
 }
 
-pub fn reading_of(read: Read) -> PiecebookReading
+pub fn reading_of(read: Result<usize, Unread>) -> PiecebookReading
     ensures { Told read result }
 {
     match read {
-        Read::Whole(length) => PiecebookReading {
+        Ok(length) => PiecebookReading {
             number: 0,
             line: 0,
             length,
         },
-        Read::Unread(line, reason) => PiecebookReading {
-            number: numbers::wide(text::reason_number(reason)),
+        Err(Unread::BadLine(line, reason)) => PiecebookReading {
+            number: usize::from(text::reason_number(reason)),
             line,
             length: 0,
         },
-        Read::Short => PiecebookReading {
+        Err(Unread::ShortBuffer) => PiecebookReading {
             number: SHORT_PAGE,
             line: 0,
             length: 0,
@@ -83,12 +82,12 @@ pub struct PiecebookShown {
     pub length: usize,
 }
 
-pub fn shown_of(written: Written) -> PiecebookShown
+pub fn shown_of(written: Option<usize>) -> PiecebookShown
     ensures { Handed written result }
 {
     match written {
-        Written::Text(length) => PiecebookShown { number: 0, length },
-        Written::NoRoom => PiecebookShown {
+        Some(length) => PiecebookShown { number: 0, length },
+        None => PiecebookShown {
             number: 1,
             length: 0,
         },
