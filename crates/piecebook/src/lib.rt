@@ -244,9 +244,10 @@ pub extern "C" fn piecebook_start_with(
     let settled = working::start(area, e, d, t);
     let begun = settled.working;
     let outcome = settled.outcome;
-    if outcome.is_ok() {
-        *state = [begun.records, begun.pieces];
-    }
+    let Ok(_) = outcome else {
+        return told(outcome, 0);
+    };
+    *state = [begun.records, begun.pieces];
     told(outcome, 0)
 }
 

@@ -4,4 +4,4 @@ use Rattle.piecebook.proofs.OpenBooks.{answered}
 use Rattle.piecebook.proofs.ask_of.Goals as goal
 
 pub returns : goal.returns
-returns c = answered _ _ _ _ _ _ _ c.state_of.ensures c.wide.ensures.0 c.told.ensures c.ask_of-asked.ensures
+returns c = answered _ _ _ _ _ _ _ c.state_of.ensures c.from.ensures c.told.ensures c.ask_of-asked.ensures

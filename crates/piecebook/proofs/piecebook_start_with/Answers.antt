@@ -14,4 +14,4 @@ pub shape_of-area : goal.shape_of-area
 shape_of-area c = c.start-settled.auto.area
 
 pub returns : goal.returns
-returns c = began _ _ _ _ _ _ _ _ c.in-Accepted.is c.start-settled.ensures c.told-2.ensures refl
+returns c = began _ _ _ _ _ _ _ _ c.in-Ok.is c.start-settled.ensures c.told-2.ensures refl

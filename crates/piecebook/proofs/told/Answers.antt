@@ -3,5 +3,5 @@ use mathlib.Core.Path.{◌∙◌}
 use Rattle.piecebook.proofs.OpenBooks.{replied-refused}
 use Rattle.piecebook.proofs.told.Goals as goal
 
-pub returns-in-Refused : goal.returns-in-Refused
-returns-in-Refused c = replied-refused _ _ _ _ _ c.in-Refused.is (c.wide.ensures.0 ∙ c.refusal_number.ensures)
+pub returns-in-Err : goal.returns-in-Err
+returns-in-Err c = replied-refused _ _ _ _ _ c.in-Err.is (c.from.ensures ∙ c.refusal_number.ensures)

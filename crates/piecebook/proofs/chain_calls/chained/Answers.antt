@@ -3,8 +3,8 @@ use mathlib.Core.Path.{◌∙◌}
 use Rattle.piecebook.proofs.Chaining.{replied-answer, replied-refused}
 use Rattle.piecebook.proofs.chain_calls.chained.Goals as goal
 
-pub returns-in-Answered : goal.returns-in-Answered
-returns-in-Answered c = replied-answer _ _ _ _ c.in-Answered.is (c.wide.ensures.0 ∙ c.from.ensures)
+pub returns-in-Ok : goal.returns-in-Ok
+returns-in-Ok c = replied-answer _ _ _ _ c.in-Ok.is (c.from-in-Ok.ensures ∙ c.from.ensures)
 
-pub returns-in-Refused : goal.returns-in-Refused
-returns-in-Refused c = replied-refused _ _ _ _ _ c.in-Refused.is (c.wide-in-Refused.ensures.0 ∙ c.refusal_number.ensures)
+pub returns-in-Err : goal.returns-in-Err
+returns-in-Err c = replied-refused _ _ _ _ _ c.in-Err.is (c.from-in-Err.ensures ∙ c.refusal_number.ensures)
