@@ -9,9 +9,6 @@ use Rattle.convert.proofs.drop_trays.Goals as goal
 pub loop-i-init : goal.loop-i-init
 loop-i-init c = (omega arith, written_none no_tray _ _)
 
-pub copy_where-at-requires : goal.copy_where-at-requires
-copy_where-at-requires c = (omega arith, omega arith)
-
 pub loop-i-preserved : goal.loop-i-preserved
 loop-i-preserved c =
     let w = written-more no_tray _ _ _ _ _ _ _ _ _ c.loop-i.invariant.1 c.record_at-r.ensures refl c.copy_where-at.ensures.0 c.copy_where-at.ensures.1 in

@@ -1,6 +1,6 @@
 -- `certain::list_certain` meets its contract: the invariant is that the pieces below x are listed. Assumes nothing.
 use Prim.Native.Nat.{◌+◌}
-use mathlib.Core.Path.{ap, ◌≡◌, sym, ◌∙◌}
+use mathlib.Core.Path.{ap, sym, ◌∙◌}
 use native.Mathlib.Omega.{arith}
 use native.Mathlib.Numerals.{add-one}
 use borrow.Author.Rules.{rules}
@@ -28,11 +28,3 @@ loop-x-preserved c =
           let e = passing-miss p L.x (sym c.is_certain.ensures ∙ w.if-is_certain.false) in
           (omega arith, rw (w.list-is, w.count-is) (listed_same (L.x + 1) (ap (passing p) (add-one L.x) ∙ e) L.invariant.1))
     ]
-
-pub returns : goal.returns
-returns c =
-    let A = c.args in
-    let L = c.loop-x in
-    let e : A.n ≡ L.x = omega arith in
-    let R = listed_same A.n (ap (passing (told (void_of A.voids.now) A.d.now A.t.now A.m.now A.kind A.g)) e) L.invariant.1 in
-    (R.list, R.counted)

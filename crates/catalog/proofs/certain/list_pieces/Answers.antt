@@ -1,16 +1,7 @@
 -- `certain::list_pieces` meets its contract. Assumes nothing.
-use native.Mathlib.Omega.{arith}
-use borrow.Author.Rules.{rules}
-use Rattle.closure.proofs.Holding.{below-2048}
 use Rattle.catalog.proofs.Telling.{list-certain}
 use Rattle.catalog.proofs.certain.list_pieces.Goals as goal
 use Rattle.catalog.proofs.certain.list_pieces.Goals.{then-kind-eq-APART, else-kind-eq-APART}
-
-pub part_from-requires : goal.part_from-requires
-part_from-requires c =
-    let P = c.requires in
-    let h = P.0.fits in
-    (search rules, P.5.sized, omega arith, below-2048 P.0)
 
 pub returns : goal.returns
 returns c =
