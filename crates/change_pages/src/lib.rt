@@ -149,7 +149,7 @@ fn convert_book(page: &mut [u8], source: &[u8], book: &[u8], out: &mut [u8; OUT_
     ensures { Made (by_conversion source.now book.now (conversion book.now OUT-BYTES)) out.new page.old page.new result }
 {
     match convert(book, out) {
-        Err(why) => refuse(page, why, source),
+        Err(refused) => refuse(page, refused, source),
         Ok(n) => accept(page, out, n),
     }
 }

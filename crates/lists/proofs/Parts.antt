@@ -1,11 +1,11 @@
 -- Parts of a list: what is left at a place, its first member, one between two others. Assumes nothing.
-use Prim.Native.Nat.{ℕ, ◌+◌, ◌-◌, ◌≤◌, ◌<◌}
+use Prim.Native.Nat.{ℕ, ◌+◌, ◌<◌}
 use mathlib.Core.Path.{◌≡◌, refl, sym, ap, ap₂, ◌∙◌}
 use mathlib.Core.List.{List, [], ◌∷◌, ◌++◌, append_assoc}
 use native.Mathlib.Numerals.{add-one}
 use native.Mathlib.Omega.{arith}
-use lib.ListN.{length, take, drop, get_or, length-take, length-drop}
-use lib.Seq.{drop-cons, get_or-drop, get_or-take, take-append_seam, drop-append_seam}
+use lib.ListN.{length, take, drop, get_or}
+use lib.Seq.{drop-cons, take-append_seam, drop-append_seam}
 
 module _ {A : Type 0} where
   -- what is left at a place: its member, and what is left behind it
@@ -25,12 +25,3 @@ module _ {A : Type 0} where
       ap₂ (λ (x : List A) (k : ℕ). take (length b) (drop k x)) (append_assoc a b c) (sym e)
       ∙ ap (take (length b)) (drop-append_seam a (b ++ c))
       ∙ take-append_seam b c
-
-  -- an element of the part from a up to before b stands in the list, and the other way round
-  pub part-in : (l : List A) (a b x : ℕ) (d : A) → x < length (take (b - a) (drop a l)) → (a + x < b) × (get_or (take (b - a) (drop a l)) x d ≡ get_or l (a + x) d)
-  part-in l a b x d h =
-      let n : x < b - a = omega (arith, length-take (b - a) (drop a l)) in
-      (omega arith, get_or-take (b - a) (drop a l) x d n ∙ get_or-drop a l x d)
-
-  pub in_part : (l : List A) (a b j : ℕ) → a ≤ j → j < b → b ≤ length l → j - a < length (take (b - a) (drop a l))
-  in_part l a b j h k e = omega (arith, length-take (b - a) (drop a l), length-drop a l)

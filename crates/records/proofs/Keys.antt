@@ -1,17 +1,16 @@
 -- Two records are the same byte for byte just where their keys are equal. Assumes nothing.
-use Prim.Native.Nat.{ℕ, zero, suc, ◌+◌, ◌-◌, ◌*◌, ◌≤◌, ◌<◌}
+use Prim.Native.Nat.{ℕ, zero, suc, ◌+◌, ◌*◌, ◌<◌}
 use mathlib.Core.Path.{◌≡◌, refl, sym, ap, ◌∙◌}
 use mathlib.Core.Bool.{true, false}
 use mathlib.Core.List.{List}
 use native.Mathlib.Nat.{add-zero}
 use native.Mathlib.Omega.{arith}
-use borrow.Author.Tests.{eqb-true, eqb-false, eq-eqb, ltb-true, ltb-false}
+use borrow.Author.Tests.{eqb-true, eq-eqb}
 use borrow.Author.Count.{below_more}
-use lib.Dec.{eqb, ltb}
-use lib.ListN.{length, get_or, set, take, drop}
+use lib.Dec.{eqb}
+use lib.ListN.{length, get_or, set}
 use lib.Seq.{get_or-set_same, get_or-set_other}
-use Rattle.lists.proofs.Bools.{Known, is_true, is_false, known, and_both, both-and, not-true}
-use Rattle.lists.proofs.Parts.{part-in, in_part}
+use Rattle.lists.proofs.Bools.{and_both, both-and, not-true}
 use Rattle.lists.proofs.Anys.{below-find, below-hit}
 use Rattle.records.specs.declared.Record.{Record}
 use Rattle.records.specs.Record.{record_at}
@@ -77,19 +76,3 @@ equal-bytes s i j h e =
     let a = low-high _ _ _ _ (h (6 * i + 2)) (h (6 * j + 2)) (ap (λ (r : Record). r.a) e) in
     let b = low-high _ _ _ _ (h (6 * i + 4)) (h (6 * j + 4)) (ap (λ (r : Record). r.b) e) in
     key-same s (6 * i) (6 * j) h (omega (arith, k, t, a, b))
-
--- a key that stands neither before a place nor in the part from there on stands nowhere before its end
-pub none-before :
-    (K : List ℕ) (a b key : ℕ) → ((q : ℕ) → q < a → get_or K q 0 ≡ key → ⊥) → b ≤ length K
-    → ((x : ℕ) → x < length (take (b - a) (drop a K)) → (d : ℕ) → eqb (get_or (take (b - a) (drop a K)) x d) key ≡ false)
-    → (j : ℕ) → j < b → get_or K j 0 ≡ key → ⊥
-none-before K a b key before e part j h q = pick (known (ltb j a))
-  where
-    pick : Known (ltb j a) → ⊥
-    pick (is_true t) = before j (ltb-true j a t) q
-    pick (is_false t) =
-        let l : a ≤ j = ltb-false j a t in
-        let i : j - a < length (take (b - a) (drop a K)) = in_part K a b j l h e in
-        let p = part-in K a b (j - a) 0 i in
-        let r : a + (j - a) ≡ j = omega arith in
-        eqb-false _ _ (part (j - a) i 0) (p.1 ∙ rw r q)

@@ -152,20 +152,23 @@ fn check_records_by(
     ensures { result ≡ records_check edition book.now n }
 {
     let mut pieces: usize = 1;
-    for i in 0..n {
-        let record = crate::record_at(book, i);
-        if let Err(refusal) = check_form(edition, record) {
-            return Err(refusal.at(i));
+    'records: {
+        for i in 0..n {
+            let record = crate::record_at(book, i);
+            if let Err(refusal) = check_form(edition, record) {
+                break 'records Err(refusal.at(i));
+            }
+            let key = key_at(book, i);
+            keys[i] = key;
+            for j in first_suspect(note(seen, mask, key), i)..i {
+                if keys[j] == key {
+                    break 'records Err(Refusal::Repeat.at(i));
+                }
+            }
+            pieces = pieces.max(crate::largest_named(record) + 1);
         }
-        let key = key_at(book, i);
-        keys[i] = key;
-        let start = first_suspect(note(seen, mask, key), i);
-        if keys[start..i].contains(&key) {
-            return Err(Refusal::Repeat.at(i));
-        }
-        pieces = pieces.max(crate::largest_named(record) + 1);
+        Ok(pieces)
     }
-    Ok(pieces)
 }
 
 // The same with a list for so many keys and a filter of so many words of its own.

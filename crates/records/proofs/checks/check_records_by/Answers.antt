@@ -3,7 +3,6 @@ use mathlib.Core.Path.{◌≡◌, refl, sym, ap, ap₂, ◌∙◌}
 use Prim.Native.Nat.{ℕ, max, ◌<◌, ◌+◌, ◌*◌}
 use native.Mathlib.Omega.{arith}
 use borrow.Author.Count.{below_none}
-use borrow.Author.Tests.{eqb-true}
 use lib.ListN.{get_or, set, length-set}
 use Rattle.std.specs.Prelude.{Ok}
 use Rattle.records.specs.Pieces.{largest}
@@ -13,8 +12,7 @@ use Rattle.records.specs.Key.{key_at}
 use Rattle.records.proofs.Rows.{formed}
 use Rattle.records.proofs.Fits.{fits-named}
 use Rattle.records.proofs.Books.{at_first, accepts, refuses, goes_on, form-unfit, form-repeats, form-new, pieces_none, pieces_more}
-use Rattle.lists.proofs.Parts.{part-in}
-use Rattle.records.proofs.Keys.{repeated, new, keyed-more, none-before}
+use Rattle.records.proofs.Keys.{repeated, new, keyed-more}
 use Rattle.records.proofs.Filters.{met-more, spared}
 use Rattle.records.proofs.checks.check_records_by.Goals as goal
 
@@ -26,19 +24,24 @@ returns-in-Err c =
     rw c.at.ensures (refuses _ _ _ c.loop-i.i c.loop-i.invariant.left c.loop-i-test.true
     (form-unfit _ _ _ _ (sym (ap (form_finding _) c.record_at-record.ensures) ∙ sym c.check_form.ensures ∙ c.in-Err.is)))
 
-pub returns-then-contains : goal.returns-then-contains
-returns-then-contains c =
+pub loop-j-init : goal.loop-j-init
+loop-j-init c =
+    let keyed : (p : ℕ) → p < c.loop-i.i + 1
+    → get_or (set c.loop-i.keys c.loop-i.i c.key_at-key.result) p 0
+    ≡ key_at c.args.book.now (6 * p) = keyed-more c.args.book.now c.loop-i.keys c.loop-i.i _ (omega arith) c.key_at-key.ensures c.loop-i.invariant.keyed in
+    (spared _ c.args.book.now (set c.loop-i.keys c.loop-i.i c.key_at-key.result) _ _ _ _ _ _ c.note.ensures c.first_suspect-j.ensures c.loop-i.invariant.met (λ p h. keyed p (omega arith))).1
+
+pub returns-then-keys-j : goal.returns-then-keys-j
+returns-then-keys-j c =
     let fit : form_finding c.args.edition (record_at c.args.book.now c.loop-i.i) ≡ Ok tt = sym (ap (form_finding _) c.record_at-record.ensures) ∙ sym c.check_form.ensures ∙ c.in_default.is in
     let keyed : (p : ℕ) → p < c.loop-i.i + 1
     → get_or (set c.loop-i.keys c.loop-i.i c.key_at-key.result) p 0
     ≡ key_at c.args.book.now (6 * p) = keyed-more c.args.book.now c.loop-i.keys c.loop-i.i _ (omega arith) c.key_at-key.ensures c.loop-i.invariant.keyed in
-    let hit = c.if-contains.ensures.cases in
-    let j = part-in (set c.loop-i.keys c.loop-i.i c.key_at-key.result) c.first_suspect-start.result c.loop-i.i hit.0 0 hit.1 in
-    rw c.at-then-contains.ensures
+    rw c.at-then-keys-j.ensures
     (refuses _ _ _ c.loop-i.i c.loop-i.invariant.left c.loop-i-test.true
     (form-repeats _ _ _ fit
-    (repeated _ _ (λ p. (c.shared_slice_known-1.given p).fits) _ j.0
-    (sym c.key_at-key.ensures ∙ sym (sym j.1 ∙ eqb-true _ _ (hit.2 0)) ∙ keyed _ (omega (arith, j.0))))))
+    (repeated _ _ (λ p. (c.shared_slice_known-1.given p).fits) c.loop-j.j c.loop-j-test.true
+    (sym c.key_at-key.ensures ∙ sym c.if-keys-j.true ∙ keyed c.loop-j.j (omega arith)))))
 
 pub overflow_add-largest_named : goal.overflow_add-largest_named
 overflow_add-largest_named c =
@@ -55,16 +58,14 @@ loop-i-preserved c =
     ≡ key_at c.args.book.now (6 * p) = keyed-more c.args.book.now c.loop-i.keys c.loop-i.i _ (omega arith) c.key_at-key.ensures c.loop-i.invariant.keyed in
     let named : c.largest_named.result
     ≡ largest (record_at c.args.book.now c.loop-i.i) = c.largest_named.ensures ∙ ap largest c.record_at-record.ensures in
-    let same = length-set c.loop-i.keys c.loop-i.i c.key_at-key.result in
-    let before = spared _ c.args.book.now (set c.loop-i.keys c.loop-i.i c.key_at-key.result) _ _ _ _ _ _ c.note.ensures c.first_suspect-start.ensures c.loop-i.invariant.met (λ p h. keyed p (omega arith)) in
     record {
-      same = same ∙ c.loop-i.invariant.same;
+      same = length-set c.loop-i.keys c.loop-i.i c.key_at-key.result ∙ c.loop-i.invariant.same;
       counted = c.max-pieces.ensures ∙ ap₂ (λ (x y : ℕ). max x (y + 1)) c.loop-i.invariant.counted named ∙ sym (pieces_more _ _);
       keyed = keyed;
       met = met-more _ c.args.book.now _ _ _ _ _ c.key_at-key.ensures c.note.ensures c.loop-i.invariant.met;
       left = goes_on _ _ _ _ c.loop-i.invariant.left c.loop-i-test.true
-          (form-new _ _ _ fit (new _ _ (λ j g e. none-before (set c.loop-i.keys c.loop-i.i c.key_at-key.result) c.first_suspect-start.result c.loop-i.i c.key_at-key.result before.1 (omega arith) (λ x h d. c.if-contains.ensures.cases x d (omega arith) h) j g (keyed j (omega arith) ∙ e ∙ sym c.key_at-key.ensures))));
+          (form-new _ _ _ fit (new _ _ (λ j g e. c.loop-j.invariant j (omega arith) (keyed j (omega arith) ∙ e ∙ sym c.key_at-key.ensures))));
     }
 
-pub returns : goal.returns
-returns c = accepts _ _ _ _ c.loop-i.invariant.left (omega arith) (omega arith) c.loop-i.invariant.counted
+pub returns-after-loop-i : goal.returns-after-loop-i
+returns-after-loop-i c = accepts _ _ _ _ c.loop-i.invariant.left (omega arith) (omega arith) c.loop-i.invariant.counted

@@ -1,5 +1,5 @@
--- `checks::check_records_by` meets its contract: the loop keeps what is left of the scan, the keys of the records passed, that the bit of each
--- is set, and their piece count. Assumes nothing.
+-- `checks::check_records_by` meets its contract: the outer loop keeps what is left of the scan, the keys of the records passed, that the bit of each
+-- is set, and their piece count; the inner loop keeps that no earlier key passed is the key at hand. Assumes nothing.
 use Rattle.records.specs.Pieces.{pieces_up_to}
 use mathlib.Core.Path.{◌≡◌}
 use Prim.Native.Nat.{ℕ, ◌<◌, ◌*◌}
@@ -17,3 +17,6 @@ invariant-loop-i l = record {
   met : AllMet l.mask l.book l.seen l.i;
   left : Left l.edition l.book l.n l.i;
 }
+
+abbrev pub invariant-loop-j : goal.invariant-loop-j
+invariant-loop-j l = (q : ℕ) → q < l.j → get_or l.keys q 0 ≡ l.key → ⊥
