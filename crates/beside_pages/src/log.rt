@@ -19,8 +19,8 @@ fn put_entry(page: &mut [u8], at: usize, i: usize, piece: usize, apart: u8, flag
 {
     let at = pages::put_number(page, at, i, b' ');
     let at = pages::put_number(page, at, piece, b' ');
-    let at = pages::put_number(page, at, numbers::wide(apart), b' ');
-    pages::put_entry(page, at, b"NO\nYES\n", numbers::wide(flag), b'\n')
+    let at = pages::put_number(page, at, usize::from(apart), b' ');
+    pages::put_entry(page, at, b"NO\nYES\n", usize::from(flag), b'\n')
 }
 
 // The lines of all entries, from the start of the page, where the bytes have two of each.
@@ -33,9 +33,8 @@ fn put_entries(page: &mut [u8], log: &[u8], bytes: &[u8]) -> usize
     let mut end = 0;
     for i in 0..n {
         let low = replicates::ENTRY_BYTES * i;
-        let high = low + 1;
-        let piece = numbers::wide(log[low]) + numbers::BYTE_VALUES * numbers::wide(log[high]);
-        end = put_entry(page, end, i, piece, bytes[low], bytes[high]);
+        let piece = numbers::number_at(log, low);
+        end = put_entry(page, end, i, piece, bytes[low], bytes[low + 1]);
     }
     end
 }

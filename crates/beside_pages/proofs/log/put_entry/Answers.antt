@@ -5,4 +5,4 @@ use Rattle.beside_pages.proofs.log.put_entry.Goals as goal
 
 pub returns : goal.returns
 returns c =
-    put_as (whole-line _ _ _ _ _ _ c.wide.ensures.0 c.wide-2.ensures.0) (chain c.put_number-at.ensures (chain c.put_number-at-2.ensures (chain c.put_number-at-3.ensures c.put_entry.ensures)))
+    put_as (whole-line _ _ _ _ _ _ c.from.ensures c.from-2.ensures) (chain c.put_number-at.ensures (chain c.put_number-at-2.ensures (chain c.put_number-at-3.ensures c.put_entry.ensures)))

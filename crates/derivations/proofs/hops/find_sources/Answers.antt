@@ -25,12 +25,12 @@ bounds-source-r c = omega (arith, part_small _ _ _ c.loop-i-test.true _ c.record
 pub loop-i-preserved : goal.loop-i-preserved
 loop-i-preserved c =
     elim c.if-r-eq-PART.branch [
-      then-r-eq-PART+then-lets+then-from-r w ↦
+      | then-r-eq-PART+then-lets+then-from-r w ↦
           let l = sym w.lets.ensures ∙ w.if-lets.true in
           rw w.source-is (sources-store _ _ _ _ _ c.loop-i.invariant _ _ refl (part_small _ _ _ c.loop-i-test.true _ c.record_at-r.ensures c.requires.3 w.if-r-eq-PART.true l) (subst (Says _ _ _ _) (sym w.if-from-r.true ∙ w.from.ensures) (part-said _ _ _ c.loop-i-test.true _ c.record_at-r.ensures w.if-r-eq-PART.true l)))
       | else-r-eq-PART w ↦
           rw w.source-is (elim w.else-r-eq-PART.branch [
-            else-r-eq-PART-via-then-r-eq-PART+then-lets+else-from-r v ↦
+            | else-r-eq-PART-via-then-r-eq-PART+then-lets+else-from-r v ↦
                 sources-skip _ _ _ _ _ c.loop-i.invariant (λ x z. let q = said-ends _ _ _ c.loop-i-test.true _ c.record_at-r.ensures _ _ z in v.if-from-r.false (v.from.ensures ∙ ap (λ (u : ℕ). get_or c.args.hop.now u 0) q.0 ∙ sym q.1))
             | else-r-eq-PART-via-then-r-eq-PART+else-lets v ↦
                 sources-skip _ _ _ _ _ c.loop-i.invariant (λ x z. false≢true (sym (sym v.lets.ensures ∙ v.if-lets.false) ∙ (says-part _ _ _ c.loop-i-test.true _ c.record_at-r.ensures _ _ z).1))

@@ -10,7 +10,7 @@ use mathlib.Core.Path.{ap}
 pub returns-then-r-kind_for : goal.returns-then-r-kind_for
 returns-then-r-kind_for c =
     elim c.then-r-kind_for.branch [
-      then-r-kind_for-via-then-r-kind_for w ↦ serves-other _ _ _ _ _ _ _ (λ q. w.if-r-kind_for.true (q ∙ sym c.kind_for.ensures))
+      | then-r-kind_for-via-then-r-kind_for w ↦ serves-other _ _ _ _ _ _ _ (λ q. w.if-r-kind_for.true (q ∙ sym c.kind_for.ensures))
       | then-r-kind_for-via-else-r-kind_for+then-not-lets w ↦ serves-barred _ _ _ _ _ _ _ (w.if-r-kind_for.false ∙ c.kind_for.ensures) (sym w.lets.ensures ∙ w.if-not-lets.true)
     ]
 

@@ -14,7 +14,7 @@ test-requires c = (c.requires.1, c.requires.2, c.requires.5 _ (walk_up c.loop-ta
 pub loop-taken-preserved : goal.loop-taken-preserved
 loop-taken-preserved c =
     elim c.if-test.branch [
-      then-test w ↦ rw w.last-is (walk-in c.loop-taken.invariant c.if-y-a.false _ c.from-y.ensures (sym c.test.ensures ∙ w.if-test.true))
+      | then-test w ↦ rw w.last-is (walk-in c.loop-taken.invariant c.if-y-a.false _ c.from-y.ensures (sym c.test.ensures ∙ w.if-test.true))
       | else-test w ↦ rw w.last-is (walk-out c.loop-taken.invariant c.if-y-a.false _ c.from-y.ensures (sym c.test.ensures ∙ w.if-test.false))
     ]
 
