@@ -173,7 +173,6 @@ fn whom_number(whom: Whom) -> usize
 }
 
 // Of whom the line speaks.
-#[tactic(auto, unfolding(crate::specs::Unread::prefix))]
 pub fn put_prefix(page: &mut [u8], at: usize, whom: Whom) -> usize
     ensures { Put page.old at (prefix (whom_number whom)) page.new result }
 {

@@ -11,11 +11,6 @@ use Rattle.text.proofs.reading.entry_line.Goals as goal
 pub loop-at-init : goal.loop-at-init
 loop-at-init c = (seeking-start _ _ _ c.mark_length-at.ensures, omega arith)
 
-pub slice_bounds-entries_on-count : goal.slice_bounds-entries_on-count
-slice_bounds-entries_on-count c =
-    let ended : (c.loop-at.at ≤ c.run_end-end.result) × (c.run_end-end.result ≤ length c.args.text.now) = ends-in (of_sort Inner) _ _ _ (omega arith) c.run_end-end.ensures in
-    ended.0
-
 pub slice_bounds-entries_on-end : goal.slice_bounds-entries_on-end
 slice_bounds-entries_on-end c =
     let ended : (c.loop-at.at ≤ c.run_end-end.result) × (c.run_end-end.result ≤ length c.args.text.now) = ends-in (of_sort Inner) _ _ _ (omega arith) c.run_end-end.ensures in
@@ -24,16 +19,6 @@ slice_bounds-entries_on-end c =
 pub returns-then-left-n : goal.returns-then-left-n
 returns-then-left-n c =
     seeking-found _ _ _ _ _ c.loop-at.invariant.0 _ (omega arith) c.run_end-end.ensures _ c.entries_on-n.ensures c.if-left-n.true
-
-pub overflow_add-at : goal.overflow_add-at
-overflow_add-at c =
-    let ended : (c.loop-at.at ≤ c.run_end-end.result) × (c.run_end-end.result ≤ length c.args.text.now) = ends-in (of_sort Inner) _ _ _ (omega arith) c.run_end-end.ensures in
-    omega (arith, ended)
-
-pub loop-at-smaller : goal.loop-at-smaller
-loop-at-smaller c =
-    let ended : (c.loop-at.at ≤ c.run_end-end.result) × (c.run_end-end.result ≤ length c.args.text.now) = ends-in (of_sort Inner) _ _ _ (omega arith) c.run_end-end.ensures in
-    omega (arith, ended)
 
 pub loop-at-preserved : goal.loop-at-preserved
 loop-at-preserved c =

@@ -1,16 +1,9 @@
 -- `text::reading::put_entry` meets its contract. Assumes nothing.
-use native.Mathlib.Omega.{arith}
-use Rattle.text.proofs.Entries.{size-log, size-else, two-copied, six-copied}
+use Rattle.text.proofs.Entries.{two-copied, six-copied}
 use Rattle.text.proofs.reading.put_entry.Goals as goal
-
-pub copy_to-requires : goal.copy_to-requires
-copy_to-requires c = omega (arith, c.requires, size-log _ c.in-Log.is)
 
 pub returns-in-Log : goal.returns-in-Log
 returns-in-Log c = two-copied _ _ _ _ _ c.in-Log.is _ _ c.low.ensures c.low-in-Log.ensures c.copy_to.ensures
-
-pub copy_to-requires-2 : goal.copy_to-requires-2
-copy_to-requires-2 c = omega (arith, c.requires, size-else c.args.form c.in_default.not-Log)
 
 pub returns : goal.returns
 returns c =

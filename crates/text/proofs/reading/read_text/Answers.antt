@@ -10,9 +10,6 @@ pub returns-then-text-gt-TEXT_BYTES : goal.returns-then-text-gt-TEXT_BYTES
 returns-then-text-gt-TEXT_BYTES c =
     lent-long c.args.form c.args.text.now c.args.out.now (omega (arith, c.bytes_most.ensures)) c.if-text-gt-TEXT_BYTES.true
 
-pub read_lines-requires : goal.read_lines-requires
-read_lines-requires c = omega (arith, c.bytes_most.ensures)
-
 pub returns : goal.returns
 returns c =
     lent-read c.args.form c.args.text.now c.args.out.now (omega (arith, c.bytes_most.ensures)) c.if-text-gt-TEXT_BYTES.false _ c.mark_length.ensures _ _ c.read_lines.ensures.0 c.read_lines.ensures.1

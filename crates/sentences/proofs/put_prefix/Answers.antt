@@ -1,0 +1,7 @@
+-- `sentences::put_prefix` meets its contract: the code's table is the definition's. Assumes nothing.
+use Rattle.sentences.specs.Unread.{prefix}
+use Rattle.sentences.proofs.put_prefix.Goals as goal
+
+pub returns : goal.returns
+unfolding prefix
+returns c = rw (← c.whom_number.ensures) c.put_line.ensures
