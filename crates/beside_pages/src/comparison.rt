@@ -10,7 +10,7 @@ ghost use Rattle.beside_pages.specs.Rooms.{COMPARISON-HEAD, COMPARISON-ROOM};
 ghost use Rattle.text.specs.Rooms.{CLAIMS-ROOM};
 
 use compare::RefusedOf;
-use records::{Record, Refusal};
+use records::{Record, Refused};
 use sentences::Whom;
 use text::Form;
 
@@ -66,21 +66,23 @@ fn put_together(page: &mut [u8], together: bool) -> usize
 // The one line of a refusal: of a book, 1 or 2, or of the claims.
 fn put_refused_in(
     page: &mut [u8],
-    k: usize,
-    refusal: Refusal,
-    place: usize,
+    of: RefusedOf,
     source: &[u8],
     second: &[u8],
     claims: &[u8],
 ) -> usize
-    ensures put { Put page.old 0 (refused_in k refusal place source.now second.now claims.now) page.new result }
-    ensures claims_len_bound { length (refused_in k refusal place source.now second.now claims.now) ≤ COMPARISON-HEAD }
+    ensures put { Put page.old 0 (refused_in of.book of.refusal of.place source.now second.now claims.now) page.new result }
+    ensures claims_len_bound { length (refused_in of.book of.refusal of.place source.now second.now claims.now) ≤ COMPARISON-HEAD }
 {
-    if k == compare::SECOND {
+    let refused = Refused {
+        refusal: of.refusal,
+        place: of.place,
+    };
+    if of.book == compare::SECOND {
         let at = sentences::put_prefix(page, 0, Whom::Second);
-        return sentences::put_refused(page, at, refusal, place, second, claims);
+        return sentences::put_refused(page, at, refused, second, claims);
     }
-    sentences::put_refused(page, 0, refusal, place, source, claims)
+    sentences::put_refused(page, 0, refused, source, claims)
 }
 
 // Compares two books, in matrices of its own.
@@ -114,15 +116,7 @@ fn put_comparison(
 {
     let mut bytes = [0u8; ROOM];
     match compared(first, other, asked, &mut bytes) {
-        Err(refused) => put_refused_in(
-            page,
-            refused.book,
-            refused.refusal,
-            refused.place,
-            source,
-            second,
-            claims,
-        ),
+        Err(of) => put_refused_in(page, of, source, second, claims),
         Ok(together) => {
             let at = put_together(page, together);
             put_pairs(page, at, asked, &bytes)

@@ -63,9 +63,7 @@ fn put_log(book: &[u8], log: &[u8], source: &[u8], other: &[u8], page: &mut [u8]
     let mut bytes = [0u8; text::LOG_ROOM];
     let made = measure(book, log, &mut bytes);
     match made.outcome {
-        Err(refused) => {
-            sentences::put_refused(page, 0, refused.refusal, refused.place, source, other)
-        }
+        Err(refused) => { sentences::put_refused(page, 0, refused, source, other) }
         Ok(_) => put_entries(page, log, &bytes),
     }
 }

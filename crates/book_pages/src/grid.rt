@@ -184,9 +184,7 @@ fn put_grid(book: &[u8], source: &[u8], page: &mut [u8]) -> usize
     let outcome = made.outcome;
     let g = made.grids;
     match outcome {
-        Err(refused) => {
-            sentences::put_refused_book(page, 0, refused.refusal, refused.place, source)
-        }
+        Err(refused) => { sentences::put_refused_book(page, 0, refused, source) }
         Ok(counts) => put_lines(page, &g, counts.pieces),
     }
 }

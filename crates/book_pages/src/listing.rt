@@ -75,9 +75,7 @@ fn put_catalog(book: &[u8], source: &[u8], kind: usize, g: usize, page: &mut [u8
 {
     let mut list = [0u16; records::PIECES];
     match list_pieces(book, kind, g, &mut list) {
-        Err(refused) => {
-            sentences::put_refused_book(page, 0, refused.refusal, refused.place, source)
-        }
+        Err(refused) => { sentences::put_refused_book(page, 0, refused, source) }
         Ok(counts) => put_list(page, &list[..counts.listed]),
     }
 }

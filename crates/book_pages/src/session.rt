@@ -23,9 +23,7 @@ fn put_session(book: &[u8], claims: &[u8], source: &[u8], other: &[u8], page: &m
 {
     let mut answers = [0u8; ANSWERS_ROOM];
     match report::answer(book, claims, &mut answers) {
-        Err(refused) => {
-            sentences::put_refused(page, 0, refused.refusal, refused.place, source, other)
-        }
+        Err(refused) => { sentences::put_refused(page, 0, refused, source, other) }
         Ok(counts) => {
             let at = report::put_counts(page, 0, counts.pieces, counts.nodes, counts.shadows);
             report::put_claims(page, at, claims, &answers)

@@ -15,7 +15,7 @@ fn write_shown(book: &[u8], source: &[u8], page: &mut [u8]) -> Option<usize>
 {
     match records::check_book(book) {
         Err(refused) => {
-            let end = sentences::put_refused_book(page, 0, refused.refusal, refused.place, source);
+            let end = sentences::put_refused_book(page, 0, refused, source);
             pages::finish(page.len(), end)
         }
         Ok(_) => {

@@ -57,7 +57,7 @@ fn clash_book(page: &mut [u8], source: &[u8], book: &[u8]) -> usize
     match judge(book) {
         Ok(counts) => report::put_counts(page, 0, counts.pieces, counts.nodes, counts.shadows),
         Err(refused) => {
-            let at = sentences::put_refused_book(page, 0, refused.refusal, refused.place, source);
+            let at = sentences::put_refused_book(page, 0, refused, source);
             put_clash(page, at, book)
         }
     }

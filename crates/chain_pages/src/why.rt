@@ -27,9 +27,7 @@ fn put_why(
     ensures bytes { Bytes c.now }
 {
     match reply {
-        Err(refused) => {
-            sentences::put_refused_book(page, 0, refused.refusal, refused.place, source)
-        }
+        Err(refused) => { sentences::put_refused_book(page, 0, refused, source) }
         Ok(answer) => {
             let r = records::record_at(claim, 0);
             crate::lines::put_chain(page, 0, r, answer, c)

@@ -86,7 +86,7 @@ fn tell_order(page: &mut [u8], wrong: NoOrder) -> Changed
 fn refuse(page: &mut [u8], why: Refused, source: &[u8]) -> Changed
     ensures { Made (Kept (refused why.refusal why.place source.now [])) [] page.old page.new result }
 {
-    let end = sentences::put_refused_book(page, 0, why.refusal, why.place, source);
+    let end = sentences::put_refused_book(page, 0, why, source);
     let written = pages::finish(page.len(), end);
     let book = None;
     Changed { written, book }

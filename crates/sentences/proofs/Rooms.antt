@@ -49,8 +49,8 @@ refusal-width number place (suc l) hn hp hl =
     (omega (arith, decimal-length 19 number (omega arith), decimal-length 19 place (omega arith), decimal-length 19 (suc l) (omega arith), sentence-width number))
 
 pub refused-width : (r : Refusal) (number place l : ℕ) (book other : List ℕ) → refusal_line number place l ≡ refused r place book other
-    → number < 2 ^ 64 → place < 2 ^ 64 → l < 2 ^ 64 → length (refused r place book other) ≤ 142
-refused-width r number place l book other is hn hp hl = rw (sym is) (refusal-width number place l hn hp hl)
+    → length (refusal_line number place l) ≤ 142 → length (refused r place book other) ≤ 142
+refused-width r number place l book other is h = rw (sym is) h
 
 -- words have no line
 pub unread-width : (source l reason : ℕ) → (ltb source 4 ≡ true → length (decimal l) ≤ 20) → length (unread_line source l reason) ≤ 95

@@ -12,7 +12,7 @@ ghost use Rattle.sentences.specs.Unread as unread;
 ghost use Rattle.sentences.specs.Unread.{whom_number, cause_number, prefix, reason_of, unread_line};
 ghost use Rattle.sentences.specs.Rooms.{NUMBER, REFUSED-LINE, UNREAD-LINE};
 
-use records::Refusal;
+use records::Refused;
 use text::Reason;
 
 pub mod sources;
@@ -97,7 +97,8 @@ fn put_text_line(page: &mut [u8], at: usize, l: usize) -> usize
 
 // The one line of a refusal; l is the line of the text that it speaks of, or 0.
 pub fn put_refusal(page: &mut [u8], at: usize, number: usize, place: usize, l: usize) -> usize
-    ensures { Put page.old at (refusal_line number place l) page.new result }
+    ensures put { Put page.old at (refusal_line number place l) page.new result }
+    ensures l_len_bound { length (refusal_line number place l) ≤ REFUSED-LINE }
 {
     let at = pages::put(page, at, b"REFUSED ");
     let at = pages::put_number(page, at, number, b' ');
@@ -128,34 +129,21 @@ pub fn line_of(number: usize, place: usize, book: &[u8], other: &[u8]) -> usize
 }
 
 // The one line of a refusal at a place of the book, or of the other source.
-pub fn put_refused(
-    page: &mut [u8],
-    at: usize,
-    refusal: Refusal,
-    place: usize,
-    book: &[u8],
-    other: &[u8],
-) -> usize
-    ensures put { Put page.old at (refused refusal place book.now other.now) page.new result }
-    ensures other_len_bound { length (refused refusal place book.now other.now) ≤ REFUSED-LINE }
+pub fn put_refused(page: &mut [u8], at: usize, why: Refused, book: &[u8], other: &[u8]) -> usize
+    ensures put { Put page.old at (refused why.refusal why.place book.now other.now) page.new result }
+    ensures other_len_bound { length (refused why.refusal why.place book.now other.now) ≤ REFUSED-LINE }
 {
-    let number = usize::from(records::refusal_number(refusal));
-    let l = line_of(number, place, book, other);
-    put_refusal(page, at, number, place, l)
+    let number = usize::from(records::refusal_number(why.refusal));
+    let l = line_of(number, why.place, book, other);
+    put_refusal(page, at, number, why.place, l)
 }
 
 // The same, where there is no other source.
-pub fn put_refused_book(
-    page: &mut [u8],
-    at: usize,
-    refusal: Refusal,
-    place: usize,
-    book: &[u8],
-) -> usize
-    ensures put { Put page.old at (refused refusal place book.now []) page.new result }
-    ensures book_len_bound { length (refused refusal place book.now []) ≤ REFUSED-LINE }
+pub fn put_refused_book(page: &mut [u8], at: usize, why: Refused, book: &[u8]) -> usize
+    ensures put { Put page.old at (refused why.refusal why.place book.now []) page.new result }
+    ensures book_len_bound { length (refused why.refusal why.place book.now []) ≤ REFUSED-LINE }
 {
-    put_refused(page, at, refusal, place, book, &[])
+    put_refused(page, at, why, book, &[])
 }
 
 // The number of whom the line speaks, by which the tables are entered.

@@ -4,9 +4,9 @@ use Rattle.pages.proofs.Puts.{chain, put_as}
 use Rattle.beside_pages.proofs.ComparisonTexts.{in-second, in-first, second_short, first_short}
 use Rattle.beside_pages.proofs.comparison.put_refused_in.Goals as goal
 
-pub returns-then-k-eq-SECOND : goal.returns-then-k-eq-SECOND
-returns-then-k-eq-SECOND c =
-    record { put = put_as (in-second _ _ _ _ _ _ c.if-k-eq-SECOND.true) (chain c.put_prefix-at.ensures c.put_refused.ensures.put); claims_len_bound = second_short _ _ _ _ _ _ c.if-k-eq-SECOND.true c.put_refused.ensures.other_len_bound }
+pub returns-then-of-eq-SECOND : goal.returns-then-of-eq-SECOND
+returns-then-of-eq-SECOND c =
+    record { put = put_as (in-second _ _ _ _ _ _ c.if-of-eq-SECOND.true) (chain c.put_prefix-at.ensures c.put_refused.ensures.put); claims_len_bound = second_short _ _ _ _ _ _ c.if-of-eq-SECOND.true c.put_refused.ensures.other_len_bound }
 
 pub returns : goal.returns
 returns c =
