@@ -13,8 +13,9 @@ use index::{DatasetId, TreeId};
 const SMALL_TREE: usize = 512;
 
 // Fills the row of a leader h, unless it is filled: h itself, and the row of the leader of each part that hangs from its node. `ends` has the
-// first place past the subtree of each place, `turned` the leader of the pieces there. The pieces that follow h are there. A part that hangs as a shadow is the one that the shadow stands for, so containment calls itself
-// through shadow targets. Levels rise from container to part, and a row that is filled is filled for good.
+// first place past the subtree of each place, `turned` the leader of the pieces there. The pieces that follow h are there. A part that hangs as a
+// shadow is the one that the shadow stands for, so containment calls itself through shadow targets. Levels rise from container to part, and a row
+// that is filled is filled for good. From a child to the next q leaps over the subtree, as no range does.
 fn fill(places: &[u16], ends: &[u16], turned: &[u16], rows: &mut [u64], h: DatasetId)
     requires { (IsMatrix rows.old) × Fillable places.now ends.now turned.now rows.old h.0 }
     ensures { (s : Setting places.now ends.now turned.now) → From s rows.old h.0 → h.0 < s.n → s.leader (s.number h.0) ≡ h.0 → Filled s rows.old rows.new h.0 }

@@ -18,7 +18,8 @@ use matrices::{Matrix, RowNumbers};
 use records::{Refusal, Refused};
 
 // The place of the contradiction in a contradictory book: the last record of the shortest contradictory run from the start, found by halving, since
-// contradiction only grows with the run. The matrices are scratch.
+// contradiction only grows with the run. By hand: the runs are the starts of one slice, and `partition_point` searches the entries of a slice. The
+// matrices are scratch.
 fn contradiction(
     book: &[u8],
     n: usize,

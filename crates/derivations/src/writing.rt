@@ -44,7 +44,8 @@ fn hop_step(x: usize, y: usize, source: usize) -> Step
     }
 }
 
-// From g PART x, which the step before shows, to g PART k: a step for each hop, and one that joins it to the steps before.
+// From g PART x, which the step before shows, to g PART k: a step for each hop, and one that joins it to the steps before. x goes from hop to hop, so
+// no range has its places.
 fn climb(
     g: usize,
     k: usize,

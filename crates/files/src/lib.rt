@@ -18,6 +18,7 @@ mod saying;
 pub struct Told;
 
 // Reads until the buffer is full, the file ends or a read fails: how many bytes stand at the front of the buffer, and what failed.
+// `read_exact` does not say how many bytes a shorter file had, and `read_to_end` needs the heap.
 pub fn read_full<F: Read>(file: &mut F, buf: &mut [u8]) -> (usize, io::Result<()>)
     ensures front { IsPrefixLen result.0 buf.new }
     ensures whole { length buf.new ≡ length buf.old }

@@ -29,7 +29,7 @@ fn join(n: usize, edges: &mut [u64], held: &RowNumbers)
 }
 
 // The four parts, into parts that are zero, depth first. The shadow list has the number of each shadow's group yet, as the group's node
-// may come later. Group 0 has place 0 already.
+// may come later. Group 0 has place 0 already. It goes down and up the tree, so the loop is no range.
 fn walk(
     n: usize,
     edges: &[u64],

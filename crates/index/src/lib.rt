@@ -114,7 +114,8 @@ fn spread(
     end
 }
 
-// Breadth first from k: each piece met gets as its parent the piece from which it is met. `NONE` stands at first everywhere.
+// Breadth first from k: each piece met gets as its parent the piece from which it is met. `NONE` stands at first everywhere. The queue grows while it
+// is read, so the loop is no range.
 pub fn search_from(k: usize, n: usize, edges: &[u64], parent: &mut [u16], order: &mut [u16])
     requires { (IsMatrix edges.now) × (n ≤ ROWS) × (k < n) × (length parent.old ≡ ROWS) × (length order.old ≡ ROWS) × ((q : ℕ) → q < n → fresh parent.old q ≡ true) }
     ensures { Searched n (pair_of n edges.now) k parent.new }
