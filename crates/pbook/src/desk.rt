@@ -1,4 +1,4 @@
-// The page of each command, by its family. The families are `match`ed: a table of functions would have to be made here and handed out, which the gate refuses.
+// The page of each command, by its family. Each is a `match` on its enum, which the compiler holds complete: a table of functions is no plainer.
 ghost use Rattle.std.specs.Prelude.{◌≡◌};
 ghost use Rattle.change_pages.specs.Made.{Made};
 ghost use Rattle.pbook.specs.Paged.{SessionPaged, BookPaged, list_kind, WordsPaged, change_by, export_by, words_form, change_form, end_of};
