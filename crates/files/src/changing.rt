@@ -18,7 +18,7 @@ const LOCK_SUFFIX: &[u8; 5] = b".lock";
 
 const LOCK_BYTES: usize = 4101;
 
-fn mode_of(metadata: &Metadata) -> u32 {
+fn mode_bits(metadata: &Metadata) -> u32 {
     metadata.permissions().mode() & MODE_BITS
 }
 
@@ -34,7 +34,7 @@ pub fn look_at(rt: &HostRuntime, name: &[u8]) -> Result<Option<u32>, Told> {
     if !metadata.is_file() {
         return Err(crate::tell(rt, name, "not a plain file"));
     }
-    Ok(Some(mode_of(&metadata)))
+    Ok(Some(mode_bits(&metadata)))
 }
 
 // A new file, to be written, where there is none.
@@ -122,7 +122,7 @@ fn tell_taken(rt: &HostRuntime, lock: &[u8], error: &io::Error) -> Told {
 fn mode_from(rt: &HostRuntime, from: &[u8]) -> Result<u32, Told> {
     let metadata = modes::metadata_of(rt, from).map_err(|e| crate::fail(rt, from, &e))?;
     if metadata.is_file() {
-        Ok(mode_of(&metadata))
+        Ok(mode_bits(&metadata))
     } else {
         Ok(OWNERS_MODE)
     }
