@@ -64,6 +64,9 @@ pub fn answer_alone(
     if answers.len() < asked {
         return Err(Refusal::ShortBuffer.at(0));
     }
-    let n = crate::check_rows(book, claims)?;
-    judge_alone(book, n, claims, e, d, t, u, p, q, &mut answers[..asked])
+    // no `?`: a must-fail edit changes the refusal here
+    match crate::check_rows(book, claims) {
+        Err(refused) => Err(refused),
+        Ok(n) => judge_alone(book, n, claims, e, d, t, u, p, q, &mut answers[..asked]),
+    }
 }

@@ -1,4 +1,4 @@
-// A book judged without claims: rows 3 to 9, then 14. Three matrices are scratch.
+// A book judged without claims: rows 3 to 9, then 14. Three matrices are scratch. Refusals pass through a `match`, where must-fail edits change them.
 ghost use Rattle.std.specs.Prelude.{◌≡◌, [], Ok};
 ghost use Rattle.records.specs.Check.{book_check};
 ghost use Rattle.outcomes.specs.Call.{by_runs};
@@ -22,10 +22,13 @@ fn count_in(
     let mut voids = [0u64; matrices::ROW_WORDS];
     let mut order = [0u16; matrices::ROWS];
     let mut lead = [0u16; matrices::ROWS];
-    let counts = contradiction::settle_counted(
+    let settled = contradiction::settle_counted(
         book, n, &mut voids, e, &mut order, &mut lead, d, t,
-    )?;
-    Ok(Counts::of(n, counts))
+    );
+    match settled {
+        Err(clash) => Err(Refused::from(clash)),
+        Ok(counts) => Ok(Counts::of(n, counts)),
+    }
 }
 
 // A fresh call on a run of records.
@@ -37,8 +40,10 @@ pub fn judge_run(
 ) -> Result<Counts, Refused>
     ensures { result ≡ fresh_call run.now [] }
 {
-    let n = records::check_book(run)?;
-    count_in(run, n, e, d, t)
+    match records::check_book(run) {
+        Err(refused) => Err(refused),
+        Ok(n) => count_in(run, n, e, d, t),
+    }
 }
 
 // Row 14 of a book that passes the rows before.
@@ -53,8 +58,10 @@ fn settle_in(
     ensures { result ≡ uncounted (by_runs book.now n) }
 {
     let mut voids = [0u64; matrices::ROW_WORDS];
-    contradiction::settle_book(book, n, &mut voids, e, d, t)?;
-    Ok(n)
+    match contradiction::settle_book(book, n, &mut voids, e, d, t) {
+        Err(first) => Err(Refused::from(first)),
+        Ok(()) => Ok(n),
+    }
 }
 
 // The same for a caller that wants no counts of nodes and shadows: no index is made.
@@ -66,6 +73,8 @@ pub fn judge_book(
 ) -> Result<usize, Refused>
     ensures { result ≡ uncounted (fresh_call book.now []) }
 {
-    let n = records::check_book(book)?;
-    settle_in(book, n, e, d, t)
+    match records::check_book(book) {
+        Err(why) => Err(why),
+        Ok(n) => settle_in(book, n, e, d, t),
+    }
 }

@@ -143,7 +143,11 @@ pub fn answer_claims(
     ) {
         return Err(Refusal::ShortBuffer.at(0));
     }
-    let n = check_rows(book, claims)?;
+    // no `?`: a must-fail edit changes the refusal here
+    let n = match check_rows(book, claims) {
+        Err(refused) => return Err(refused),
+        Ok(n) => n,
+    };
     judge_in(
         book,
         n,

@@ -79,7 +79,7 @@ fn put_refused_in(
         place: of.place,
     };
     if of.book == compare::SECOND {
-        let at = sentences::put_prefix(page, 0, Whom::Second);
+        let at = sentences::put_prefix_of(page, 0, Whom::Second);
         return sentences::put_refused(page, at, refused, second, claims);
     }
     sentences::put_refused(page, 0, refused, source, claims)
@@ -139,7 +139,7 @@ fn write_answers(
     let mut asked = [0u8; text::CLAIMS_ROOM];
     let read = sentences::sources::read_source(Form::Claims, claims, &mut asked);
     match read {
-        Err(unread) => sentences::write_unread(page, Whom::Claims, unread),
+        Err(unread) => sentences::write_unread_of(page, Whom::Claims, unread),
         Ok(n) => {
             let end = put_comparison(first, other, &asked[..n], source, second, claims, page);
             pages::finish(page.len(), end)
@@ -161,7 +161,7 @@ fn write_second(
     let mut other = [0u8; text::BOOK_ROOM];
     let read = sentences::sources::read_source(Form::Records, second, &mut other);
     match read {
-        Err(unread) => sentences::write_unread(page, Whom::Second, unread),
+        Err(unread) => sentences::write_unread_of(page, Whom::Second, unread),
         Ok(n) => write_answers(first, &other[..n], source, second, claims, page),
     }
 }
@@ -179,7 +179,7 @@ pub fn write_comparison(
     let mut first = [0u8; text::BOOK_ROOM];
     let read = sentences::sources::read_source(Form::Records, source, &mut first);
     match read {
-        Err(unread) => sentences::write_unread(page, Whom::Book, unread),
+        Err(unread) => sentences::write_unread_of(page, Whom::Book, unread),
         Ok(n) => write_second(&first[..n], source, second, claims, page),
     }
 }

@@ -76,7 +76,7 @@ fn write_entries(book: &[u8], source: &[u8], other: &[u8], page: &mut [u8]) -> O
     let mut log = [0u8; text::LOG_ROOM];
     let read = sentences::sources::read_source(Form::Log, other, &mut log);
     match read {
-        Err(unread) => sentences::write_unread(page, Whom::Log, unread),
+        Err(unread) => sentences::write_unread_of(page, Whom::Log, unread),
         Ok(n) => {
             let end = put_log(book, &log[..n], source, other, page);
             pages::finish(page.len(), end)
@@ -92,7 +92,7 @@ pub fn write_log(source: &[u8], other: &[u8], page: &mut [u8]) -> Option<usize>
     let mut book = [0u8; text::BOOK_ROOM];
     let read = sentences::sources::read_source(Form::Records, source, &mut book);
     match read {
-        Err(unread) => sentences::write_unread(page, Whom::Book, unread),
+        Err(unread) => sentences::write_unread_of(page, Whom::Book, unread),
         Ok(n) => write_entries(&book[..n], source, other, page),
     }
 }

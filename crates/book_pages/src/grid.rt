@@ -197,7 +197,7 @@ pub fn write_grid(source: &[u8], page: &mut [u8]) -> Option<usize>
     let mut book = [0u8; text::BOOK_ROOM];
     let read = sentences::sources::read_source(Form::Records, source, &mut book);
     match read {
-        Err(unread) => sentences::write_unread(page, Whom::Book, unread),
+        Err(unread) => sentences::write_unread_of(page, Whom::Book, unread),
         Ok(n) => {
             let end = put_grid(&book[..n], source, page);
             pages::finish(page.len(), end)

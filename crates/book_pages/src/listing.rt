@@ -88,7 +88,7 @@ fn write_pieces(source: &[u8], kind: usize, g: usize, page: &mut [u8]) -> Option
     let mut book = [0u8; text::BOOK_ROOM];
     let read = sentences::sources::read_source(Form::Records, source, &mut book);
     match read {
-        Err(unread) => sentences::write_unread(page, Whom::Book, unread),
+        Err(unread) => sentences::write_unread_of(page, Whom::Book, unread),
         Ok(n) => {
             let end = put_catalog(&book[..n], source, kind, g, page);
             pages::finish(page.len(), end)
@@ -103,7 +103,7 @@ pub fn write_list(source: &[u8], kind: usize, words: &[u8], page: &mut [u8]) -> 
 {
     let said = sentences::sources::read_words(Form::Log, words);
     match said {
-        Err(cause) => sentences::write_unread(page, Whom::Words, Unread { line: 0, cause }),
+        Err(cause) => sentences::write_unread_of(page, Whom::Words, Unread { line: 0, cause }),
         Ok(number) => write_pieces(source, kind, number.a, page),
     }
 }

@@ -39,7 +39,7 @@ fn write_answers(book: &[u8], source: &[u8], claims: &[u8], page: &mut [u8]) -> 
     let mut asked = [0u8; text::CLAIMS_ROOM];
     let read = sentences::sources::read_source(Form::Claims, claims, &mut asked);
     match read {
-        Err(unread) => sentences::write_unread(page, Whom::Claims, unread),
+        Err(unread) => sentences::write_unread_of(page, Whom::Claims, unread),
         Ok(n) => {
             let end = put_session(book, &asked[..n], source, claims, page);
             pages::finish(page.len(), end)
@@ -55,7 +55,7 @@ pub fn write_ask(source: &[u8], claims: &[u8], page: &mut [u8]) -> Option<usize>
     let mut book = [0u8; text::BOOK_ROOM];
     let read = sentences::sources::read_source(Form::Records, source, &mut book);
     match read {
-        Err(unread) => sentences::write_unread(page, Whom::Book, unread),
+        Err(unread) => sentences::write_unread_of(page, Whom::Book, unread),
         Ok(n) => write_answers(&book[..n], source, claims, page),
     }
 }
@@ -70,7 +70,7 @@ fn write_about(source: &[u8], claims: &[u8], page: &mut [u8]) -> Option<usize>
     let none = [0u8; 0];
     let read = sentences::sources::read_source(Form::Records, source, &mut book);
     match read {
-        Err(unread) => sentences::write_unread(page, Whom::Book, unread),
+        Err(unread) => sentences::write_unread_of(page, Whom::Book, unread),
         Ok(n) => {
             let end = put_session(&book[..n], claims, source, &none, page);
             pages::finish(page.len(), end)
@@ -94,7 +94,7 @@ pub fn write_ask_words(source: &[u8], words: &[u8], page: &mut [u8]) -> Option<u
 {
     let said = sentences::sources::read_words(Form::Claims, words);
     match said {
-        Err(cause) => sentences::write_unread(page, Whom::ClaimWords, Unread { line: 0, cause }),
+        Err(cause) => sentences::write_unread_of(page, Whom::ClaimWords, Unread { line: 0, cause }),
         Ok(claim) => {
             let six = sentences::sources::six_bytes(claim);
             write_about(source, &six, page)

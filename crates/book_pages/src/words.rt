@@ -25,7 +25,7 @@ pub fn write_words(form: Form, words: &[u8], page: &mut [u8]) -> Option<usize>
 {
     let said = sentences::sources::read_words(form, words);
     match said {
-        Err(cause) => sentences::write_unread(page, speaker(form), Unread { line: 0, cause }),
+        Err(cause) => sentences::write_unread_of(page, speaker(form), Unread { line: 0, cause }),
         Ok(_) => pages::finish(page.len(), 0),
     }
 }

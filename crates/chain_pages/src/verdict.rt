@@ -21,7 +21,7 @@ pub fn write_verdict(source: &[u8], chain: &[u8], page: &mut [u8]) -> Option<usi
     let mut book = [0u8; text::BOOK_ROOM];
     let read = sentences::sources::read_source(Form::Records, source, &mut book);
     match read {
-        Err(unread) => sentences::write_unread(page, Whom::Book, unread),
+        Err(unread) => sentences::write_unread_of(page, Whom::Book, unread),
         Ok(n) => {
             let passes = crate::verified::verify(&book[..n], chain);
             let end = put_verdict(page, passes);

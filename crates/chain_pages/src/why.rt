@@ -64,7 +64,7 @@ fn why_source(page: &mut [u8], source: &[u8], claim: Record) -> Option<usize>
     let mut book = [0u8; text::BOOK_ROOM];
     let read = sentences::sources::read_source(Form::Records, source, &mut book);
     match read {
-        Err(unread) => sentences::write_unread(page, Whom::Book, unread),
+        Err(unread) => sentences::write_unread_of(page, Whom::Book, unread),
         Ok(n) => {
             let six = sentences::sources::six_bytes(claim);
             why_book(page, source, &book[..n], &six)
@@ -78,7 +78,7 @@ pub fn write_why(source: &[u8], words: &[u8], page: &mut [u8]) -> Option<usize>
 {
     let said = sentences::sources::read_words(Form::Claims, words);
     match said {
-        Err(cause) => sentences::write_unread(page, Whom::ClaimWords, Unread { line: 0, cause }),
+        Err(cause) => sentences::write_unread_of(page, Whom::ClaimWords, Unread { line: 0, cause }),
         Ok(claim) => why_source(page, source, claim),
     }
 }

@@ -68,7 +68,7 @@ pub fn write_new(page: &mut [u8]) -> Option<usize>
 fn tell(page: &mut [u8], whom: Whom, unread: Unread) -> Changed
     ensures { Made (Kept (unread_line (whom_number whom) unread.line (cause_number unread.cause))) [] page.old page.new result }
 {
-    let written = sentences::write_unread(page, whom, unread);
+    let written = sentences::write_unread_of(page, whom, unread);
     let book = None;
     Changed { written, book }
 }

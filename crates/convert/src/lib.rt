@@ -77,7 +77,11 @@ pub fn convert(
     if out.len() < book.len() {
         return Err(Refusal::ShortBuffer.at(0));
     }
-    let n = records::check_former(book)?;
+    // no `?`: a must-fail edit changes the refusal here
+    let n = match records::check_former(book) {
+        Err(refused) => return Err(refused),
+        Ok(n) => n,
+    };
     settle(book, n, e, d, t)?;
     Ok(write_book(book, n, out))
 }

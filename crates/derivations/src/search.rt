@@ -186,7 +186,7 @@ pub fn find_single(
             return Some(step);
         }
     }
-    None
+    None // no step shows it
 }
 
 // The first record that marks piece g.

@@ -2,10 +2,13 @@
 ghost use Rattle.io.specs.Counts.{IsPrefixLen};
 
 use crate::{Told, modes};
-use std::fs::{File, OpenOptions, Permissions};
+use std::fs::{File, Metadata, OpenOptions, Permissions};
 use std::io::{ErrorKind, Write};
 use std::os::unix::fs::PermissionsExt;
 use std::{fs, io};
+
+// The bits of a mode that say who may use a file. `Permissions` has these and the file's kind, and cannot be copied.
+const MODE_BITS: u32 = 0o7777;
 
 // Who may use a file that is made from what is no plain file: its owner.
 const OWNERS_MODE: u32 = 0o600;
@@ -15,8 +18,12 @@ const LOCK_SUFFIX: &[u8; 5] = b".lock";
 
 const LOCK_BYTES: usize = 4101;
 
+fn mode_bits(metadata: &Metadata) -> u32 {
+    metadata.permissions().mode() & MODE_BITS
+}
+
 // Who may use the file that stands under a name; none, where there is none. What is no plain file is told: it is left as it is.
-pub fn look_at(rt: &HostRuntime, name: &[u8]) -> Result<Option<Permissions>, Told> {
+pub fn look_at(rt: &HostRuntime, name: &[u8]) -> Result<Option<u32>, Told> {
     match modes::is_link(rt, name) {
         Ok(false) => {}
         Ok(true) => return Err(crate::tell(rt, name, "a link: name the file that it leads to")),
@@ -27,7 +34,7 @@ pub fn look_at(rt: &HostRuntime, name: &[u8]) -> Result<Option<Permissions>, Tol
     if !metadata.is_file() {
         return Err(crate::tell(rt, name, "not a plain file"));
     }
-    Ok(Some(metadata.permissions()))
+    Ok(Some(mode_bits(&metadata)))
 }
 
 // A new file, to be written, where there is none.
@@ -112,25 +119,25 @@ fn tell_taken(rt: &HostRuntime, lock: &[u8], error: &io::Error) -> Told {
 }
 
 // The mode of a file that is made from another: the other's, or its owner's alone where that is no plain file.
-fn mode_from(rt: &HostRuntime, from: &[u8]) -> Result<Permissions, Told> {
+fn mode_from(rt: &HostRuntime, from: &[u8]) -> Result<u32, Told> {
     let metadata = modes::metadata_of(rt, from).map_err(|e| crate::fail(rt, from, &e))?;
     if metadata.is_file() {
-        Ok(metadata.permissions())
+        Ok(mode_bits(&metadata))
     } else {
-        Ok(Permissions::from_mode(OWNERS_MODE))
+        Ok(OWNERS_MODE)
     }
 }
 
 // The same, for a name that may be missing.
-fn mode_for(rt: &HostRuntime, name: &[u8], from: &[u8]) -> Result<Permissions, Told> {
+fn mode_for(rt: &HostRuntime, name: &[u8], from: &[u8]) -> Result<u32, Told> {
     look_at(rt, name)?;
     mode_from(rt, from)
 }
 
 // The bytes, the mode, and both on the device.
-fn fill(file: &mut File, bytes: &[u8], mode: Permissions) -> io::Result<()> {
+fn fill(file: &mut File, bytes: &[u8], mode: u32) -> io::Result<()> {
     file.write_all(bytes)?;
-    file.set_permissions(mode)?;
+    file.set_permissions(Permissions::from_mode(mode))?;
     file.sync_all()
 }
 
@@ -163,7 +170,7 @@ impl<'a> Lock<'a> {
     }
 
     // Writes the bytes to the lock and puts it in the file's place. Where that fails it is told, the lock is taken back, and the file is as it was.
-    pub fn keep(mut self, rt: &HostRuntime, bytes: &[u8], mode: Permissions) -> Result<(), Told> {
+    pub fn keep(mut self, rt: &HostRuntime, bytes: &[u8], mode: u32) -> Result<(), Told> {
         if let Err(e) = fill(&mut self.file, bytes, mode) {
             let told = crate::fail(rt, self.name.as_slice(), &e);
             self.release(rt);

@@ -33,13 +33,13 @@ pub fn put_byte(page: &mut [u8], at: usize, x: u8) -> usize
     at + 1
 }
 
-// A text.
+// A text, or as much of it as fits: a copy of the whole would put nothing where it does not, and would need `memmove` from outside.
 pub fn put(page: &mut [u8], at: usize, text: &[u8]) -> usize
     ensures { Put page.old at text.now page.new result }
 {
-    let end = at.saturating_add(text.len());
-    if end <= page.len() {
-        page[at..end].copy_from_slice(text);
+    let mut end = at;
+    for &byte in text {
+        end = put_byte(page, end, byte);
     }
     end
 }

@@ -6,7 +6,6 @@ use crate::desk;
 use commands::{Change, Export};
 use files::changing::Lock;
 use files::{Told, changing};
-use std::fs::Permissions;
 use std::io::Error;
 
 // What the system says of a file that is not there.
@@ -16,7 +15,7 @@ const ENOENT: i32 = 2;
 #[derive(Drop)]
 struct Plain<'a> {
     book: &'a [u8],
-    mode: Permissions,
+    mode: u32,
 }
 
 // Reads the book that is to be changed, whose lock is made.

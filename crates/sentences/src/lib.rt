@@ -17,13 +17,23 @@ use text::Reason;
 
 pub mod sources;
 
-// The sentences of words that are too long, and of what should be a choice of facts.
-const WORDS_TOO_LONG: usize = 7;
+// The reason of what should be a choice of origin, and its sentence for claims, which choose among facts.
+const NOT_CHOICE: usize = 3;
 
 const NOT_FACTS: usize = 8;
 
+// The sentence of words that are too long.
+const WORDS_TOO_LONG: usize = 7;
+
 // The sentence of a text where records are wanted.
 const NOT_RECORDS: usize = 6;
+
+// The claims and the words, by the numbers of Whom.
+const CLAIMS: usize = Whom::Claims as usize;
+
+const WORDS: usize = Whom::Words as usize;
+
+const CLAIM_WORDS: usize = Whom::ClaimWords as usize;
 
 // Of whom a line of what cannot be read speaks, and the line of a refusal in a second book.
 #[derive(Clone, Copy, Debug, PartialEq, Eq)]
@@ -139,6 +149,7 @@ pub fn put_refused(page: &mut [u8], at: usize, why: Refused, book: &[u8], other:
 }
 
 // The same, where there is no other source.
+#[tactic(auto, unfolding(crate::specs::Refusals::refused))]
 pub fn put_refused_book(page: &mut [u8], at: usize, why: Refused, book: &[u8]) -> usize
     ensures put { Put page.old at (refused why.refusal why.place book.now []) page.new result }
     ensures book_len_bound { length (refused why.refusal why.place book.now []) ≤ REFUSED-LINE }
@@ -147,7 +158,7 @@ pub fn put_refused_book(page: &mut [u8], at: usize, why: Refused, book: &[u8]) -
 }
 
 // The number of whom the line speaks, by which the tables are entered.
-fn whom_number(whom: Whom) -> usize
+pub fn whom_number(whom: Whom) -> usize
     ensures { result ≡ whom_number whom }
 {
     match whom {
@@ -160,68 +171,97 @@ fn whom_number(whom: Whom) -> usize
     }
 }
 
-// Of whom the line speaks.
-pub fn put_prefix(page: &mut [u8], at: usize, whom: Whom) -> usize
-    ensures { Put page.old at (prefix (whom_number whom)) page.new result }
-{
-    let table = b"\nSECOND \nCLAIMS \nLOG \nWORDS \nWORDS \n";
-    pages::put_line(page, at, table, whom_number(whom))
-}
-
-// The number of a cause's sentence. Claims choose among facts, where records have an origin.
-#[tactic(auto, unfolding(crate::specs::Unread::wording))]
-fn wording(whom: Whom, cause: Cause) -> usize
-    ensures { result ≡ unread.wording (whom_number whom) (cause_number cause) }
+// The number of the reason, by which its sentence is found.
+pub fn cause_number(cause: Cause) -> usize
+    ensures { result ≡ cause_number cause }
 {
     match cause {
+        Cause::Text(reason) => usize::from(text::reason_number(reason)),
         Cause::NotRecords => NOT_RECORDS,
         Cause::WordsTooLong => WORDS_TOO_LONG,
-        Cause::Text(reason) => {
-            let of_claims = matches!(whom, Whom::Claims | Whom::ClaimWords);
-            if of_claims && reason == Reason::NotChoice {
-                return NOT_FACTS;
-            }
-            usize::from(text::reason_number(reason))
-        }
     }
 }
 
-// A cause's sentence and the end of its line.
-fn put_cause(page: &mut [u8], at: usize, whom: Whom, cause: Cause) -> usize
-    ensures { Put page.old at (field (reason_of (whom_number whom) (cause_number cause)) 10) page.new result }
+// Of whom the line speaks, by the number.
+pub fn put_prefix(page: &mut [u8], at: usize, source: usize) -> usize
+    ensures { Put page.old at (prefix source) page.new result }
+{
+    let table = b"\nSECOND \nCLAIMS \nLOG \nWORDS \nWORDS \n";
+    pages::put_line(page, at, table, source)
+}
+
+// Of whom the line speaks.
+pub fn put_prefix_of(page: &mut [u8], at: usize, whom: Whom) -> usize
+    ensures { Put page.old at (prefix (whom_number whom)) page.new result }
+{
+    put_prefix(page, at, whom_number(whom))
+}
+
+// The number of a reason's sentence. Claims choose among facts, where records have an origin.
+#[tactic(auto, unfolding(crate::specs::Unread::wording))]
+fn wording(source: usize, reason: usize) -> usize
+    ensures { result ≡ unread.wording source reason }
+{
+    let of_claims = source == CLAIMS || source == CLAIM_WORDS;
+    if of_claims && reason == NOT_CHOICE {
+        return NOT_FACTS;
+    }
+    reason
+}
+
+// A reason's sentence and the end of its line.
+fn put_reason(page: &mut [u8], at: usize, source: usize, reason: usize) -> usize
+    ensures { Put page.old at (field (reason_of source reason) 10) page.new result }
 {
     let table =
         b"\nnot a kind\na number from 0 to 65535 is missing\nnot an origin: sheet or scanner\na word too many\nlonger than 524288 bytes\na book of records is wanted: pack it, or edit the text\nlonger than 4095 bytes\nnot a choice of facts: all or sheets\n";
-    pages::put_entry(page, at, table, wording(whom, cause), b'\n')
+    pages::put_entry(page, at, table, wording(source, reason), b'\n')
 }
 
 // Whether the line names one of a text: words have no lines.
-fn has_lines(whom: Whom) -> bool
-    ensures { result ≡ ltb (whom_number whom) 4 }
+fn has_lines(source: usize) -> bool
+    ensures { result ≡ ltb source 4 }
 {
-    !matches!(whom, Whom::Words | Whom::ClaimWords)
+    source < WORDS
 }
 
-// The one line of what cannot be read: the number of its first bad line, where there are lines, and the cause.
-pub fn put_unread(page: &mut [u8], at: usize, whom: Whom, unread: Unread) -> usize
+// The one line of what cannot be read: the number of its first bad line, where there are lines, and the reason, by their numbers.
+pub fn put_unread(page: &mut [u8], at: usize, source: usize, bad: usize, reason: usize) -> usize
+    ensures put { Put page.old at (unread_line source bad reason) page.new result }
+    ensures reason_len_bound { length (unread_line source bad reason) ≤ UNREAD-LINE }
+{
+    let at = put_prefix(page, at, source);
+    let at = pages::put(page, at, b"UNREAD ");
+    if !has_lines(source) {
+        return put_reason(page, at, source, reason);
+    }
+    let at = put_text_line(page, at, bad);
+    put_reason(page, at, source, reason)
+}
+
+// The same of what could not be read, and of whom.
+pub fn put_unread_of(page: &mut [u8], at: usize, whom: Whom, unread: Unread) -> usize
     ensures put { Put page.old at (unread_line (whom_number whom) unread.line (cause_number unread.cause)) page.new result }
     ensures unread_len_bound { length (unread_line (whom_number whom) unread.line (cause_number unread.cause)) ≤ UNREAD-LINE }
 {
-    let Unread { line, cause } = unread;
-    let at = put_prefix(page, at, whom);
-    let at = pages::put(page, at, b"UNREAD ");
-    if !has_lines(whom) {
-        return put_cause(page, at, whom, cause);
-    }
-    let at = put_text_line(page, at, line);
-    put_cause(page, at, whom, cause)
+    let reason = cause_number(unread.cause);
+    put_unread(page, at, whom_number(whom), unread.line, reason)
 }
 
-// The same on a page of its own: 95 bytes always serve.
-pub fn write_unread(page: &mut [u8], whom: Whom, unread: Unread) -> Option<usize>
+// The line by its numbers, on a page of its own: 95 bytes always serve.
+pub fn write_unread(page: &mut [u8], source: usize, bad: usize, reason: usize) -> Option<usize>
+    ensures page { Page page.old (unread_line source bad reason) page.new result }
+    ensures reason_len_bound { length (unread_line source bad reason) ≤ UNREAD-LINE }
+{
+    let end = put_unread(page, 0, source, bad, reason);
+    pages::finish(page.len(), end)
+}
+
+// The same of what could not be read, and of whom.
+pub fn write_unread_of(page: &mut [u8], whom: Whom, unread: Unread) -> Option<usize>
     ensures page { Page page.old (unread_line (whom_number whom) unread.line (cause_number unread.cause)) page.new result }
     ensures unread_len_bound { length (unread_line (whom_number whom) unread.line (cause_number unread.cause)) ≤ UNREAD-LINE }
 {
-    let end = put_unread(page, 0, whom, unread);
-    pages::finish(page.len(), end)
+    let reason = cause_number(unread.cause);
+    write_unread(page, whom_number(whom), unread.line, reason)
 }

@@ -5,12 +5,7 @@ use mathlib.Core.Bool.{Bool, true, false}
 use mathlib.Core.List.{List, [], ◌∷◌}
 use native.Mathlib.Omega.{arith}
 use lib.ListN.{length, take, drop, get_or, length-drop, drop_of_length-le}
-use lib.Seq.{drop-drop, take_all}
-use native.Mathlib.Decide.{dec_lt}
-use borrow.Author.Tests.{lt-ltb, le-ltb}
-use Rattle.std.specs.Prelude.{Option, position, not}
-use Rattle.std.specs.List.{prefix_len}
-use Rattle.std.specs.Option.{unwrap_or}
+use lib.Seq.{drop-drop}
 use Rattle.lists.proofs.Parts.{here}
 use Rattle.lists.proofs.Bools.{Known, is_true, is_false, known}
 use Rattle.text.specs.declared.words.Sort.TheVariants.{Blank, Letter}
@@ -46,16 +41,6 @@ module _ (f : ℕ → Bool) where
   unfolding run
   runs-out l i h = rw (drop_of_length-le l h)
 
-  run-prefix : (l : List ℕ) → length (run f l) ≡ prefix_len (λ x. not (not (f x))) l
-  unfolding run
-  run-prefix [] = refl
-  run-prefix (x ∷ xs) = pick (known (f x)) (run-prefix xs)
-    where
-      pick : Known (f x) → length (run f xs) ≡ prefix_len (λ y. not (not (f y))) xs
-          → length (run f (x ∷ xs)) ≡ prefix_len (λ y. not (not (f y))) (x ∷ xs)
-      pick (is_true e) r = rw (run-yes x xs e, e) (omega arith)
-      pick (is_false e) r = rw (run-no x xs e, e)
-
   -- a run and what is behind it, cut off by its length
   pub run-taken : (l : List ℕ) → take (length (run f l)) l ≡ run f l
   unfolding run
@@ -83,22 +68,6 @@ module _ (f : ℕ → Bool) where
       pick : Known (f x) → length (run f xs) ≤ length xs → length (run f (x ∷ xs)) ≤ length (x ∷ xs)
       pick (is_true e) r = rw (run-yes x xs e) (omega arith)
       pick (is_false e) r = rw (run-no x xs e) (omega arith)
-
-  -- a run ends at the first byte that fails the test
-  ends-at : (l : List ℕ) → unwrap_or (position (λ x. not (f x)) l) (length l) ≡ length (run f l)
-  ends-at l =
-      let n = prefix_len (λ x. not (not (f x))) l in
-      let e = run-prefix l in
-      elim (dec_lt n (length l)) [
-        | yes h ↦ rw (lt-ltb n (length l) h) (sym e)
-        | no h ↦ rw (le-ltb n (length l) (omega arith)) (omega (arith, e, run_short l))
-      ]
-
-  pub run-found : (l : List ℕ) (p : ℕ) (r : Option ℕ) → p ≤ length l → r ≡ position (λ x. not (f x)) (take (length l - p) (drop p l))
-      → unwrap_or r (length (take (length l - p) (drop p l))) ≡ length (run f (drop p l))
-  run-found l p r h e =
-      let t : take (length l - p) (drop p l) ≡ drop p l = take_all (length l - p) (drop p l) (omega (arith, length-drop p l)) in
-      rw (e, t) (ends-at (drop p l))
 
   -- the same of a run between two places
   module _ (l : List ℕ) (p q : ℕ) (h : p ≤ length l) (e : q ≡ p + length (run f (drop p l))) where

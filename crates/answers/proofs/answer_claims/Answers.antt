@@ -1,7 +1,6 @@
 -- `answers::answer_claims` meets its contract. Assumes nothing.
 use mathlib.Core.Path.{sym, ◌∙◌}
 use lib.Seq.{length-take-le}
-use Rattle.std.proofs.lemmas.Result.{err_from_is_err_and}
 use Rattle.outcomes.specs.Lent.{lent}
 use Rattle.answers.proofs.Calls.{tested, long, short-refused, rows-accepted, rows-refused, exact, judged}
 use Rattle.answers.proofs.answer_claims.Goals as goal
@@ -11,11 +10,10 @@ returns-then-short c =
     let P = short-refused _ _ _ (tested _ _ _ _ _ _ (sym c.short.ensures ∙ c.if-short.true)) in
     rw c.at.ensures (record { determined = P.0; demand2 = P.1.0; demand3 = P.1.1.0; contradicted = P.1.1.1.0; fitting = P.1.1.1.1 })
 
-pub returns-in_err-n : goal.returns-in_err-n
-returns-in_err-n c =
-    let e = err_from_is_err_and c.from_residual.result c.from_residual.ensures.1 in
-    let P = rows-refused _ _ _ (tested _ _ _ _ _ _ (sym c.short.ensures ∙ c.if-short.false)) (sym c.in_err-n.ensures) in
-    rw (e.1, e.2) (record { determined = P.0; demand2 = P.1.0; demand3 = P.1.1.0; contradicted = P.1.1.1.0; fitting = P.1.1.1.1 })
+pub returns-in-Err : goal.returns-in-Err
+returns-in-Err c =
+    let P = rows-refused _ _ _ (tested _ _ _ _ _ _ (sym c.short.ensures ∙ c.if-short.false)) (sym c.in-Err.ensures) in
+    record { determined = P.0; demand2 = P.1.0; demand3 = P.1.1.0; contradicted = P.1.1.1.0; fitting = P.1.1.1.1 }
 
 pub slice_bounds-judge_in-end-2 : goal.slice_bounds-judge_in-end-2
 slice_bounds-judge_in-end-2 c =
@@ -39,12 +37,12 @@ slice_bounds-judge_in-end-8 c =
 
 pub judge_in-requires : goal.judge_in-requires
 judge_in-requires c =
-    let R = rows-accepted _ _ (sym c.in_ok-n.ensures) in
+    let R = rows-accepted _ _ (sym c.in-Ok.ensures) in
     exact _ _ _ (tested _ _ _ _ _ _ (sym c.short.ensures ∙ c.if-short.false)) R.0 R.1
 
 pub returns : goal.returns
 returns c =
-    let R = rows-accepted _ _ (sym c.in_ok-n.ensures) in
+    let R = rows-accepted _ _ (sym c.in-Ok.ensures) in
     let J = c.judge_in in
     let P = judged _ _ _ (tested _ _ _ _ _ _ (sym c.short.ensures ∙ c.if-short.false)) R.0 R.1 J.result (lent J.new.parens J.new.marks J.new.shadows J.new.places J.new.answers) J.ensures in
     record { determined = P.0; demand2 = P.1.0; demand3 = P.1.1.0; contradicted = P.1.1.1.0; fitting = P.1.1.1.1 }

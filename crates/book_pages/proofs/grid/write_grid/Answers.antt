@@ -7,6 +7,7 @@ use lib.Seq.{length-take-le}
 use Rattle.sentences.proofs.Tellings.{told, took-bytes, page-took, page-untook, put-page}
 use Rattle.book_pages.specs.GridText.{grid_text}
 use lib.Dec.{lit≤}
+use borrow.Author.Rules.{rules}
 use Rattle.book_pages.proofs.grid.write_grid.Goals as goal
 
 pub slice_bounds-read_source-end : goal.slice_bounds-read_source-end
@@ -21,14 +22,11 @@ slice_bounds-book-end c = (took-bytes _ _ c.in-Ok.is c.read_source-read.ensures)
 pub slice_bounds-put_grid-end : goal.slice_bounds-put_grid-end
 slice_bounds-put_grid-end c = sym (length-take-le _ _ (took-bytes _ _ c.in-Ok.is c.read_source-read.ensures).0)
 
-pub shape_of-page-in-Err : goal.shape_of-page-in-Err
-shape_of-page-in-Err c = c.write_unread.auto.page
-
 pub returns-in-Err : goal.returns-in-Err
 unfolding grid_text
 returns-in-Err c =
     told (λ a b. record { page = a; source_len_bound = b })
-    (page-untook _ _ _ c.write_unread.result _ _ _ _ _ (lit≤ tt) c.in-Err.is c.read_source-read.ensures (c.write_unread.ensures.page, c.write_unread.ensures.unread_len_bound))
+    (page-untook _ _ _ _ _ _ _ _ _ (lit≤ tt) c.in-Err.is c.read_source-read.ensures (search rules))
 
 pub shape_of-page-in-Ok : goal.shape_of-page-in-Ok
 shape_of-page-in-Ok c = c.put_grid-end.auto.page

@@ -8,7 +8,7 @@ pub returns-in-Err : goal.returns-in-Err
 unfolding list_text
 returns-in-Err c =
     told (λ a b. record { page = a; words_len_bound = b })
-    (page-wrong _ _ _ c.write_unread.result _ _ _ c.read_words-said.ensures (omega arith) c.in-Err.is (c.write_unread.ensures.page, c.write_unread.ensures.unread_len_bound))
+    (page-wrong _ _ _ c.write_unread_of.result _ _ _ c.read_words-said.ensures (omega arith) c.in-Err.is (c.write_unread_of.ensures.page, c.write_unread_of.ensures.unread_len_bound))
 
 pub returns-in-Ok : goal.returns-in-Ok
 unfolding list_text

@@ -23,12 +23,12 @@ pub put_session-end-requires : goal.put_session-end-requires
 put_session-end-requires c = c.requires
 
 pub shape_of-page-in-Err : goal.shape_of-page-in-Err
-shape_of-page-in-Err c = c.write_unread.auto.page
+shape_of-page-in-Err c = c.write_unread_of.auto.page
 
 pub returns-in-Err : goal.returns-in-Err
 returns-in-Err c =
     told (λ a b. record { page = a; source_len_bound = b })
-    (page-untook _ _ _ c.write_unread.result _ _ _ _ _ (omega arith) c.in-Err.is c.read_source-read.ensures (c.write_unread.ensures.page, c.write_unread.ensures.unread_len_bound))
+    (page-untook _ _ _ c.write_unread_of.result _ _ _ _ _ (omega arith) c.in-Err.is c.read_source-read.ensures (c.write_unread_of.ensures.page, c.write_unread_of.ensures.unread_len_bound))
 
 pub shape_of-page-in-Ok : goal.shape_of-page-in-Ok
 shape_of-page-in-Ok c = c.put_session-end.auto.page

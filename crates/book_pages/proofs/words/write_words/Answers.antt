@@ -1,4 +1,5 @@
 -- `book_pages::write_words` meets its contract. Assumes nothing.
+use borrow.Author.Rules.{rules}
 use native.Mathlib.Omega.{arith}
 use Rattle.sentences.proofs.Tellings.{told, put-page, page-entry, page-wrong}
 use Rattle.book_pages.specs.WordsText.{words_text}
@@ -9,7 +10,7 @@ pub returns-in-Err : goal.returns-in-Err
 unfolding words_text
 returns-in-Err c =
     told (λ a b. record { page = a; words_len_bound = b })
-    (page-wrong _ _ _ c.write_unread.result _ _ _ c.read_words-said.ensures (omega arith) c.in-Err.is (rw c.speaker.ensures at c.write_unread.ensures.page, rw c.speaker.ensures at c.write_unread.ensures.unread_len_bound))
+    (page-wrong _ _ _ _ _ _ _ c.read_words-said.ensures (omega arith) c.in-Err.is (search rules))
 
 pub returns-in-Ok : goal.returns-in-Ok
 unfolding words_text

@@ -12,7 +12,7 @@ pub slice_bounds-verify-end : goal.slice_bounds-verify-end
 slice_bounds-verify-end c = sym (length-take-le _ _ ((took-bytes _ _ c.in-Ok.is c.read_source-read.ensures).0))
 
 pub returns-in-Err : goal.returns-in-Err
-returns-in-Err c = verdict-unread _ _ _ _ _ (took-unread _ _ c.in-Err.is c.read_source-read.ensures) (c.write_unread.ensures.page, c.write_unread.ensures.unread_len_bound)
+returns-in-Err c = verdict-unread _ _ _ _ _ (took-unread _ _ c.in-Err.is c.read_source-read.ensures) (c.write_unread_of.ensures.page, c.write_unread_of.ensures.unread_len_bound)
 
 pub returns-in-Ok : goal.returns-in-Ok
 returns-in-Ok c =

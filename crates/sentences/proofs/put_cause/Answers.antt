@@ -1,7 +1,0 @@
--- `sentences::put_cause` meets its contract: the code's table is the definition's. Assumes nothing.
-use Rattle.sentences.specs.Unread.{reason_of}
-use Rattle.sentences.proofs.put_cause.Goals as goal
-
-pub returns : goal.returns
-unfolding reason_of
-returns c = rw (← c.wording.ensures) c.put_entry.ensures
